@@ -1,0 +1,87 @@
+// The types that the code and the rules share: keys, calls and answers. Nothing here runs.
+
+// Names one lane of a channel: its slot, and which of that slot's lanes, one after the other.
+pub struct LaneKey {
+    pub slot: u64,
+    pub generation: u64,
+}
+
+// Names one lane among all channels.
+pub struct LaneId {
+    pub channel: u64,
+    pub key: LaneKey,
+}
+
+// What an opening asks for; the two lent stores stand beside it.
+pub struct Opening {
+    pub capacity: u64,
+    pub slots: u64,
+    pub channel: u64,
+    // Where every ring's cursors start, and the generation of a slot's first lane.
+    pub cursor: u64,
+    pub generation: u64,
+}
+
+// The calls are in three enums, so that a rule about one kind names only that kind's cases.
+pub enum SenderCall {
+    RegisterSender { most: u64 },
+    TrySend { key: LaneKey, item: u64 },
+    TrySendUnsignaled { key: LaneKey, item: u64 },
+    DropSender { key: LaneKey },
+}
+
+pub enum ReceiveCall {
+    TryRecv,
+    TryRecvFair,
+    TryRecvFrom { id: LaneId },
+    // `room` is the length of the lent output.
+    TryRecvBatchInto { limit: u64, room: u64 },
+}
+
+pub enum ControlCall {
+    Pause { id: LaneId },
+    Resume { id: LaneId },
+    CloseLane { id: LaneId },
+    ReleaseConsumed,
+    PollAllLanes,
+    CloseReceiver,
+    CountHeld,
+}
+
+pub enum Call {
+    Sender(SenderCall),
+    Receive(ReceiveCall),
+    Control(ControlCall),
+}
+
+// Document 01's refusals, in the order of its table.
+pub enum Refusal {
+    CapacityOutOfRange,
+    SlotsOutOfRange,
+    RingStoreShort,
+    TableStoreShort,
+    StoreNotInOrder,
+    ReceiverClosed,
+    AtCapacity,
+    NoFreeSlot,
+    OlderSenderLives,
+    NoSuchSender,
+    LaneClosed,
+    Full,
+    OutputShort,
+    NoSuchLane,
+    Malformed,
+}
+
+// What a call answers. The items of a batch are the first `count` words of its output.
+pub enum Answer {
+    Done,
+    Registered { key: LaneKey },
+    Taken { woken: bool },
+    Item { item: u64, lane: LaneId },
+    Items { count: u64 },
+    Empty,
+    Disconnected,
+    Held { count: u64 },
+    Refused { why: Refusal },
+}
