@@ -1,0 +1,268 @@
+-- What each method of a lane does to its record. The window's items are charged to the counts before they are popped.
+-- Assumes nothing.
+use mathlib.Core.Bool.{Bool, true, false, cond, _||_}
+use mathlib.Core.List.{List}
+use Prim.Native.Nat.{ℕ, _+_, _-_, _≤_, min}
+use lib.Dec.{eqb}
+use Rattle.model.specs.declared.LaneKey.{LaneKey}
+use Rattle.lane.specs.Lists.{written}
+use Rattle.lane.specs.Cursor.{after, distance}
+use Rattle.lane.specs.Ring.{itemAt, items, push}
+use Rattle.lane.specs.Release.{releaseBatch}
+use Rattle.lane.specs.declared.ring.Ring.{Ring}
+use Rattle.lane.specs.declared.ring.Push.{Push}
+use Rattle.lane.specs.declared.ring.Push.the-variants.{Pushed, Full}
+use Rattle.lane.specs.declared.consumer.Sent.{Sent}
+use Rattle.lane.specs.declared.consumer.Sent.the-variants as Sent
+use Rattle.lane.specs.declared.consumer.Moved.{Moved}
+use Rattle.lane.specs.declared.lane.Lane.{Lane}
+use Rattle.lane.specs.declared.lane.Popped.{Popped}
+use Rattle.lane.specs.declared.lane.Popped.the-variants as Popped
+use Rattle.lane.specs.declared.lane.Released.{Released}
+use Rattle.lane.specs.declared.lane.EmptyLane.{EmptyLane}
+use Rattle.lane.specs.declared.lane.Refill.{Refill}
+use Rattle.lane.specs.declared.lane.Refill.the-variants as Refill
+use Rattle.lane.specs.declared.lane.LanePoll.{LanePoll}
+use Rattle.lane.specs.declared.lane.LanePoll.the-variants as LanePoll
+use Rattle.lane.specs.declared.lane.Targeted.{Targeted}
+use Rattle.lane.specs.declared.lane.BurstEnd.{BurstEnd}
+use Rattle.lane.specs.declared.lane.Reloaded.{Reloaded}
+
+-- a lane with other cursors
+abbrev pub withCursors : ℕ → ℕ → ℕ → ℕ → Lane → Lane
+withCursors tail released head known l =
+    record {
+      key = l .key;
+      tail = tail;
+      released = released;
+      head = head;
+      known = known;
+      cached = l .cached;
+      unreleased = l .unreleased;
+      burst = l .burst;
+      window = l .window;
+      pending = l .pending;
+      queued = l .queued;
+      paused = l .paused;
+      registered = l .registered;
+      living = l .living;
+    }
+
+-- a lane with other counts
+abbrev pub withCounts : ℕ → ℕ → ℕ → ℕ → Lane → Lane
+withCounts cached unreleased burst window l =
+    record {
+      key = l .key;
+      tail = l .tail;
+      released = l .released;
+      head = l .head;
+      known = l .known;
+      cached = cached;
+      unreleased = unreleased;
+      burst = burst;
+      window = window;
+      pending = l .pending;
+      queued = l .queued;
+      paused = l .paused;
+      registered = l .registered;
+      living = l .living;
+    }
+
+-- "Every ring registered, in a freed slot too, starts with its cursors at the first cursor";
+-- "A newly registered lane, in a freed slot too, is idle, unpaused and unqueued, with burst 0"
+abbrev pub newLane : LaneKey → ℕ → Lane
+newLane key cursor =
+    record {
+      key = key;
+      tail = cursor;
+      released = cursor;
+      head = cursor;
+      known = cursor;
+      cached = 0;
+      unreleased = 0;
+      burst = 0;
+      window = 0;
+      pending = 0;
+      queued = 0;
+      paused = 0;
+      registered = 1;
+      living = 1;
+    }
+
+-- THE RING'S TWO ENDS
+
+-- a send: "push refuses exactly if .."; else the item is stored and published
+unfoldable pub sent : Lane → Push × List ℕ → Sent × List ℕ
+sent l (Pushed cursor, store) = (Sent.Taken (withCursors cursor (l .released) (l .head) (l .known) l), store)
+sent l (Full, store) = (Sent.Full l, store)
+
+unfoldable pub pushAndFlush : Ring → List ℕ → ℕ → Lane → Sent × List ℕ
+pushAndFlush ring store item l = sent l (push ring store (l .tail) (l .released) item)
+
+-- what was published since the last look is counted, and known
+abbrev pub prefetch : Lane → Lane
+prefetch l = withCounts (distance (l .tail) (l .known)) (l .unreleased) (l .burst) (l .window) (withCursors (l .tail) (l .released) (l .head) (l .tail) l)
+
+unfoldable pub reload : Lane → Lane
+reload l = cond (eqb (l .cached) 0) (prefetch l) l
+
+-- credit goes back: the released head is the head
+abbrev pub released : Lane → Lane
+released l = withCounts (l .cached) 0 (l .burst) (l .window) (withCursors (l .tail) (l .head) (l .head) (l .known) l)
+
+-- the head n items further
+abbrev pub headOn : ℕ → Lane → Lane
+headOn n l = withCursors (l .tail) (l .released) (after (l .head) n) (l .known) l
+
+-- up to `limit` of the items known of go to the output
+unfoldable pub movedInto : Ring → List ℕ → List ℕ → ℕ → ℕ → Lane → Moved × List ℕ
+movedInto ring store out at limit l =
+    let n = min (distance (l .known) (l .head)) limit in
+    (record { lane = headOn n l; moved = n }, written out at (items ring store (l .head) n))
+
+-- THE WINDOW
+
+-- what is left of the window goes back to the counts
+abbrev pub closeFast : Lane → Lane
+closeFast l = withCounts (l .cached + l .window) (l .unreleased - l .window) (l .burst - l .window) 0 l
+
+-- one short of the release batch and of the burst limit, and within the budget
+unfoldable pub windowFor : ℕ → ℕ → Lane → ℕ
+windowFor C budget l = min (min (min (l .cached) (releaseBatch C - (l .unreleased + 1))) (64 - (l .burst + 1))) budget
+
+abbrev pub openWindow : ℕ → Lane → Lane
+openWindow n l = withCounts (l .cached - n) (l .unreleased + n) (l .burst + n) n l
+
+unfoldable pub openFor : ℕ → ℕ → Lane → Lane
+openFor C budget l = openWindow (windowFor C budget l) l
+
+unfoldable pub grantFast : ℕ → ℕ → Lane → Lane
+grantFast C budget l = openFor C budget (reload (closeFast l))
+
+abbrev pub windowPop : Lane → Lane
+windowPop l = withCounts (l .cached) (l .unreleased) (l .burst) (l .window - 1) (headOn 1 l)
+
+-- "first the open fast window": its next item, with no other count changed
+unfoldable pub popFast : Ring → List ℕ → Lane → Popped
+popFast ring store l = cond (eqb (l .window) 0) (Popped.Nothing l) (Popped.Item (itemAt ring store (l .head)) (windowPop l))
+
+-- CREDIT
+
+-- "Credit goes back when the unreleased count reaches the release batch"
+unfoldable pub releaseAtBatch : ℕ → Lane → Released
+releaseAtBatch C l =
+    cond (eqb (l .unreleased) (releaseBatch C))
+    (record { lane = released l; released = true })
+    (record { lane = l; released = false })
+
+-- "when the lane is found empty; on `pause`; on `release_consumed`"
+unfoldable pub releaseAny : Lane → Released
+releaseAny l =
+    cond (eqb (l .unreleased) 0)
+    (record { lane = l; released = false })
+    (record { lane = released l; released = true })
+
+unfoldable pub releasePending : Lane → Released
+releasePending l = releaseAny (closeFast l)
+
+-- A LANE FOUND EMPTY
+
+-- "its signal goes back to idle only when the lane is found empty"; burst 0, out of the queue
+abbrev pub settled : Lane → Lane
+settled l =
+    record {
+      key = l .key;
+      tail = l .tail;
+      released = l .released;
+      head = l .head;
+      known = l .known;
+      cached = l .cached;
+      unreleased = l .unreleased;
+      burst = 0;
+      window = l .window;
+      pending = 0;
+      queued = 0;
+      paused = l .paused;
+      registered = l .registered;
+      living = l .living;
+    }
+
+unfoldable pub emptied : Released → EmptyLane
+emptied r = record { lane = settled (r .lane); disconnected = eqb (r .lane .living) 0; released = r .released }
+
+unfoldable pub settleEmpty : Lane → EmptyLane
+settleEmpty l = emptied (releasePending l)
+
+unfoldable pub readyOrIdle : Lane → Refill
+readyOrIdle l = cond (eqb (l .cached) 0) (Refill.Idle (settleEmpty l)) (Refill.Ready l)
+
+unfoldable pub refill : Lane → Refill
+refill l = readyOrIdle (reload (closeFast l))
+
+unfoldable pub reloadIsEmpty : Lane → Reloaded
+reloadIsEmpty l = record { lane = reload (closeFast l); empty = eqb (reload (closeFast l) .cached) 0 }
+
+-- ITEMS WITH FULL COUNTING
+
+abbrev pub charged : ℕ → Lane → Lane
+charged n l = withCounts (l .cached - n) (l .unreleased + n) (l .burst) (l .window) l
+
+abbrev pub addBurst : ℕ → Lane → Lane
+addBurst n l = withCounts (l .cached) (l .unreleased) (l .burst + n) (l .window) l
+
+abbrev pub endBurst : Bool → Lane → Lane
+endBurst ends l = cond ends (withCounts (l .cached) (l .unreleased) 0 (l .window) l) l
+
+-- "Targeted: counts in neither burst nor budget"
+unfoldable pub targeted : ℕ → Released → Targeted
+targeted item r = record { item = item; lane = r .lane; released = r .released }
+
+unfoldable pub popTargeted : Ring → List ℕ → Lane → Targeted
+popTargeted ring store l = targeted (itemAt ring store (l .head)) (releaseAtBatch (ring .capacity) (charged 1 (headOn 1 l)))
+
+-- the turn ends with every item of a fair receive, else at a burst of 64
+unfoldable pub polled : Bool → Targeted → LanePoll
+polled fair t =
+    let l = addBurst 1 (t .lane) in
+    let rotate = fair || eqb (l .burst) 64 in
+    LanePoll.Item (t .item) rotate (t .released) (endBurst rotate l)
+
+unfoldable pub pollItem : Ring → List ℕ → Bool → Lane → LanePoll
+pollItem ring store fair l = polled fair (popTargeted ring store l)
+
+unfoldable pub pollRefilled : Ring → List ℕ → Bool → Refill → LanePoll
+pollRefilled ring store fair (Refill.Ready l) = pollItem ring store fair l
+pollRefilled ring store fair (Refill.Idle found) = LanePoll.Idle found
+
+unfoldable pub poll : Ring → List ℕ → Bool → Lane → LanePoll
+poll ring store fair l = pollRefilled ring store fair (refill l)
+
+-- "A lone lane takes `pop_fair`": through the window that is open, or one opened at burst 0
+unfoldable pub fairWindow : ℕ → ℕ → Lane → Lane
+fairWindow C budget l = cond (eqb (l .window) 0) (grantFast C budget (endBurst true l)) l
+
+abbrev pub burstOfWindow : Lane → Lane
+burstOfWindow l = withCounts (l .cached) (l .unreleased) (l .window) (l .window) l
+
+unfoldable pub fairly : Popped → Popped
+fairly (Popped.Item item l) = Popped.Item item (burstOfWindow l)
+fairly (Popped.Nothing l) = Popped.Nothing l
+
+unfoldable pub popFair : Ring → List ℕ → ℕ → Lane → Popped
+popFair ring store budget l = fairly (popFast ring store (fairWindow (ring .capacity) budget l))
+
+-- CHUNKS
+
+-- "A lane that reaches a burst of 64 goes to the back."
+unfoldable pub endFullBurst : Lane → BurstEnd
+endFullBurst l = record { lane = endBurst (eqb (l .burst) 64) l; ended = eqb (l .burst) 64 }
+
+-- the most items before credit is due or the turn ends
+unfoldable pub chunkLimit : ℕ → Lane → ℕ
+chunkLimit C l = min (min (l .cached) (64 - l .burst)) (releaseBatch C - l .unreleased)
+
+unfoldable pub chunkMoved : ℕ → ℕ → Moved × List ℕ → Lane × List ℕ
+chunkMoved C take m = (releaseAtBatch C (addBurst take (charged take (m .0 .lane))) .lane, m .1)
+
+unfoldable pub moveChunk : Ring → List ℕ → List ℕ → ℕ → ℕ → Lane → Lane × List ℕ
+moveChunk ring store out at take l = chunkMoved (ring .capacity) take (movedInto ring store out at take l)

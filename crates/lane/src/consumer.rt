@@ -1,0 +1,86 @@
+// The two ends of a lane's ring: yring/src/consumer.rs, and the producer of src/ring.rs.
+ghost use mathlib.Core.Path.{_≡_};
+ghost use Prim.Native.Nat.{_+_, _≤_, _<_, min};
+ghost use lib.ListN.{length};
+ghost use Rattle.lane.specs.Cursor.{distance};
+ghost use Rattle.lane.specs.Ring.{Within};
+ghost use Rattle.lane.specs.Lane.{pushAndFlush, prefetch, reload, released, movedInto};
+use crate::lane::Lane;
+use crate::num;
+use crate::ring;
+use crate::ring::Push;
+use crate::ring::Ring;
+
+pub enum Sent {
+    Taken { lane: Lane },
+    Full { lane: Lane },
+}
+
+pub struct Moved {
+    pub lane: Lane,
+    pub moved: u64,
+}
+
+impl Lane {
+    // The sender's end: stores one item and publishes it.
+    pub fn push_and_flush(mut self, ring: Ring, store: &mut [u64], item: u64) -> Sent
+        requires { ⌜ Within ring (length (now store)) ⌝ }
+        ensures { λ r. ⌜ (r, now (store .exit)) ≡ pushAndFlush ring (now (store .entry)) item self ⌝ }
+    {
+        match ring.push(store, self.tail, self.released, item) {
+            Push::Full => Sent::Full { lane: self },
+            Push::Pushed { cursor } => {
+                self.tail = cursor;
+                Sent::Taken { lane: self }
+            }
+        }
+    }
+
+    // Counts what was published since the last look.
+    pub fn prefetch(mut self) -> Lane
+        ensures { λ r. ⌜ r ≡ prefetch self ⌝ }
+    {
+        self.cached = ring::distance(self.tail, self.known);
+        self.known = self.tail;
+        self
+    }
+
+    // Looks again once the items known of are used up.
+    pub fn reload(self) -> Lane
+        ensures { λ r. ⌜ r ≡ reload self ⌝ }
+    {
+        if self.cached == 0 {
+            return self.prefetch();
+        }
+        self
+    }
+
+    // Gives the places of all popped items back.
+    pub fn release(mut self) -> Lane
+        ensures { λ r. ⌜ r ≡ released self ⌝ }
+    {
+        self.released = self.head;
+        self.unreleased = 0;
+        self
+    }
+
+    // Moves up to `limit` of the items known of to the output.
+    pub fn pop_into(
+        mut self,
+        ring: Ring,
+        store: &[u64],
+        out: &mut [u64],
+        at: usize,
+        limit: u64,
+    ) -> Moved
+        requires { ⌜ Within ring (length (now store)) × (distance (self .known) (self .head) ≤ ring .capacity) × (at + min (distance (self .known) (self .head)) limit ≤ length (now out)) ⌝ }
+        ensures { λ r. ⌜ (r, now (out .exit)) ≡ movedInto ring (now (store .entry)) (now (out .entry)) at limit self ⌝ }
+    {
+        let count = num::least(ring::distance(self.known, self.head), limit);
+        self.head = ring.pop_into(store, self.head, count, out, at);
+        Moved {
+            lane: self,
+            moved: count,
+        }
+    }
+}

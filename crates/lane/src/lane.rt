@@ -1,0 +1,429 @@
+// A lane: one sender's cursors and the receiver's counts. Port of src/mpsc/receiver/lane.rs.
+// A method takes the lane and hands the next one back.
+ghost use mathlib.Core.Path.{_≡_};
+ghost use Prim.Native.Nat.{_+_, _-_, _≤_, _<_};
+ghost use lib.ListN.{length};
+ghost use Rattle.lane.specs.Cursor.{Capacity};
+ghost use Rattle.lane.specs.Ring.{Within};
+ghost use Rattle.lane.specs.Order.{InOrder, Filled, Refundable};
+ghost use Rattle.lane.specs.Lane.{
+  newLane,
+  closeFast,
+  windowFor,
+  openWindow,
+  grantFast,
+  popFast,
+  charged,
+  addBurst,
+  endBurst,
+  releaseAtBatch,
+  pollItem,
+  poll,
+  popFair,
+  fairWindow,
+  burstOfWindow,
+  popTargeted,
+  endFullBurst,
+  reloadIsEmpty,
+  releasePending,
+  refill,
+  chunkLimit,
+  moveChunk,
+  settleEmpty,
+};
+use crate::num;
+use crate::release::release_batch;
+use crate::ring;
+use crate::ring::Ring;
+use model::LaneKey;
+
+// Flags are words that hold 0 or 1, so that a record loaded and stored is the same words.
+pub struct Lane {
+    pub key: LaneKey,
+    // The sender's cursors: where it stores next, and the head published to it.
+    pub tail: u64,
+    pub released: u64,
+    // The receiver's: where it reads next, and the tail that it knows of (`cached_tail`).
+    pub head: u64,
+    pub known: u64,
+    // Items known of and not in the window (`cached_available`).
+    pub cached: u64,
+    // Items popped, or in the window, whose places have not gone back.
+    pub unreleased: u64,
+    // Items of this turn at the front, those in the window included.
+    pub burst: u64,
+    // Items that plain receives may still pop with no more counting (`fast_left`).
+    pub window: u64,
+    pub pending: u64,
+    pub queued: u64,
+    pub paused: u64,
+    pub registered: u64,
+    pub living: u64,
+}
+
+pub enum Popped {
+    Item { item: u64, lane: Lane },
+    Nothing { lane: Lane },
+}
+
+pub struct Released {
+    pub lane: Lane,
+    pub released: bool,
+}
+
+// A lane that was found empty. The Rust's `EmptyLane::Keep` never occurs: see `keep-never`.
+pub struct EmptyLane {
+    pub lane: Lane,
+    pub disconnected: bool,
+    pub released: bool,
+}
+
+pub enum Refill {
+    Ready { lane: Lane },
+    Idle { found: EmptyLane },
+}
+
+pub enum LanePoll {
+    Item {
+        item: u64,
+        rotate: bool,
+        released: bool,
+        lane: Lane,
+    },
+    Idle {
+        found: EmptyLane,
+    },
+}
+
+pub struct Targeted {
+    pub item: u64,
+    pub lane: Lane,
+    pub released: bool,
+}
+
+pub struct BurstEnd {
+    pub lane: Lane,
+    pub ended: bool,
+}
+
+pub struct Reloaded {
+    pub lane: Lane,
+    pub empty: bool,
+}
+
+impl Lane {
+    // The most items of one turn at the front.
+    pub const PREFETCH_LIMIT: u64 = 64;
+
+    // A lane newly registered: idle, unpaused, unqueued, all of its cursors at the first one.
+    pub fn new(key: LaneKey, cursor: u64) -> Self
+        ensures { λ r. ⌜ r ≡ newLane key cursor ⌝ }
+    {
+        Lane {
+            key: key,
+            tail: cursor,
+            released: cursor,
+            head: cursor,
+            known: cursor,
+            cached: 0,
+            unreleased: 0,
+            burst: 0,
+            window: 0,
+            pending: 0,
+            queued: 0,
+            paused: 0,
+            registered: 1,
+            living: 1,
+        }
+    }
+
+    // What a window may hold: one short of the release batch and of the burst limit, so that the
+    // item that completes either is counted in full.
+    fn window_for(self, capacity: u64, budget: u64) -> u64
+        requires { ⌜ Capacity capacity × InOrder capacity self ⌝ }
+        ensures { λ r. ⌜ r ≡ windowFor capacity budget self ⌝ }
+    {
+        let credit = num::saturating_sub(release_batch(capacity), self.unreleased + 1);
+        let turn = num::saturating_sub(Lane::PREFETCH_LIMIT, self.burst + 1);
+        num::least(num::least(num::least(self.cached, credit), turn), budget)
+    }
+
+    // A window of `n` items, charged to the counts at once.
+    fn open_window(mut self, n: u64) -> Lane
+        requires { ⌜ (n ≤ self .cached) × (self .unreleased + n ≤ 131072) × (self .burst + n ≤ 131072) ⌝ }
+        ensures { λ r. ⌜ r ≡ openWindow n self ⌝ }
+    {
+        self.cached -= n;
+        self.unreleased += n;
+        self.burst += n;
+        self.window = n;
+        self
+    }
+
+    // Opens a window of at most `budget` items.
+    pub fn grant_fast(self, capacity: u64, budget: u64) -> Lane
+        requires { ⌜ Capacity capacity × InOrder capacity self ⌝ }
+        ensures { λ r. ⌜ r ≡ grantFast capacity budget self ⌝ }
+    {
+        let lane = self.close_fast().reload();
+        let n = lane.window_for(capacity, budget);
+        lane.open_window(n)
+    }
+
+    // Pops the next item of the window, if one is open.
+    pub fn pop_fast(mut self, ring: Ring, store: &[u64]) -> Popped
+        requires { ⌜ Within ring (length (now store)) ⌝ }
+        ensures { λ r. ⌜ r ≡ popFast ring (now (store .entry)) self ⌝ }
+    {
+        if self.window == 0 {
+            return Popped::Nothing { lane: self };
+        }
+        let item = ring.item_at(store, self.head);
+        self.head = ring::after(self.head, 1);
+        self.window -= 1;
+        Popped::Item {
+            item: item,
+            lane: self,
+        }
+    }
+
+    // Refunds what is left of the window to the counts.
+    pub fn close_fast(mut self) -> Lane
+        requires { ⌜ Refundable self ⌝ }
+        ensures { λ r. ⌜ r ≡ closeFast self ⌝ }
+    {
+        self.cached += self.window;
+        self.unreleased -= self.window;
+        self.burst -= self.window;
+        self.window = 0;
+        self
+    }
+
+    // `n` items leave the cached count for the unreleased one.
+    fn charge(mut self, n: u64) -> Lane
+        requires { ⌜ (n ≤ self .cached) × (self .unreleased + n ≤ 131072) ⌝ }
+        ensures { λ r. ⌜ r ≡ charged n self ⌝ }
+    {
+        self.cached -= n;
+        self.unreleased += n;
+        self
+    }
+
+    // `n` items more of this turn at the front.
+    fn add_burst(mut self, n: u64) -> Lane
+        requires { ⌜ self .burst + n ≤ 131072 ⌝ }
+        ensures { λ r. ⌜ r ≡ addBurst n self ⌝ }
+    {
+        self.burst += n;
+        self
+    }
+
+    // A turn at the front ends where `rotate` says so.
+    fn end_burst(mut self, rotate: bool) -> Lane
+        ensures { λ r. ⌜ r ≡ endBurst rotate self ⌝ }
+    {
+        if rotate {
+            self.burst = 0;
+        }
+        self
+    }
+
+    // Gives credit back where the unreleased count has reached the batch.
+    fn release_at_batch(self, capacity: u64) -> Released
+        requires { ⌜ Capacity capacity ⌝ }
+        ensures { λ r. ⌜ r ≡ releaseAtBatch capacity self ⌝ }
+    {
+        if self.unreleased == release_batch(capacity) {
+            return Released {
+                lane: self.release(),
+                released: true,
+            };
+        }
+        Released {
+            lane: self,
+            released: false,
+        }
+    }
+
+    // The next item of a lane that `refill` found ready, its turn at the front counted.
+    fn poll_item(self, ring: Ring, store: &[u64], fair: bool) -> LanePoll
+        requires { ⌜ Within ring (length (now store)) × Filled (ring .capacity) self ⌝ }
+        ensures { λ r. ⌜ r ≡ pollItem ring (now (store .entry)) fair self ⌝ }
+    {
+        let taken = self.pop_targeted(ring, store);
+        let lane = taken.lane.add_burst(1);
+        let rotate = fair | (lane.burst == Lane::PREFETCH_LIMIT);
+        LanePoll::Item {
+            item: taken.item,
+            rotate: rotate,
+            released: taken.released,
+            lane: lane.end_burst(rotate),
+        }
+    }
+
+    // Pops one item with full counting: credit at the release batch, and the end of the turn at
+    // the burst limit, or with every item where `fair`.
+    pub fn poll(self, ring: Ring, store: &[u64], fair: bool) -> LanePoll
+        requires { ⌜ Within ring (length (now store)) × InOrder (ring .capacity) self ⌝ }
+        ensures { λ r. ⌜ r ≡ poll ring (now (store .entry)) fair self ⌝ }
+    {
+        match self.refill() {
+            Refill::Idle { found } => LanePoll::Idle { found: found },
+            Refill::Ready { lane } => lane.poll_item(ring, store, fair),
+        }
+    }
+
+    // Pops an item for a fair receive from the only queued lane, through its window. A fair
+    // receive ends the burst, which then counts only what is left in the window.
+    pub fn pop_fair(self, ring: Ring, store: &[u64], budget: u64) -> Popped
+        requires { ⌜ Within ring (length (now store)) × InOrder (ring .capacity) self ⌝ }
+        ensures { λ r. ⌜ r ≡ popFair ring (now (store .entry)) budget self ⌝ }
+    {
+        match self.fair_window(ring.capacity, budget)
+            .pop_fast(ring, store) {
+            Popped::Nothing { lane } => Popped::Nothing { lane: lane },
+            Popped::Item { item, lane } => Popped::Item {
+                item: item,
+                lane: lane.burst_of_window(),
+            },
+        }
+    }
+
+    // The window of a fair receive: the one that is open, or one opened at burst 0.
+    fn fair_window(self, capacity: u64, budget: u64) -> Lane
+        requires { ⌜ Capacity capacity × InOrder capacity self ⌝ }
+        ensures { λ r. ⌜ r ≡ fairWindow capacity budget self ⌝ }
+    {
+        if self.window == 0 {
+            return self.end_burst(true).grant_fast(capacity, budget);
+        }
+        self
+    }
+
+    // The burst counts only what is left in the window.
+    fn burst_of_window(mut self) -> Lane
+        ensures { λ r. ⌜ r ≡ burstOfWindow self ⌝ }
+    {
+        self.burst = self.window;
+        self
+    }
+
+    // Pops the next item of a lane that `refill` found ready, and leaves the burst alone.
+    pub fn pop_targeted(mut self, ring: Ring, store: &[u64]) -> Targeted
+        requires { ⌜ Within ring (length (now store)) × Filled (ring .capacity) self ⌝ }
+        ensures { λ r. ⌜ r ≡ popTargeted ring (now (store .entry)) self ⌝ }
+    {
+        let item = ring.item_at(store, self.head);
+        self.head = ring::after(self.head, 1);
+        let done = self.charge(1).release_at_batch(ring.capacity);
+        let lane = done.lane;
+        Targeted {
+            item: item,
+            lane: lane,
+            released: done.released,
+        }
+    }
+
+    // Ends a burst that has reached the limit, and says whether it had.
+    pub fn end_full_burst(self) -> BurstEnd
+        ensures { λ r. ⌜ r ≡ endFullBurst self ⌝ }
+    {
+        let ended = self.burst == Lane::PREFETCH_LIMIT;
+        BurstEnd {
+            lane: self.end_burst(ended),
+            ended: ended,
+        }
+    }
+
+    // Looks again, and says whether the ring is empty.
+    pub fn reload_is_empty(self) -> Reloaded
+        requires { ⌜ Refundable self ⌝ }
+        ensures { λ r. ⌜ r ≡ reloadIsEmpty self ⌝ }
+    {
+        let lane = self.close_fast().reload();
+        Reloaded {
+            lane: lane,
+            empty: lane.cached == 0,
+        }
+    }
+
+    // Gives back the places of all popped items, and says whether there were any.
+    pub fn release_pending(self) -> Released
+        requires { ⌜ Refundable self ⌝ }
+        ensures { λ r. ⌜ r ≡ releasePending self ⌝ }
+    {
+        let lane = self.close_fast();
+        if lane.unreleased == 0 {
+            return Released {
+                lane: lane,
+                released: false,
+            };
+        }
+        Released {
+            lane: lane.release(),
+            released: true,
+        }
+    }
+
+    // Closes the window and looks again where nothing is cached: ready, or found empty and settled.
+    pub fn refill(self) -> Refill
+        requires { ⌜ Refundable self ⌝ }
+        ensures { λ r. ⌜ r ≡ refill self ⌝ }
+    {
+        let lane = self.close_fast().reload();
+        if lane.cached == 0 {
+            return Refill::Idle {
+                found: lane.settle_empty(),
+            };
+        }
+        Refill::Ready { lane: lane }
+    }
+
+    // The most items that one move may take before credit is due or the turn ends.
+    pub fn chunk_limit(self, capacity: u64) -> u64
+        requires { ⌜ Capacity capacity × InOrder capacity self ⌝ }
+        ensures { λ r. ⌜ r ≡ chunkLimit capacity self ⌝ }
+    {
+        num::least(
+            num::least(self.cached, Lane::PREFETCH_LIMIT - self.burst),
+            release_batch(capacity) - self.unreleased,
+        )
+    }
+
+    // Moves `take` items of a lane that `refill` found ready to the output, from place `at` on.
+    // Every item is admitted, so that as many are moved as were asked for.
+    pub fn move_chunk(
+        self,
+        ring: Ring,
+        store: &[u64],
+        out: &mut [u64],
+        at: usize,
+        take: u64,
+    ) -> Lane
+        requires { ⌜ Within ring (length (now store)) × Filled (ring .capacity) self × (take ≤ chunkLimit (ring .capacity) self) × (at + take ≤ length (now out)) ⌝ }
+        ensures { λ r. ⌜ (r, now (out .exit)) ≡ moveChunk ring (now (store .entry)) (now (out .entry)) at take self ⌝ }
+    {
+        let lane = self.pop_into(ring, store, out, at, take).lane;
+        lane.charge(take)
+            .add_burst(take)
+            .release_at_batch(ring.capacity)
+            .lane
+    }
+
+    // Settles a lane that was found empty: credit back, signal idle, burst 0, out of the queue.
+    pub fn settle_empty(self) -> EmptyLane
+        requires { ⌜ Refundable self ⌝ }
+        ensures { λ r. ⌜ r ≡ settleEmpty self ⌝ }
+    {
+        let done = self.release_pending();
+        let mut lane = done.lane;
+        lane.burst = 0;
+        lane.pending = 0;
+        lane.queued = 0;
+        EmptyLane {
+            lane: lane,
+            disconnected: lane.living == 0,
+            released: done.released,
+        }
+    }
+}

@@ -1,0 +1,128 @@
+// A ring of items in a lent store: yring/src/ring.rs, serially, with u64 cursors that wrap.
+ghost use mathlib.Core.Path.{_≡_};
+ghost use Prim.Native.Nat.{_+_, _*_, _^_, _≤_, _<_};
+ghost use lib.ListN.{length, set};
+ghost use Rattle.lane.specs.Lists.{tab, written};
+ghost use Rattle.lane.specs.Cursor.{after, distance, Capacity};
+ghost use Rattle.lane.specs.Ring.{Within, ringOf, place, itemAt, run, push, pop, popInto};
+
+// Where a lane's ring lies in the ring store.
+pub struct Ring {
+    pub base: u64,
+    pub capacity: u64,
+}
+
+pub enum Push {
+    Pushed { cursor: u64 },
+    Full,
+}
+
+pub enum Pop {
+    Item { item: u64, head: u64 },
+    Nothing,
+}
+
+// How far `to` stands after `from`.
+pub fn distance(to: u64, from: u64) -> u64
+    ensures { λ r. ⌜ r ≡ distance to from ⌝ }
+{
+    std::num::wrapping_sub_u64(to, from)
+}
+
+// The cursor `n` further.
+pub fn after(cursor: u64, n: u64) -> u64
+    ensures { λ r. ⌜ r ≡ after cursor n ⌝ }
+{
+    std::num::wrapping_add_u64(cursor, n)
+}
+
+impl Ring {
+    // The ring of a slot.
+    pub fn new(slot: u64, capacity: u64) -> Self
+        requires { ⌜ (slot < 8192) × (capacity ≤ 65536) ⌝ }
+        ensures { λ r. ⌜ r ≡ ringOf slot capacity ⌝ }
+    {
+        Ring {
+            base: slot * capacity,
+            capacity: capacity,
+        }
+    }
+
+    // Where a cursor's item stands. The capacity is a power of two, so the mask is the remainder.
+    fn index(self, cursor: u64) -> usize
+        requires { ⌜ Capacity (self .capacity) × (self .base + self .capacity < 2 ^ 64) ⌝ }
+        ensures { λ r. ⌜ (r ≡ place self cursor) × (r < self .base + self .capacity) ⌝ }
+    {
+        (self.base + (cursor & (self.capacity - 1))) as usize
+    }
+
+    // Stores an item at the cursor, unless the ring is full.
+    pub fn push(self, store: &mut [u64], cursor: u64, released: u64, item: u64) -> Push
+        requires { ⌜ Within self (length (now store)) ⌝ }
+        ensures { λ r. ⌜ (r, now (store .exit)) ≡ push self (now (store .entry)) cursor released item ⌝ }
+    {
+        if distance(cursor, released) == self.capacity {
+            return Push::Full;
+        }
+        let at = self.index(cursor);
+        store[at] = item;
+        Push::Pushed {
+            cursor: after(cursor, 1),
+        }
+    }
+
+    // The item at a cursor.
+    pub fn item_at(self, store: &[u64], cursor: u64) -> u64
+        requires { ⌜ Within self (length (now store)) ⌝ }
+        ensures { λ r. ⌜ r ≡ itemAt self (now (store .entry)) cursor ⌝ }
+    {
+        let at = self.index(cursor);
+        store[at]
+    }
+
+    // Takes the next of the items up to `known`, if there is one.
+    pub fn pop(self, store: &[u64], head: u64, known: u64) -> Pop
+        requires { ⌜ Within self (length (now store)) ⌝ }
+        ensures { λ r. ⌜ r ≡ pop self (now (store .entry)) head known ⌝ }
+    {
+        if head == known {
+            return Pop::Nothing;
+        }
+        Pop::Item {
+            item: self.item_at(store, head),
+            head: after(head, 1),
+        }
+    }
+
+    // Moves the `count` items from the head on to the output: up to the ring's end, then from its start.
+    pub fn pop_into(self, store: &[u64], head: u64, count: u64, out: &mut [u64], at: usize) -> u64
+        requires { ⌜ Within self (length (now store)) × (count ≤ self .capacity) × (at + count ≤ length (now out)) ⌝ }
+        ensures { λ r. ⌜ (r, now (out .exit)) ≡ popInto self (now (store .entry)) head count (now (out .entry)) at ⌝ }
+    {
+        let next = after(head, count);
+        let n = count as usize;
+        let start = self.index(head);
+        let base = self.base as usize;
+        let end = base + self.capacity as usize;
+        if n <= end - start {
+            move_slots(store, start, n, out, at);
+            return next;
+        }
+        let first = end - start;
+        move_slots(store, start, first, out, at);
+        move_slots(store, base, n - first, out, at + first);
+        next
+    }
+}
+
+// Moves `len` words that stand together.
+fn move_slots(src: &[u64], start: usize, len: usize, out: &mut [u64], at: usize)
+    requires { ⌜ (start + len ≤ length (now src)) × (at + len ≤ length (now out)) ⌝ }
+    ensures { λ _. ⌜ now (out .exit) ≡ written (now (out .entry)) at (run (now (src .entry)) start len) ⌝ }
+{
+    let mut i = 0;
+    while i < len {
+        out[at + i] = src[start + i];
+        i += 1;
+    }
+}

@@ -1,0 +1,91 @@
+// The table store: a lane's record is the first words of its slot's row. Only this file knows the places.
+ghost use mathlib.Core.Path.{_≡_};
+ghost use Prim.Native.Nat.{_+_, _*_, _≤_, _<_};
+ghost use lib.ListN.{length};
+ghost use Rattle.lane.specs.Table.{HasRow, cell, setCell, words, laneAt, putLane};
+use crate::lane::Lane;
+use model::LaneKey;
+
+impl Lane {
+    // The header's words, the words of a slot's row, and those of them that the record takes.
+    pub const HEADER_WORDS: usize = 512;
+
+    pub const ROW_WORDS: usize = 24;
+
+    pub const LANE_WORDS: usize = 14;
+
+    fn words(self) -> [u64; 14]
+        ensures { λ r. ⌜ r ≡ words self ⌝ }
+    {
+        [
+            self.key.generation,
+            self.tail,
+            self.released,
+            self.head,
+            self.known,
+            self.cached,
+            self.unreleased,
+            self.burst,
+            self.window,
+            self.pending,
+            self.queued,
+            self.paused,
+            self.registered,
+            self.living,
+        ]
+    }
+
+    pub fn load(table: &[u64], slot: u64) -> Self
+        requires { ⌜ HasRow slot (length (now table)) ⌝ }
+        ensures { λ r. ⌜ r ≡ laneAt (now (table .entry)) slot ⌝ }
+    {
+        let at = Lane::HEADER_WORDS + Lane::ROW_WORDS * slot as usize;
+        Lane {
+            key: LaneKey {
+                slot: slot,
+                generation: table[at],
+            },
+            tail: table[at + 1],
+            released: table[at + 2],
+            head: table[at + 3],
+            known: table[at + 4],
+            cached: table[at + 5],
+            unreleased: table[at + 6],
+            burst: table[at + 7],
+            window: table[at + 8],
+            pending: table[at + 9],
+            queued: table[at + 10],
+            paused: table[at + 11],
+            registered: table[at + 12],
+            living: table[at + 13],
+        }
+    }
+
+    pub fn store(self, table: &mut [u64])
+        requires { ⌜ HasRow (self .key .slot) (length (now table)) ⌝ }
+        ensures { λ _. ⌜ now (table .exit) ≡ putLane (now (table .entry)) self ⌝ }
+    {
+        let words = self.words();
+        let at = Lane::HEADER_WORDS + Lane::ROW_WORDS * self.key.slot as usize;
+        let mut i = 0;
+        while i < Lane::LANE_WORDS {
+            table[at + i] = words[i];
+            i += 1;
+        }
+    }
+}
+
+// A word of a slot's row, for the columns that are no lane's.
+pub fn cell(table: &[u64], column: usize, row: usize) -> u64
+    requires { ⌜ HasRow row (length (now table)) × (column < 24) ⌝ }
+    ensures { λ r. ⌜ r ≡ cell (now (table .entry)) column row ⌝ }
+{
+    table[Lane::HEADER_WORDS + Lane::ROW_WORDS * row + column]
+}
+
+pub fn set_cell(table: &mut [u64], column: usize, row: usize, word: u64)
+    requires { ⌜ HasRow row (length (now table)) × (column < 24) ⌝ }
+    ensures { λ _. ⌜ now (table .exit) ≡ setCell (now (table .entry)) column row word ⌝ }
+{
+    table[Lane::HEADER_WORDS + Lane::ROW_WORDS * row + column] = word;
+}
