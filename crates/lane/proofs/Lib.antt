@@ -1,0 +1,3 @@
+pub mod EveryEntry
+pub mod CursorLaws
+pub mod ReleaseLaws

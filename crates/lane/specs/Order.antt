@@ -3,7 +3,7 @@
 use mathlib.Core.Path.{_≡_}
 use Prim.Native.Nat.{ℕ, _+_, _^_, _≤_, _<_}
 use Rattle.lane.specs.Cursor.{distance}
-use Rattle.lane.specs.Release.{releaseBatch}
+use Rattle.model.specs.Capacity.{releaseBatch}
 use Rattle.lane.specs.declared.lane.Lane.{Lane}
 
 pub record InOrder (C : ℕ) (l : Lane) : Type 0 where

@@ -1,7 +1,29 @@
--- When consumed places go back to the sender.
+-- Document 01's checked examples of the release batch.
 -- Assumes nothing.
-use Prim.Native.Nat.{ℕ, _+_, _/_, min, max}
+use mathlib.Core.Bool.{Bool, true, _&&_}
+use mathlib.Core.List.{List, [], _∷_}
+use Prim.Native.Nat.{ℕ}
+use lib.Dec.{eqb}
+use Rattle.model.specs.Capacity.{rounded, releaseBatch}
 
--- "the release batch min(max(C / 2 rounded up, 64), C)"
-abbrev pub releaseBatch : ℕ → ℕ
-releaseBatch C = min (max ((C + 1) / 2) 64) C
+-- a capacity as an opening takes it, the C it is rounded up to, and the batch of C
+pub record Example : Type 0 where
+  pub capacity : ℕ
+  pub C : ℕ
+  pub batch : ℕ
+
+-- "Capacity 1: batch 1. 2: 2. 64: 64. 100: C 128, batch 64. 256: 128. 65,536: 32,768."
+abbrev pub examples : List Example
+examples =
+    record { capacity = 1; C = 1; batch = 1 }
+    ∷ record { capacity = 2; C = 2; batch = 2 }
+    ∷ record { capacity = 64; C = 64; batch = 64 }
+    ∷ record { capacity = 100; C = 128; batch = 64 }
+    ∷ record { capacity = 256; C = 256; batch = 128 }
+    ∷ record { capacity = 65536; C = 65536; batch = 32768 }
+    ∷ []
+
+-- every example is as the rules have it
+abbrev pub agree : List Example → Bool
+agree [] = true
+agree (e ∷ es) = eqb (rounded (e .capacity)) (e .C) && (eqb (releaseBatch (e .C)) (e .batch) && agree es)

@@ -1,0 +1,26 @@
+-- `lane::lane::Lane::release_at_batch` meets its contract.
+-- Assumes nothing.
+use Rattle.lane.specs.Lane.{releaseAtBatch}
+use mathlib.Core.Path.{_≡_, _∙_, ap, sym}
+use borrow.Author.Tests.{eq-eqb, ne-eqb}
+use borrow.Author.Needs.{needs}
+use Rattle.lane.proofs.lane.Lane.release_at_batch.Statement.{statement}
+use Rattle.lane.proofs.lane.Lane.release_at_batch.Tie as tie
+
+release-batch-requires : tie.Need-release-batch-requires
+release-batch-requires c κs = search needs
+
+release-requires : tie.Need-release-requires
+release-requires c κs = search needs
+
+returns : tie.Need-returns
+unfolding releaseAtBatch
+returns c = simp (eq-eqb _ _ (c .before .if1 .taken ∙ c .before .before .before .release-batch .ensures), c .release .ensures)
+
+returns-2 : tie.Need-returns-2
+unfolding releaseAtBatch
+returns-2 c = simp (ne-eqb _ _ (λ e. c .if1 .left (e ∙ sym (c .before .before .release-batch .ensures))))
+
+pub release-at-batch-spec : {M : Type 1} → statement M
+release-at-batch-spec =
+    tie.close (tie.spec release-batch-requires release-requires returns returns-2)

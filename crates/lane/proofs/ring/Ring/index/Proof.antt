@@ -1,0 +1,19 @@
+-- `lane::ring::Ring::index` meets its contract.
+-- Assumes nothing.
+use Rattle.lane.proofs.CursorLaws.{some, masked}
+use native.Mathlib.Omega.{arith}
+use native.Mathlib.Nat.{mod-lt}
+use Rattle.lane.proofs.ring.Ring.index.Statement.{statement}
+use Rattle.lane.proofs.ring.Ring.index.Tie as tie
+
+sub-result : tie.Need-sub-result
+sub-result c = omega (arith, some _ (c .pre .0))
+
+add-result : tie.Need-add-result
+add-result c = omega (arith, masked _ (c .pre .0) (c .args .cursor), mod-lt (c .args .cursor) (some _ (c .pre .0)))
+
+returns : tie.Need-returns
+returns c = omega (arith, masked _ (c .pre .0) (c .args .cursor), mod-lt (c .args .cursor) (some _ (c .pre .0)))
+
+pub index-spec : {M : Type 1} → statement M
+index-spec = tie.close (tie.spec sub-result add-result returns)
