@@ -1,3 +1,7 @@
+pub mod ListLaws
 pub mod EveryEntry
 pub mod CursorLaws
 pub mod ReleaseLaws
+pub mod CursorOrder
+pub mod CountOrder
+pub mod OrderLaws

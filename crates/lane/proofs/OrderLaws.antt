@@ -1,0 +1,389 @@
+-- A lane in order stays in order under every method.
+-- Assumes nothing.
+use mathlib.Core.Path.{_≡_, refl, _∙_, sym, ap}
+use mathlib.Core.Bool.{Bool, true, false, cond, _||_}
+use mathlib.Core.List.{List}
+use Prim.Native.Nat.{ℕ, _+_, _-_, _≤_, _<_, _^_, min}
+use native.Mathlib.Omega.{arith}
+use borrow.Author.Tests.{eqb-true, eqb-false}
+use lib.Dec.{eqb}
+use lib.ListN.{set}
+use Rattle.model.specs.Capacity.{releaseBatch}
+use Rattle.lane.specs.Cursor.{after, distance, Capacity}
+use Rattle.lane.specs.Lane.{withCursors, withCounts, prefetch, reload, released, headOn, closeFast, windowFor, openWindow, openFor, grantFast, windowPop, popFast, releaseAtBatch, releaseAny, releasePending, settled, emptied, settleEmpty, readyOrIdle, refill, reloadIsEmpty, charged, addBurst, endBurst, targeted, popTargeted, polled, pollItem, pollRefilled, poll, fairWindow, burstOfWindow, fairly, popFair, endFullBurst, chunkLimit, chunkMoved, moveChunk, movedInto, sent, pushAndFlush, newLane}
+use Rattle.lane.specs.Order.{Cursors, Counts, InOrder, Filled, Refundable, sentLane, poppedLane, refilledLane, polledLane}
+use Rattle.lane.specs.Ring.{place, push, itemAt}
+use Rattle.model.specs.declared.LaneKey.{LaneKey}
+use Rattle.lane.specs.declared.ring.Ring.{Ring}
+use Rattle.lane.specs.declared.ring.Push.the-variants.{Pushed, Full}
+use Rattle.lane.specs.declared.lane.Lane.{Lane}
+use Rattle.lane.specs.declared.lane.Popped.{Popped}
+use Rattle.lane.specs.declared.lane.Popped.the-variants as Popped
+use Rattle.lane.specs.declared.lane.Released.{Released}
+use Rattle.lane.specs.declared.lane.Targeted.{Targeted}
+use Rattle.lane.specs.declared.lane.LanePoll.the-variants as LanePoll
+use Rattle.lane.specs.declared.lane.Refill.{Refill}
+use Rattle.lane.specs.declared.lane.Refill.the-variants as Refill
+use Rattle.lane.proofs.CursorLaws.{some, behind-after, ahead-after, distance-self}
+use Rattle.lane.proofs.CursorOrder.{held-adds, head-goes-on, tail-goes-on, known-is-tail, released-is-head}
+use Rattle.lane.proofs.CountOrder.{counts-close, counts-look, counts-open, counts-pop, counts-charge, counts-credit, counts-release, counts-burst}
+
+-- what holds of both sides of a test holds
+cond-holds : {A : Type 0} (P : A → Type 0) (t : Bool) (x y : A) → (t ≡ true → P x) → (t ≡ false → P y) → P (cond t x y)
+cond-holds P true x y f g = f refl
+cond-holds P false x y f g = g refl
+
+positive : {n : ℕ} → (n ≡ 0 → ⊥) → 0 < n
+positive h = omega arith
+
+-- the release batch is at most the capacity
+pub batch-most : (C : ℕ) → releaseBatch C ≤ C
+batch-most C = omega arith
+
+module _ (C : ℕ) (small : C ≤ 65536) (l : Lane) (o : InOrder C l) where
+  fits : {B d m c u b w : ℕ} → Counts B d m c u b w → m ≤ C → c + w < 2 ^ 64
+  fits n h = omega arith
+
+  credit : {B d m c u b w : ℕ} → Counts B d m c u b w → w ≤ u
+  credit n = omega arith
+
+  pub refundable : Refundable l
+  refundable = record { fits = fits (o .counts) (o .cursors .known-on); credit = credit (o .counts); turn = o .counts .window-most }
+
+  pub close-fast-keeps : InOrder C (closeFast l)
+  close-fast-keeps = record { cursors = o .cursors; counts = counts-close (o .counts) }
+
+  pub prefetch-keeps : l .cached ≡ 0 → InOrder C (prefetch l)
+  prefetch-keeps e =
+      record {
+        cursors = known-is-tail C (l .tail) (l .released) (l .head) (l .known) small (o .cursors);
+        counts =
+            counts-look (o .counts) (distance (l .tail) (l .known)) (distance (l .tail) (l .head)) e
+            (held-adds C (l .tail) (l .released) (l .head) (l .known) small (o .cursors));
+      }
+
+  pub reload-keeps : InOrder C (reload l)
+  unfolding reload
+  reload-keeps = cond-holds (InOrder C) (eqb (l .cached) 0) (prefetch l) l (λ e. prefetch-keeps (eqb-true (l .cached) 0 e)) (λ e. o)
+
+-- a window for the counts fits them
+pub window-fits : (c u b B n budget : ℕ) → u < B → b ≤ 63 → n ≡ min (min (min c (B - (u + 1))) (64 - (b + 1))) budget → (n ≤ c) × (u + n < B) × (b + n ≤ 63)
+window-fits c u b B n budget h k e = (omega arith, omega arith, omega arith)
+
+module _ (C : ℕ) (small : C ≤ 65536) (budget : ℕ) (l : Lane) (o : InOrder C l) where
+  pub window-for-fits : (windowFor C budget l ≤ l .cached) × (l .unreleased + windowFor C budget l < releaseBatch C) × (l .burst + windowFor C budget l ≤ 63)
+  unfolding windowFor
+  window-for-fits = window-fits (l .cached) (l .unreleased) (l .burst) (releaseBatch C) _ budget (o .counts .unreleased-below) (o .counts .burst-most) refl
+
+  pub open-for-keeps : l .window ≡ 0 → InOrder C (openFor C budget l)
+  unfolding openFor
+  open-for-keeps e =
+      let w = window-for-fits in
+      record { cursors = o .cursors; counts = counts-open (o .counts) (windowFor C budget l) e (w .0) (w .1) (w .2) }
+
+-- a look leaves the window as it is
+pub reload-window : (l : Lane) → reload l .window ≡ l .window
+unfolding reload
+reload-window l = cond-holds (λ m. m .window ≡ l .window) (eqb (l .cached) 0) (prefetch l) l (λ e. refl) (λ e. refl)
+
+module _ (C : ℕ) (small : C ≤ 65536) (l : Lane) (o : InOrder C l) where
+  pub closed-reload-keeps : InOrder C (reload (closeFast l))
+  closed-reload-keeps = reload-keeps C small (closeFast l) (close-fast-keeps C small l o)
+
+  pub grant-fast-keeps : (budget : ℕ) → InOrder C (grantFast C budget l)
+  unfolding grantFast
+  grant-fast-keeps budget = open-for-keeps C small budget (reload (closeFast l)) closed-reload-keeps (reload-window (closeFast l))
+
+  -- the window's next item
+  window-pop-keeps : 0 < l .window → InOrder C (windowPop l)
+  window-pop-keeps h =
+      let k : 1 ≤ distance (l .known) (l .head) = some (o .counts) h in
+      record {
+        cursors = head-goes-on C (l .tail) (l .released) (l .head) (l .known) small (o .cursors) 1 k;
+        counts =
+            rw (behind-after (l .head) (l .released) 1 (o .cursors .head-u64) (o .cursors .released-u64) (room (o .cursors .head-on)),
+            ahead-after (l .known) (l .head) 1 (o .cursors .known-u64) (o .cursors .head-u64) k)
+            (counts-pop (o .counts) h);
+      }
+    where
+      some : {B d m c u b w : ℕ} → Counts B d m c u b w → 0 < w → 1 ≤ m
+      some n h = omega arith
+
+      room : {a : ℕ} → a ≤ C → a + 1 < 2 ^ 64
+      room h = omega arith
+
+  pub pop-fast-keeps : (ring : Ring) (store : List ℕ) → InOrder C (poppedLane (popFast ring store l))
+  unfolding popFast
+  pop-fast-keeps ring store =
+      cond-holds (λ p. InOrder C (poppedLane p)) (eqb (l .window) 0) (Popped.Nothing l) (Popped.Item (itemAt ring store (l .head)) (windowPop l))
+      (λ e. o) (λ e. window-pop-keeps (positive (eqb-false (l .window) 0 e)))
+
+  -- another burst
+  pub burst-keeps : (n : ℕ) → l .window ≤ n → n ≤ 63 → InOrder C (withCounts (l .cached) (l .unreleased) n (l .window) l)
+  burst-keeps n h k = record { cursors = o .cursors; counts = counts-burst (o .counts) n h k }
+
+  -- n items are popped and counted, up to the batch, at which credit goes back
+  pub take-keeps : (n : ℕ) → l .window ≡ 0 → n ≤ l .cached → l .unreleased + n ≤ releaseBatch C → InOrder C (releaseAtBatch C (charged n (headOn n l)) .lane)
+  unfolding releaseAtBatch
+  take-keeps n e h k =
+      cond-holds (λ (r : Released). InOrder C (r .lane)) (eqb (l .unreleased + n) (releaseBatch C))
+      (record { lane = released m; released = true }) (record { lane = m; released = false })
+      (λ t. record { cursors = released-is-head C (l .tail) (l .released) (after (l .head) n) (l .known) small on; counts = rw (distance-self (after (l .head) n) (on .head-u64), ahead) (counts-credit (o .counts) n e h) })
+      (λ t. record { cursors = on; counts = rw (behind, ahead) (counts-charge (o .counts) n e h (short k (eqb-false (l .unreleased + n) (releaseBatch C) t))) })
+    where
+      m : Lane
+      m = charged n (headOn n l)
+
+      some : {B d m c u b w : ℕ} → Counts B d m c u b w → n ≤ c → n ≤ m
+      some a b = omega arith
+
+      short : {a B : ℕ} → a ≤ B → (a ≡ B → ⊥) → a < B
+      short a b = omega arith
+
+      room : {a c : ℕ} → a ≤ C → n ≤ c → c ≤ C → a + n < 2 ^ 64
+      room a b c = omega arith
+
+      within : n ≤ distance (l .known) (l .head)
+      within = some (o .counts) h
+
+      on : Cursors C (l .tail) (l .released) (after (l .head) n) (l .known)
+      on = head-goes-on C (l .tail) (l .released) (l .head) (l .known) small (o .cursors) n within
+
+      behind : distance (after (l .head) n) (l .released) ≡ distance (l .head) (l .released) + n
+      behind = behind-after (l .head) (l .released) n (o .cursors .head-u64) (o .cursors .released-u64) (room (o .cursors .head-on) within (o .cursors .known-on))
+
+      ahead : distance (l .known) (after (l .head) n) ≡ distance (l .known) (l .head) - n
+      ahead = ahead-after (l .known) (l .head) n (o .cursors .known-u64) (o .cursors .head-u64) within
+
+  -- credit goes back where the window is closed
+  pub released-keeps : l .window ≡ 0 → InOrder C (released l)
+  released-keeps e =
+      record {
+        cursors = released-is-head C (l .tail) (l .released) (l .head) (l .known) small (o .cursors);
+        counts = rw (distance-self (l .head) (o .cursors .head-u64)) (counts-release (o .counts) e);
+      }
+
+  pub release-any-keeps : l .window ≡ 0 → InOrder C (releaseAny l .lane)
+  unfolding releaseAny
+  release-any-keeps e =
+      cond-holds (λ (r : Released). InOrder C (r .lane)) (eqb (l .unreleased) 0)
+      (record { lane = l; released = false }) (record { lane = released l; released = true })
+      (λ t. o) (λ t. released-keeps e)
+
+  pub settled-keeps : l .window ≡ 0 → InOrder C (settled l)
+  settled-keeps e = record { cursors = o .cursors; counts = counts-burst (o .counts) 0 (omega arith) (omega arith) }
+
+-- credit given back leaves the window as it is
+release-any-window : (l : Lane) → releaseAny l .lane .window ≡ l .window
+unfolding releaseAny
+release-any-window l =
+    cond-holds (λ (r : Released). r .lane .window ≡ l .window) (eqb (l .unreleased) 0)
+    (record { lane = l; released = false }) (record { lane = released l; released = true }) (λ t. refl) (λ t. refl)
+
+module _ (C : ℕ) (small : C ≤ 65536) (l : Lane) (o : InOrder C l) where
+  pub release-pending-keeps : InOrder C (releasePending l .lane)
+  unfolding releasePending
+  release-pending-keeps = release-any-keeps C small (closeFast l) (close-fast-keeps C small l o) refl
+
+  pub settle-empty-keeps : InOrder C (settleEmpty l .lane)
+  unfolding settleEmpty emptied releasePending
+  settle-empty-keeps = settled-keeps C small (releasePending l .lane) release-pending-keeps (release-any-window (closeFast l))
+
+  pub reload-is-empty-keeps : InOrder C (reloadIsEmpty l .lane)
+  unfolding reloadIsEmpty
+  reload-is-empty-keeps = closed-reload-keeps C small l o
+
+module _ (C : ℕ) (small : C ≤ 65536) (l : Lane) (o : InOrder C l) where
+  pub refill-keeps : InOrder C (refilledLane (refill l))
+  unfolding refill readyOrIdle
+  refill-keeps =
+      let m : Lane = reload (closeFast l) in
+      let k : InOrder C m = closed-reload-keeps C small l o in
+      cond-holds (λ r. InOrder C (refilledLane r)) (eqb (m .cached) 0) (Refill.Idle (settleEmpty m)) (Refill.Ready m)
+      (λ t. settle-empty-keeps C small m k) (λ t. k)
+
+  -- a lane that is ready is in order, its window closed, with an item at hand
+  pub refill-fills : (m : Lane) → refill l ≡ Refill.Ready m → Filled C m
+  unfolding refill readyOrIdle
+  refill-fills m e = go (eqb (n .cached) 0) refl e
+    where
+      n : Lane
+      n = reload (closeFast l)
+
+      go : (t : Bool) → eqb (n .cached) 0 ≡ t → cond t (Refill.Idle (settleEmpty n)) (Refill.Ready n) ≡ Refill.Ready m → Filled C m
+      go true s f = let z : _≡_ {A = ℕ} 0 1 = cc in absurd (omega arith)
+      go false s f =
+          let same : n ≡ m = cc in
+          rw (← same)
+          (record {
+            order = closed-reload-keeps C small l o;
+            closed = reload-window (closeFast l);
+            some = positive (eqb-false (n .cached) 0 s);
+          })
+
+-- credit at the batch leaves window and burst as they are
+module _ (C : ℕ) (l : Lane) where
+  at-batch-is : (P : Lane → Type 0) → P l → P (released l) → P (releaseAtBatch C l .lane)
+  unfolding releaseAtBatch
+  at-batch-is P x y =
+      cond-holds (λ (r : Released). P (r .lane)) (eqb (l .unreleased) (releaseBatch C))
+      (record { lane = released l; released = true }) (record { lane = l; released = false }) (λ t. y) (λ t. x)
+
+  pub at-batch-window : releaseAtBatch C l .lane .window ≡ l .window
+  at-batch-window = at-batch-is (λ m. m .window ≡ l .window) refl refl
+
+  pub at-batch-burst : releaseAtBatch C l .lane .burst ≡ l .burst
+  at-batch-burst = at-batch-is (λ m. m .burst ≡ l .burst) refl refl
+
+-- a turn counted on by n ends at 64, or goes on below it
+module _ (C : ℕ) (small : C ≤ 65536) (l : Lane) (o : InOrder C l) (closed : l .window ≡ 0) where
+  pub burst-on-keeps : (ends : Bool) (n : ℕ) → (ends ≡ false → l .burst + n ≤ 63) → InOrder C (endBurst ends (addBurst n l))
+  burst-on-keeps true n h = burst-keeps C small l o 0 (rw closed (omega arith)) (omega arith)
+  burst-on-keeps false n h = burst-keeps C small l o (l .burst + n) (rw closed (omega arith)) (h refl)
+
+module _ (ring : Ring) (small : ring .capacity ≤ 65536) (store : List ℕ) (l : Lane) (f : Filled (ring .capacity) l) where
+  one-more : {B d m c u b w : ℕ} → Counts B d m c u b w → u + 1 ≤ B
+  one-more n = omega arith
+
+  pub pop-targeted-keeps : InOrder (ring .capacity) (popTargeted ring store l .lane)
+  unfolding popTargeted targeted
+  pop-targeted-keeps = take-keeps (ring .capacity) small l (f .order) 1 (f .closed) (f .some) (one-more (f .order .counts))
+
+  pub pop-targeted-window : popTargeted ring store l .lane .window ≡ 0
+  unfolding popTargeted targeted
+  pop-targeted-window = at-batch-window (ring .capacity) (charged 1 (headOn 1 l)) ∙ f .closed
+
+  pub poll-item-keeps : (fair : Bool) → InOrder (ring .capacity) (polledLane (pollItem ring store fair l))
+  unfolding pollItem polled
+  poll-item-keeps fair =
+      let t : Lane = popTargeted ring store l .lane in
+      burst-on-keeps (ring .capacity) small t pop-targeted-keeps pop-targeted-window (fair || eqb (t .burst + 1) 64) 1
+      (λ g. below (pop-targeted-keeps .counts .burst-most) (eqb-false (t .burst + 1) 64 (right-false fair (eqb (t .burst + 1) 64) g)))
+    where
+      below : {n : ℕ} → n ≤ 63 → (n + 1 ≡ 64 → ⊥) → n + 1 ≤ 63
+      below h k = omega arith
+
+      right-false : (a b : Bool) → (a || b) ≡ false → b ≡ false
+      right-false true b h = cc
+      right-false false b h = h
+
+module _ (ring : Ring) (small : ring .capacity ≤ 65536) (store : List ℕ) (l : Lane) (o : InOrder (ring .capacity) l) where
+  pub poll-keeps : (fair : Bool) → InOrder (ring .capacity) (polledLane (poll ring store fair l))
+  unfolding poll pollRefilled
+  poll-keeps fair = go (refill l) refl
+    where
+      go : (r : Refill) → refill l ≡ r → InOrder (ring .capacity) (polledLane (pollRefilled ring store fair r))
+      go (Refill.Ready m) e = poll-item-keeps ring small store m (refill-fills (ring .capacity) small l o m e) fair
+      go (Refill.Idle found) e = rw (ap refilledLane e) at (refill-keeps (ring .capacity) small l o)
+
+  pub fair-window-keeps : (budget : ℕ) → InOrder (ring .capacity) (fairWindow (ring .capacity) budget l)
+  unfolding fairWindow
+  fair-window-keeps budget =
+      cond-holds (InOrder (ring .capacity)) (eqb (l .window) 0) (grantFast (ring .capacity) budget (endBurst true l)) l
+      (λ t.
+      grant-fast-keeps (ring .capacity) small (endBurst true l)
+      (burst-keeps (ring .capacity) small l o 0 (rw (eqb-true (l .window) 0 t) (omega arith)) (omega arith)) budget)
+      (λ t. o)
+
+  pub pop-fair-keeps : (budget : ℕ) → InOrder (ring .capacity) (poppedLane (popFair ring store budget l))
+  unfolding popFair fairly
+  pop-fair-keeps budget =
+      go (popFast ring store (fairWindow (ring .capacity) budget l))
+      (pop-fast-keeps (ring .capacity) small (fairWindow (ring .capacity) budget l) (fair-window-keeps budget) ring store)
+    where
+      most : {B d m c u b w : ℕ} → Counts B d m c u b w → w ≤ 63
+      most n = omega arith
+
+      go : (p : Popped) → InOrder (ring .capacity) (poppedLane p) → InOrder (ring .capacity) (poppedLane (fairly p))
+      go (Popped.Item item m) k = burst-keeps (ring .capacity) small m k (m .window) (omega arith) (most (k .counts))
+      go (Popped.Nothing m) k = k
+
+  -- a chunk within its limit, and the end of a burst that it filled
+  pub chunk-fits : (take c u b B : ℕ) → u < B → b ≤ 63 → take ≤ min (min c (64 - b)) (B - u) → (take ≤ c) × (u + take ≤ B) × (b + take ≤ 64)
+  chunk-fits take c u b B h k e = (omega arith, omega arith, omega arith)
+
+-- credit at the batch and the count of the turn do not meet
+at-batch-adds : (C n : ℕ) (l : Lane) → releaseAtBatch C (addBurst n l) .lane ≡ addBurst n (releaseAtBatch C l .lane)
+unfolding releaseAtBatch
+at-batch-adds C n l = go (eqb (l .unreleased) (releaseBatch C))
+  where
+    go : (t : Bool)
+        → cond t (record { lane = released (addBurst n l); released = true }) (record { lane = addBurst n l; released = false }) .lane
+        ≡ addBurst n (cond t (record { lane = released l; released = true }) (record { lane = l; released = false }) .lane)
+    go true = refl
+    go false = refl
+
+module _ (ring : Ring) (small : ring .capacity ≤ 65536) (store : List ℕ) (l : Lane) (f : Filled (ring .capacity) l) (take : ℕ) (h : take ≤ chunkLimit (ring .capacity) l) where
+  pub chunk-within : (take ≤ l .cached) × (l .unreleased + take ≤ releaseBatch (ring .capacity)) × (l .burst + take ≤ 64)
+  unfolding chunkLimit
+  chunk-within = chunk-fits ring small store l (f .order) take (l .cached) (l .unreleased) (l .burst) (releaseBatch (ring .capacity)) (f .order .counts .unreleased-below) (f .order .counts .burst-most) h
+
+  -- as many items are moved as were asked for
+  pub chunk-whole : min (distance (l .known) (l .head)) take ≡ take
+  chunk-whole = all (f .order .counts) (chunk-within .0)
+    where
+      all : {B d m c u b w : ℕ} → Counts B d m c u b w → take ≤ c → min m take ≡ take
+      all n k = omega arith
+
+  pub move-chunk-keeps : (out : List ℕ) (at : ℕ) → InOrder (ring .capacity) (endFullBurst ((moveChunk ring store out at take l) .0) .lane)
+  unfolding moveChunk chunkMoved movedInto endFullBurst
+  move-chunk-keeps out at =
+      let C : ℕ = ring .capacity in
+      let x : Lane = charged take (headOn take l) in
+      let m : Lane = releaseAtBatch C x .lane in
+      let k : InOrder C m = take-keeps C small l (f .order) take (f .closed) (chunk-within .0) (chunk-within .1) in
+      let w : m .window ≡ 0 = at-batch-window C x ∙ f .closed in
+      let b : m .burst ≡ l .burst = at-batch-burst C x in
+      rw (chunk-whole, at-batch-adds C take x)
+      (burst-on-keeps C small m k w (eqb (m .burst + take) 64) take
+      (λ g. below (rw (← b) at (chunk-within .2)) (eqb-false (m .burst + take) 64 g)))
+    where
+      below : {n : ℕ} → n ≤ 64 → (n ≡ 64 → ⊥) → n ≤ 63
+      below p q = omega arith
+
+-- a send keeps the lane in order
+module _ (ring : Ring) (small : ring .capacity ≤ 65536) (store : List ℕ) (item : ℕ) (l : Lane) (o : InOrder (ring .capacity) l) where
+  pub push-and-flush-keeps : InOrder (ring .capacity) (sentLane ((pushAndFlush ring store item l) .0))
+  unfolding pushAndFlush sent push
+  push-and-flush-keeps = go (eqb (distance (l .tail) (l .released)) (ring .capacity)) refl
+    where
+      go : (t : Bool) → eqb (distance (l .tail) (l .released)) (ring .capacity) ≡ t
+          → InOrder (ring .capacity) (sentLane ((sent l (cond t (Full, store) (Pushed (after (l .tail) 1), set store (place ring (l .tail)) item))) .0))
+      go true e = o
+      go false e =
+          record {
+            cursors = tail-goes-on (ring .capacity) (l .tail) (l .released) (l .head) (l .known) small (o .cursors) (eqb-false (distance (l .tail) (l .released)) (ring .capacity) e);
+            counts = o .counts;
+          }
+
+-- a lane newly registered is in order
+pub new-lane-in-order : (C : ℕ) → Capacity C → (key : LaneKey) (cursor : ℕ) → cursor < 2 ^ 64 → InOrder C (newLane key cursor)
+new-lane-in-order C k key cursor h =
+    let z : distance cursor cursor ≡ 0 = distance-self cursor h in
+    record {
+      cursors = record { tail-u64 = h; released-u64 = h; head-u64 = h; known-u64 = h; head-on = rw z (omega arith); known-on = rw z (omega arith); tail-on = rw z (omega arith); tail-within = rw z (omega arith) };
+      counts = rw z (record { cached-is = refl; unreleased-is = refl; unreleased-below = some-batch C (some C k); window-most = omega arith; burst-most = omega arith });
+    }
+  where
+    some-batch : (C : ℕ) → 0 < C → 0 < releaseBatch C
+    some-batch C h = omega arith
+
+-- `Keep`: a lane that was found empty and settled has nothing published since, so the Rust's second look finds nothing
+pub keep-never : (C : ℕ) (l : Lane) → InOrder C l → reload (closeFast l) .cached ≡ 0 → prefetch (settleEmpty (reload (closeFast l)) .lane) .cached ≡ 0
+unfolding reload
+keep-never C l o e = go (eqb (closeFast l .cached) 0) refl e
+  where
+    settled-cursors : (m : Lane) → m .known ≡ m .tail → m .tail < 2 ^ 64 → prefetch (settleEmpty m .lane) .cached ≡ 0
+    unfolding settleEmpty emptied releasePending releaseAny
+    settled-cursors m k h = cases (eqb (closeFast m .unreleased) 0)
+      where
+        z : distance (m .tail) (m .known) ≡ 0
+        z = rw k (distance-self (m .tail) h)
+
+        cases : (t : Bool) → prefetch (emptied (cond t (record { lane = closeFast m; released = false }) (record { lane = released (closeFast m); released = true })) .lane) .cached ≡ 0
+        cases true = z
+        cases false = z
+
+    go : (t : Bool) → eqb (closeFast l .cached) 0 ≡ t → cond t (prefetch (closeFast l)) (closeFast l) .cached ≡ 0 → prefetch (settleEmpty (cond t (prefetch (closeFast l)) (closeFast l)) .lane) .cached ≡ 0
+    go true s f = settled-cursors (prefetch (closeFast l)) refl (o .cursors .tail-u64)
+    go false s f = absurd (eqb-false (closeFast l .cached) 0 s f)
