@@ -17,6 +17,13 @@ rowWords = 24
 abbrev pub laneWords : ℕ
 laneWords = 14
 
+-- a word of the header, whose places are those below 512
+abbrev pub head : List ℕ → ℕ → ℕ
+head t k = getD t k 0
+
+abbrev pub setHead : List ℕ → ℕ → ℕ → List ℕ
+setHead t k v = set t k v
+
 -- where a word of a slot's row stands
 abbrev pub cellAt : ℕ → ℕ → ℕ
 cellAt column slot = 512 + 24 * slot + column
