@@ -6,7 +6,7 @@ use mathlib.Core.Path.{_≡_, _∙_, refl, ap}
 use lib.ListN.{length, length-set, take}
 use lib.Seq.{take-all}
 use Rattle.lane.specs.Lists.{scatter}
-use Rattle.lane.specs.Table.{cellAt, putLane}
+use Rattle.lane.specs.Table.{laneWords, cellAt, putLane}
 use Rattle.lane.proofs.ListLaws.{scatter-step}
 use borrow.Author.Needs.{needs}
 use Rattle.lane.proofs.lane.Lane.store.Statement.{statement}
@@ -15,10 +15,10 @@ use Rattle.lane.proofs.lane.Lane.store.Tie as tie
 -- the first i words are stored
 abbrev Inv-loop : tie.InvT-loop
 Inv-loop table₀ words at i₀ table i =
-    (i ≤ 14) × (length table ≡ length table₀) × (table ≡ scatter table₀ (λ j. at + j) (take i words))
+    (i ≤ laneWords) × (length table ≡ length table₀) × (table ≡ scatter table₀ (λ j. at + j) (take i words))
 
 abbrev μ-loop : tie.MeasureT-loop
-μ-loop table₀ words at i₀ table i = 14 - i
+μ-loop table₀ words at i₀ table i = laneWords - i
 
 loop-again : tie.Need-loop-again Inv-loop μ-loop
 loop-again c =
