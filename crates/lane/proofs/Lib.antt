@@ -5,3 +5,4 @@ pub mod ReleaseLaws
 pub mod CursorOrder
 pub mod CountOrder
 pub mod OrderLaws
+pub mod TableLaws

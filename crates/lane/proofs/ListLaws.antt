@@ -8,7 +8,7 @@ use native.Mathlib.Numerals.{add-one}
 use native.Mathlib.Decide.{decLt}
 use native.Mathlib.Omega.{arith}
 use lib.ListN.{length, getD, set, take, drop, length-set, length-append, take-append-drop}
-use lib.Seq.{take-at, drop-append-add, drop-drop, drop-cons, set-at, append-snoc, length-take-le, length-sets, sets-eq, getD-set-same, getD-set-other}
+use lib.Seq.{take-at, take-suc, drop-append-add, drop-drop, drop-cons, set-at, append-snoc, length-take-le, length-sets, sets-eq, getD-set-same, getD-set-other}
 use Rattle.lane.specs.Lists.{tab, written, scatter}
 
 -- ---- a list by its items
@@ -83,6 +83,13 @@ scatter-in (w ∷ ws) t p r d (suc i) h =
 pub scatter-snoc : (ws t : List ℕ) (p : ℕ → ℕ) (w : ℕ) → scatter t p (ws ++ (w ∷ [])) ≡ set (scatter t p ws) (p (length ws)) w
 scatter-snoc [] t p w = refl
 scatter-snoc (x ∷ ws) t p w = scatter-snoc ws (set t (p 0) x) (λ i. p (suc i)) w
+
+-- the word after the first i
+pub scatter-step : (ws t : List ℕ) (p : ℕ → ℕ) (i : ℕ) → i < length ws
+    → set (scatter t p (take i ws)) (p i) (getD ws i 0) ≡ scatter t p (take (i + 1) ws)
+scatter-step ws t p i h =
+    let n : length (take i ws) ≡ i = length-take-le i ws (omega arith) in
+    rw (add-one i, take-suc ws i 0 h) (sym (rw n at (scatter-snoc (take i ws) t p (getD ws i 0))))
 
 -- the words read back
 pub tab-scatter : (ws t : List ℕ) (p : ℕ → ℕ) → ((i : ℕ) → i < length ws → p i < length t) → ((i j : ℕ) → i < j → j < length ws → p i ≡ p j → ⊥)

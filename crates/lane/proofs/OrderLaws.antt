@@ -101,8 +101,10 @@ module _ (C : ℕ) (small : C ≤ 65536) (l : Lane) (o : InOrder C l) where
       record {
         cursors = head-goes-on C (l .tail) (l .released) (l .head) (l .known) small (o .cursors) 1 k;
         counts =
-            rw (behind-after (l .head) (l .released) 1 (o .cursors .head-u64) (o .cursors .released-u64) (room (o .cursors .head-on)),
-            ahead-after (l .known) (l .head) 1 (o .cursors .known-u64) (o .cursors .head-u64) k)
+            rw (
+              behind-after (l .head) (l .released) 1 (o .cursors .head-u64) (o .cursors .released-u64) (room (o .cursors .head-on)),
+              ahead-after (l .known) (l .head) 1 (o .cursors .known-u64) (o .cursors .head-u64) k,
+            )
             (counts-pop (o .counts) h);
       }
     where
@@ -308,8 +310,8 @@ unfolding releaseAtBatch
 at-batch-adds C n l = go (eqb (l .unreleased) (releaseBatch C))
   where
     go : (t : Bool)
-        → cond t (record { lane = released (addBurst n l); released = true }) (record { lane = addBurst n l; released = false }) .lane
-        ≡ addBurst n (cond t (record { lane = released l; released = true }) (record { lane = l; released = false }) .lane)
+        → cond {A = Released} t (record { lane = released (addBurst n l); released = true }) (record { lane = addBurst n l; released = false }) .lane
+        ≡ addBurst n (cond {A = Released} t (record { lane = released l; released = true }) (record { lane = l; released = false }) .lane)
     go true = refl
     go false = refl
 
@@ -368,22 +370,23 @@ new-lane-in-order C k key cursor h =
     some-batch : (C : ℕ) → 0 < C → 0 < releaseBatch C
     some-batch C h = omega arith
 
--- `Keep`: a lane that was found empty and settled has nothing published since, so the Rust's second look finds nothing
+-- settling leaves nothing published since the last look, where there was nothing
+settled-nothing-new : (m : Lane) → m .known ≡ m .tail → m .tail < 2 ^ 64 → prefetch (settleEmpty m .lane) .cached ≡ 0
+unfolding settleEmpty emptied releasePending releaseAny
+settled-nothing-new m k h =
+    cond-holds (λ (r : Released). prefetch (settled (r .lane)) .cached ≡ 0) (eqb (closeFast m .unreleased) 0)
+    (record { lane = closeFast m; released = false }) (record { lane = released (closeFast m); released = true })
+    (λ t. nothing) (λ t. nothing)
+  where
+    nothing : distance (m .tail) (m .known) ≡ 0
+    nothing = rw k (distance-self (m .tail) h)
+
+-- `Keep` never occurs: after a lane was found empty and settled, the Rust's second look finds nothing
 pub keep-never : (C : ℕ) (l : Lane) → InOrder C l → reload (closeFast l) .cached ≡ 0 → prefetch (settleEmpty (reload (closeFast l)) .lane) .cached ≡ 0
 unfolding reload
 keep-never C l o e = go (eqb (closeFast l .cached) 0) refl e
   where
-    settled-cursors : (m : Lane) → m .known ≡ m .tail → m .tail < 2 ^ 64 → prefetch (settleEmpty m .lane) .cached ≡ 0
-    unfolding settleEmpty emptied releasePending releaseAny
-    settled-cursors m k h = cases (eqb (closeFast m .unreleased) 0)
-      where
-        z : distance (m .tail) (m .known) ≡ 0
-        z = rw k (distance-self (m .tail) h)
-
-        cases : (t : Bool) → prefetch (emptied (cond t (record { lane = closeFast m; released = false }) (record { lane = released (closeFast m); released = true })) .lane) .cached ≡ 0
-        cases true = z
-        cases false = z
-
-    go : (t : Bool) → eqb (closeFast l .cached) 0 ≡ t → cond t (prefetch (closeFast l)) (closeFast l) .cached ≡ 0 → prefetch (settleEmpty (cond t (prefetch (closeFast l)) (closeFast l)) .lane) .cached ≡ 0
-    go true s f = settled-cursors (prefetch (closeFast l)) refl (o .cursors .tail-u64)
+    go : (t : Bool) → eqb (closeFast l .cached) 0 ≡ t → cond t (prefetch (closeFast l)) (closeFast l) .cached ≡ 0
+        → prefetch (settleEmpty (cond t (prefetch (closeFast l)) (closeFast l)) .lane) .cached ≡ 0
+    go true s f = settled-nothing-new (prefetch (closeFast l)) refl (o .cursors .tail-u64)
     go false s f = absurd (eqb-false (closeFast l .cached) 0 s f)

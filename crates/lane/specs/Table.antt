@@ -13,13 +13,20 @@ headerWords = 512
 abbrev pub rowWords : ℕ
 rowWords = 24
 
--- the words of a row that a lane's record takes; the others are columns of their own
+-- the words of a row that a lane's record takes; the columns after them are not the lane's
 abbrev pub laneWords : ℕ
 laneWords = 14
 
+-- a word of the header, whose places are those below `headerWords`
+abbrev pub head : List ℕ → ℕ → ℕ
+head t k = getD t k 0
+
+abbrev pub setHead : List ℕ → ℕ → ℕ → List ℕ
+setHead t k v = set t k v
+
 -- where a word of a slot's row stands
 abbrev pub cellAt : ℕ → ℕ → ℕ
-cellAt column slot = 512 + 24 * slot + column
+cellAt column slot = headerWords + rowWords * slot + column
 
 abbrev pub cell : List ℕ → ℕ → ℕ → ℕ
 cell t column slot = getD t (cellAt column slot) 0
@@ -29,7 +36,7 @@ setCell t column slot v = set t (cellAt column slot) v
 
 -- a slot's row lies within a table of so many words
 abbrev pub HasRow : ℕ → ℕ → Type 0
-HasRow slot words = 512 + 24 * slot + 24 ≤ words
+HasRow slot words = cellAt rowWords slot ≤ words
 
 -- a lane's words, in the order of their columns
 abbrev pub words : Lane → List ℕ
@@ -37,25 +44,29 @@ words l =
     l .key .generation ∷ l .tail ∷ l .released ∷ l .head ∷ l .known ∷ l .cached ∷ l .unreleased ∷ l .burst ∷ l .window
     ∷ l .pending ∷ l .queued ∷ l .paused ∷ l .registered ∷ l .living ∷ []
 
+-- the lane of a slot whose words are f 0, f 1, ..
+abbrev pub laneBy : ℕ → (ℕ → ℕ) → Lane
+laneBy slot f =
+    record {
+      key = record { slot = slot; generation = f 0 };
+      tail = f 1;
+      released = f 2;
+      head = f 3;
+      known = f 4;
+      cached = f 5;
+      unreleased = f 6;
+      burst = f 7;
+      window = f 8;
+      pending = f 9;
+      queued = f 10;
+      paused = f 11;
+      registered = f 12;
+      living = f 13;
+    }
+
 -- the lane of a slot
 unfoldable pub laneAt : List ℕ → ℕ → Lane
-laneAt t slot =
-    record {
-      key = record { slot = slot; generation = cell t 0 slot };
-      tail = cell t 1 slot;
-      released = cell t 2 slot;
-      head = cell t 3 slot;
-      known = cell t 4 slot;
-      cached = cell t 5 slot;
-      unreleased = cell t 6 slot;
-      burst = cell t 7 slot;
-      window = cell t 8 slot;
-      pending = cell t 9 slot;
-      queued = cell t 10 slot;
-      paused = cell t 11 slot;
-      registered = cell t 12 slot;
-      living = cell t 13 slot;
-    }
+laneAt t slot = laneBy slot (λ column. cell t column slot)
 
 -- the table with a lane's words in its slot's row
 unfoldable pub putLane : List ℕ → Lane → List ℕ

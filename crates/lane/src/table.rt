@@ -1,8 +1,8 @@
 // The table store: a lane's record is the first words of its slot's row. Only this file knows the places.
 ghost use mathlib.Core.Path.{_≡_};
 ghost use Prim.Native.Nat.{_+_, _*_, _≤_, _<_};
-ghost use lib.ListN.{length};
-ghost use Rattle.lane.specs.Table.{HasRow, cell, setCell, words, laneAt, putLane};
+ghost use lib.ListN.{length, getD};
+ghost use Rattle.lane.specs.Table.{rowWords, laneWords, HasRow, cell, setCell, words, laneBy, laneAt, putLane};
 use crate::lane::Lane;
 use model::LaneKey;
 
@@ -35,30 +35,39 @@ impl Lane {
         ]
     }
 
+    // The lane of a slot whose record is these words.
+    fn of_words(slot: u64, words: &[u64]) -> Self
+        requires { ⌜ length (now words) ≡ laneWords ⌝ }
+        ensures { λ r. ⌜ r ≡ laneBy slot (λ i. getD (now (words .entry)) i 0) ⌝ }
+    {
+        Lane {
+            key: LaneKey {
+                slot: slot,
+                generation: words[0],
+            },
+            tail: words[1],
+            released: words[2],
+            head: words[3],
+            known: words[4],
+            cached: words[5],
+            unreleased: words[6],
+            burst: words[7],
+            window: words[8],
+            pending: words[9],
+            queued: words[10],
+            paused: words[11],
+            registered: words[12],
+            living: words[13],
+        }
+    }
+
     pub fn load(table: &[u64], slot: u64) -> Self
         requires { ⌜ HasRow slot (length (now table)) ⌝ }
         ensures { λ r. ⌜ r ≡ laneAt (now (table .entry)) slot ⌝ }
     {
         let at = Lane::HEADER_WORDS + Lane::ROW_WORDS * slot as usize;
-        Lane {
-            key: LaneKey {
-                slot: slot,
-                generation: table[at],
-            },
-            tail: table[at + 1],
-            released: table[at + 2],
-            head: table[at + 3],
-            known: table[at + 4],
-            cached: table[at + 5],
-            unreleased: table[at + 6],
-            burst: table[at + 7],
-            window: table[at + 8],
-            pending: table[at + 9],
-            queued: table[at + 10],
-            paused: table[at + 11],
-            registered: table[at + 12],
-            living: table[at + 13],
-        }
+        let end = at + Lane::LANE_WORDS;
+        Lane::of_words(slot, &table[at..end])
     }
 
     pub fn store(self, table: &mut [u64])
@@ -77,14 +86,14 @@ impl Lane {
 
 // A word of a slot's row, for the columns that are no lane's.
 pub fn cell(table: &[u64], column: usize, row: usize) -> u64
-    requires { ⌜ HasRow row (length (now table)) × (column < 24) ⌝ }
+    requires { ⌜ HasRow row (length (now table)) × (column < rowWords) ⌝ }
     ensures { λ r. ⌜ r ≡ cell (now (table .entry)) column row ⌝ }
 {
     table[Lane::HEADER_WORDS + Lane::ROW_WORDS * row + column]
 }
 
 pub fn set_cell(table: &mut [u64], column: usize, row: usize, word: u64)
-    requires { ⌜ HasRow row (length (now table)) × (column < 24) ⌝ }
+    requires { ⌜ HasRow row (length (now table)) × (column < rowWords) ⌝ }
     ensures { λ _. ⌜ now (table .exit) ≡ setCell (now (table .entry)) column row word ⌝ }
 {
     table[Lane::HEADER_WORDS + Lane::ROW_WORDS * row + column] = word;
