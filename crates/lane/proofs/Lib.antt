@@ -6,3 +6,4 @@ pub mod CursorOrder
 pub mod CountOrder
 pub mod OrderLaws
 pub mod TableLaws
+pub mod RingLaws

@@ -86,6 +86,13 @@ pub reload-window : (l : Lane) → reload l .window ≡ l .window
 unfolding reload
 reload-window l = cond-holds (λ m. m .window ≡ l .window) (eqb (l .cached) 0) (prefetch l) l (λ e. refl) (λ e. refl)
 
+-- a lane whose window is closed is refundable, after a look too
+pub refundable-closed : (l : Lane) → Refundable l → Refundable (reload (closeFast l))
+unfolding reload
+refundable-closed l r =
+    cond-holds Refundable (eqb (l .cached + l .window) 0) (prefetch (closeFast l)) (closeFast l)
+    (λ e. record { fits = omega arith; credit = omega arith; turn = omega arith }) (λ e. record { fits = omega (arith, r .fits); credit = omega arith; turn = omega arith })
+
 module _ (C : ℕ) (small : C ≤ 65536) (l : Lane) (o : InOrder C l) where
   pub closed-reload-keeps : InOrder C (reload (closeFast l))
   closed-reload-keeps = reload-keeps C small (closeFast l) (close-fast-keeps C small l o)

@@ -8,17 +8,12 @@ use Rattle.lane.proofs.ReleaseLaws.{batches, log-is, entry-is}
 use Rattle.lane.proofs.release.release_batch.Statement.{statement}
 use Rattle.lane.proofs.release.release_batch.Tie as tie
 
-cast-log : tie.Need-cast-log
-cast-log c = omega (arith, log-is _ (c .pre), c .pre .small)
-
-mul-result : tie.Need-mul-result
-mul-result c = omega (arith, log-is _ (c .pre), c .pre .small)
-
-array-read-result : tie.Need-array-read-result
-array-read-result c = omega (arith, log-is _ (c .pre), c .pre .small)
-
 returns : tie.Need-returns
 returns c = ap (λ (n : ℕ). getD batches n 0) (log-is _ (c .pre)) ∙ entry-is _ (c .pre)
 
 pub release-batch-spec : {M : Type 1} → statement M
-release-batch-spec = tie.close (tie.spec cast-log mul-result array-read-result returns)
+release-batch-spec = tie.close (tie.spec
+    (λ c. omega (arith, log-is _ (c .pre), c .pre .small))
+    (λ c. omega (arith, log-is _ (c .pre), c .pre .small))
+    (λ c. omega (arith, log-is _ (c .pre), c .pre .small))
+    returns)

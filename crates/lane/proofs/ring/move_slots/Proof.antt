@@ -1,50 +1,40 @@
+-- `lane::ring::move_slots` meets its contract. The loop's invariant: the words moved so far stand in the output.
+-- Assumes nothing.
+use mathlib.Core.Path.{_≡_, refl, sym}
+use Prim.Native.Nat.{_-_, _≤_}
+use native.Mathlib.Omega.{arith}
+use lib.ListN.{length, length-set}
+use Rattle.lane.specs.Lists.{written}
+use Rattle.lane.specs.Ring.{run}
+use Rattle.lane.proofs.ListLaws.{written-none}
+use Rattle.lane.proofs.RingLaws.{run-written-step}
 use borrow.Author.Needs.{needs}
 use Rattle.lane.proofs.ring.move_slots.Statement.{statement}
 use Rattle.lane.proofs.ring.move_slots.Tie as tie
-use Rattle.lane.proofs.ring.move_slots.Reads as reads
-use Rattle.lane.proofs.ring.move_slots.Lts as lts
 
 abbrev Inv-loop : tie.InvT-loop
-Inv-loop src start len out₀ at i₀ out i = ?
+Inv-loop src start len out₀ at i₀ out i = (i ≤ len) × (length out ≡ length out₀) × (out ≡ written out₀ at (run src start i))
 
 abbrev μ-loop : tie.MeasureT-loop
-μ-loop src start len out₀ at i₀ out i = ?
+μ-loop src start len out₀ at i₀ out i = len - i
 
 loop-holds : tie.Need-loop-holds Inv-loop μ-loop
-loop-holds c = search needs
-
-add-out : tie.Need-add-out Inv-loop μ-loop
-add-out c = search needs
-
-mul-out : tie.Need-mul-out Inv-loop μ-loop
-mul-out c = search needs
-
-shared-slice-read-out : tie.Need-shared-slice-read-out Inv-loop μ-loop
-shared-slice-read-out c = search needs
-
-add-out-2 : tie.Need-add-out-2 Inv-loop μ-loop
-add-out-2 c = search needs
-
-mul-out-2 : tie.Need-mul-out-2 Inv-loop μ-loop
-mul-out-2 c = search needs
-
-slice-write-out : tie.Need-slice-write-out Inv-loop μ-loop
-slice-write-out c = search needs
-
-add-i : tie.Need-add-i Inv-loop μ-loop
-add-i c = search needs
-
-loop-less : tie.Need-loop-less Inv-loop μ-loop
-loop-less c = search needs
+unfolding run
+loop-holds c = (omega arith, refl, sym (written-none (c .args .out .now) (c .args .at)))
 
 loop-again : tie.Need-loop-again Inv-loop μ-loop
-loop-again c = search needs
-
-same-length : tie.Need-same-length Inv-loop μ-loop
-same-length c = search needs
+loop-again c =
+    let a = c .before .before .before .args in
+    let l = c .before .before .loop in (
+      omega arith,
+      simp length-set (l .inv .1),
+      rw (l .inv .2) (run-written-step (a .src .now) (a .start) (l .i) (a .out .now) (a .at) (omega arith)),
+    )
 
 returns : tie.Need-returns Inv-loop μ-loop
-returns c = search needs
+returns c =
+    let e : c .before .loop .i ≡ c .before .before .args .len = omega arith in
+    rw e at (c .before .loop .inv .2)
 
 pub move-slots-spec : {M : Type 1} → statement M
 move-slots-spec =
@@ -53,14 +43,9 @@ move-slots-spec =
     Inv-loop
     μ-loop
     loop-holds
-    add-out
-    mul-out
-    shared-slice-read-out
-    add-out-2
-    mul-out-2
-    slice-write-out
-    add-i
-    loop-less
+    (λ c. search needs) (λ c. search needs) (λ c. search needs) (λ c. search needs) (λ c. search needs)
+    (λ c. omega arith)
+    (λ c. search needs) (λ c. search needs)
     loop-again
-    same-length
+    (λ c. c .before .loop .inv .1)
     returns)

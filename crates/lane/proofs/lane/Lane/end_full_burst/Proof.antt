@@ -5,12 +5,11 @@ use borrow.Author.Needs.{needs}
 use Rattle.lane.proofs.lane.Lane.end_full_burst.Statement.{statement}
 use Rattle.lane.proofs.lane.Lane.end_full_burst.Tie as tie
 
-end-burst-requires : tie.Need-end-burst-requires
-end-burst-requires c κs = search needs
-
 returns : tie.Need-returns
 unfolding endFullBurst
 returns c = simp (c .end-burst .ensures)
 
 pub end-full-burst-spec : {M : Type 1} → statement M
-end-full-burst-spec = tie.close (tie.spec end-burst-requires returns)
+end-full-burst-spec = tie.close (tie.spec
+    (λ c κs. search needs)
+    returns)

@@ -1,29 +1,32 @@
+-- `lane::lane::Lane::grant_fast` meets its contract.
+-- Assumes nothing.
+use Rattle.lane.specs.Order.{InOrder}
+use Rattle.lane.proofs.OrderLaws.{refundable, closed-reload-keeps, window-for-fits, batch-most}
+use Rattle.lane.specs.Lane.{grantFast, openFor}
+use native.Mathlib.Omega.{arith}
 use borrow.Author.Needs.{needs}
 use Rattle.lane.proofs.lane.Lane.grant_fast.Statement.{statement}
 use Rattle.lane.proofs.lane.Lane.grant_fast.Tie as tie
-use Rattle.lane.proofs.lane.Lane.grant_fast.Reads as reads
-use Rattle.lane.proofs.lane.Lane.grant_fast.Lts as lts
-use Rattle.lane.proofs.lane.Lane.close_fast.Reads as close-fast-reads
-use Rattle.lane.proofs.lane.Lane.open_window.Reads as open-window-reads
-use Rattle.lane.proofs.lane.Lane.reload.Reads as reload-reads
-use Rattle.lane.proofs.lane.Lane.window_for.Reads as window-for-reads
-
-close-fast-requires : tie.Need-close-fast-requires
-close-fast-requires c κs = search needs
-
-reload-requires : tie.Need-reload-requires
-reload-requires c κs = search needs
 
 window-for-requires : tie.Need-window-for-requires
-window-for-requires c κs = ?
+window-for-requires c κs = (c .before .before .pre .0, rw (c .reload .ensures, c .before .close-fast .ensures) (closed-reload-keeps _ (c .before .before .pre .0 .most) _ (c .before .before .pre .1)))
 
 open-window-requires : tie.Need-open-window-requires
-open-window-requires c κs = ?
+open-window-requires c κs =
+    let k : InOrder (c .before .before .before .args .capacity) (c .before .reload .result) = rw (c .before .reload .ensures, c .before .before .close-fast .ensures) (closed-reload-keeps _ (c .before .before .before .pre .0 .most) _ (c .before .before .before .pre .1)) in
+    let w = window-for-fits _ (c .before .before .before .pre .0 .most) (c .before .before .before .args .budget) _ k in
+    rw (c .window-for .ensures) (w .0, omega (arith, w, batch-most (c .before .before .before .args .capacity)), omega (arith, w))
 
 returns : tie.Need-returns
-returns c = ?
+unfolding grantFast openFor
+returns c = cc
 
 pub grant-fast-spec : {M : Type 1} → statement M
 grant-fast-spec =
     tie.close
-    (tie.spec close-fast-requires reload-requires window-for-requires open-window-requires returns)
+    (tie.spec
+    (λ c κs. refundable _ (c .pre .0 .most) _ (c .pre .1))
+    (λ c κs. search needs)
+    window-for-requires
+    open-window-requires
+    returns)

@@ -1,36 +1,32 @@
+-- `lane::lane::Lane::poll` meets its contract.
+-- Assumes nothing.
+use Rattle.lane.proofs.OrderLaws.{refundable, refill-fills}
+use Rattle.lane.specs.Lane.{poll, pollRefilled}
+use mathlib.Core.Path.{_≡_, _∙_, ap, sym}
 use borrow.Author.Needs.{needs}
 use Rattle.lane.proofs.lane.Lane.poll.Statement.{statement}
 use Rattle.lane.proofs.lane.Lane.poll.Tie as tie
-use Rattle.lane.proofs.lane.Lane.poll.Reads as reads
-use Rattle.lane.proofs.lane.Lane.poll.Lts as lts
-use Rattle.lane.proofs.lane.Lane.poll_item.Reads as poll-item-reads
-use Rattle.lane.proofs.lane.Lane.refill.Reads as refill-reads
 
 refill-requires : tie.Need-refill-requires
-refill-requires c κs = search needs
-
-enum-known-found : tie.Need-enum-known-found
-enum-known-found c = search needs
-
-enum-known-lane : tie.Need-enum-known-lane
-enum-known-lane c = search needs
+refill-requires c κs = refundable _ (c .before .pre .0 .power .most) _ (c .before .pre .1)
 
 poll-item-requires : tie.Need-poll-item-requires
-poll-item-requires c κs = ?
+poll-item-requires c κs = (c .before .before .before .before .before .pre .0, refill-fills _ (c .before .before .before .before .before .pre .0 .power .most) _ (c .before .before .before .before .before .pre .1) _ (sym (c .before .before .before .refill .ensures) ∙ c .before .lane .given .1))
 
 returns : tie.Need-returns
-returns c = ?
+unfolding poll pollRefilled
+returns c = ap (pollRefilled (c .before .before .before .before .before .args .ring) (c .before .before .before .before .before .args .store .now) (c .before .before .before .before .before .args .fair)) (sym (c .before .found .given .1) ∙ c .before .before .before .refill .ensures)
 
 returns-2 : tie.Need-returns-2
-returns-2 c = ?
+unfolding poll pollRefilled
+returns-2 c = c .poll-item .ensures ∙ ap (pollRefilled (c .before .before .before .before .before .before .args .ring) (c .before .before .before .before .before .before .args .store .now) (c .before .before .before .before .before .before .args .fair)) (sym (c .before .before .lane .given .1) ∙ c .before .before .before .before .refill .ensures)
 
 pub poll-spec : {M : Type 1} → statement M
 poll-spec =
     tie.close
     (tie.spec
     refill-requires
-    enum-known-found
-    enum-known-lane
+    (λ c. search needs) (λ c. search needs)
     poll-item-requires
     returns
     returns-2)

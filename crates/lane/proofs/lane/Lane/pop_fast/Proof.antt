@@ -10,18 +10,14 @@ returns : tie.Need-returns
 unfolding popFast
 returns c = simp (eq-eqb _ _ (c .if1 .taken))
 
-item-at-requires : tie.Need-item-at-requires
-item-at-requires c κs = search needs
-
-after-requires : tie.Need-after-requires
-after-requires c κs = search needs
-
-sub-self : tie.Need-sub-self
-sub-self c = search needs
-
 returns-2 : tie.Need-returns-2
 unfolding popFast
 returns-2 c = simp (ne-eqb _ _ (c .before .before .before .if1 .left), c .before .before .item-at .ensures, c .before .after .ensures)
 
 pub pop-fast-spec : {M : Type 1} → statement M
-pop-fast-spec = tie.close (tie.spec returns item-at-requires after-requires sub-self returns-2)
+pop-fast-spec = tie.close (tie.spec
+    returns
+    (λ c κs. search needs)
+    (λ c κs. search needs)
+    (λ c. search needs)
+    returns-2)

@@ -1,28 +1,30 @@
+-- `lane::lane::Lane::refill` meets its contract.
+-- Assumes nothing.
+use Rattle.lane.proofs.OrderLaws.{refundable-closed}
+use Rattle.lane.specs.Lane.{refill, readyOrIdle, reload}
+use mathlib.Core.Path.{_≡_, _∙_, ap, sym}
+use borrow.Author.Tests.{eq-eqb, ne-eqb}
 use borrow.Author.Needs.{needs}
 use Rattle.lane.proofs.lane.Lane.refill.Statement.{statement}
 use Rattle.lane.proofs.lane.Lane.refill.Tie as tie
-use Rattle.lane.proofs.lane.Lane.refill.Reads as reads
-use Rattle.lane.proofs.lane.Lane.refill.Lts as lts
-use Rattle.lane.proofs.lane.Lane.close_fast.Reads as close-fast-reads
-use Rattle.lane.proofs.lane.Lane.reload.Reads as reload-reads
-use Rattle.lane.proofs.lane.Lane.settle_empty.Reads as settle-empty-reads
-
-close-fast-requires : tie.Need-close-fast-requires
-close-fast-requires c κs = search needs
-
-reload-requires : tie.Need-reload-requires
-reload-requires c κs = search needs
 
 settle-empty-requires : tie.Need-settle-empty-requires
-settle-empty-requires c κs = ?
+settle-empty-requires c κs = rw (c .before .before .reload .ensures, c .before .before .before .close-fast .ensures) (refundable-closed _ (c .before .before .before .before .pre))
 
 returns : tie.Need-returns
-returns c = ?
+unfolding refill readyOrIdle
+returns c = (simp (eq-eqb _ _ (c .before .if1 .taken), c .settle-empty .ensures)) ∙ ap readyOrIdle (c .before .before .before .reload .ensures ∙ ap reload (c .before .before .before .before .close-fast .ensures))
 
 returns-2 : tie.Need-returns-2
-returns-2 c = ?
+unfolding refill readyOrIdle
+returns-2 c = (simp (ne-eqb _ _ (c .if1 .left))) ∙ ap readyOrIdle (c .before .before .reload .ensures ∙ ap reload (c .before .before .before .close-fast .ensures))
 
 pub refill-spec : {M : Type 1} → statement M
 refill-spec =
     tie.close
-    (tie.spec close-fast-requires reload-requires settle-empty-requires returns returns-2)
+    (tie.spec
+    (λ c κs. search needs)
+    (λ c κs. search needs)
+    settle-empty-requires
+    returns
+    returns-2)

@@ -7,12 +7,6 @@ use borrow.Author.Needs.{needs}
 use Rattle.lane.proofs.lane.Lane.release_at_batch.Statement.{statement}
 use Rattle.lane.proofs.lane.Lane.release_at_batch.Tie as tie
 
-release-batch-requires : tie.Need-release-batch-requires
-release-batch-requires c κs = search needs
-
-release-requires : tie.Need-release-requires
-release-requires c κs = search needs
-
 returns : tie.Need-returns
 unfolding releaseAtBatch
 returns c = simp (eq-eqb _ _ (c .before .if1 .taken ∙ c .before .before .before .release-batch .ensures), c .release .ensures)
@@ -23,4 +17,8 @@ returns-2 c = simp (ne-eqb _ _ (λ e. c .if1 .left (e ∙ sym (c .before .before
 
 pub release-at-batch-spec : {M : Type 1} → statement M
 release-at-batch-spec =
-    tie.close (tie.spec release-batch-requires release-requires returns returns-2)
+    tie.close (tie.spec
+    (λ c κs. search needs)
+    (λ c κs. search needs)
+    returns
+    returns-2)

@@ -7,19 +7,17 @@ use borrow.Author.Needs.{needs}
 use Rattle.lane.proofs.lane.Lane.release_pending.Statement.{statement}
 use Rattle.lane.proofs.lane.Lane.release_pending.Tie as tie
 
-close-fast-requires : tie.Need-close-fast-requires
-close-fast-requires c κs = search needs
-
 returns : tie.Need-returns
 unfolding releasePending releaseAny
 returns c = (simp (eq-eqb _ _ (c .if1 .taken))) ∙ ap releaseAny (c .before .before .close-fast .ensures)
-
-release-requires : tie.Need-release-requires
-release-requires c κs = search needs
 
 returns-2 : tie.Need-returns-2
 unfolding releasePending releaseAny
 returns-2 c = (simp (ne-eqb _ _ (c .before .if1 .left), c .release .ensures)) ∙ ap releaseAny (c .before .before .before .close-fast .ensures)
 
 pub release-pending-spec : {M : Type 1} → statement M
-release-pending-spec = tie.close (tie.spec close-fast-requires returns release-requires returns-2)
+release-pending-spec = tie.close (tie.spec
+    (λ c κs. search needs)
+    returns
+    (λ c κs. search needs)
+    returns-2)

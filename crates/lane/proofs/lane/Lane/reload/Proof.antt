@@ -6,9 +6,6 @@ use borrow.Author.Needs.{needs}
 use Rattle.lane.proofs.lane.Lane.reload.Statement.{statement}
 use Rattle.lane.proofs.lane.Lane.reload.Tie as tie
 
-prefetch-requires : tie.Need-prefetch-requires
-prefetch-requires c κs = search needs
-
 returns : tie.Need-returns
 unfolding reload
 returns c = simp (eq-eqb _ _ (c .before .if1 .taken), c .prefetch .ensures)
@@ -18,4 +15,7 @@ unfolding reload
 returns-2 c = simp (ne-eqb _ _ (c .if1 .left))
 
 pub reload-spec : {M : Type 1} → statement M
-reload-spec = tie.close (tie.spec prefetch-requires returns returns-2)
+reload-spec = tie.close (tie.spec
+    (λ c κs. search needs)
+    returns
+    returns-2)

@@ -6,12 +6,11 @@ use borrow.Author.Needs.{needs}
 use Rattle.lane.proofs.lane.Lane.settle_empty.Statement.{statement}
 use Rattle.lane.proofs.lane.Lane.settle_empty.Tie as tie
 
-release-pending-requires : tie.Need-release-pending-requires
-release-pending-requires c κs = search needs
-
 returns : tie.Need-returns
 unfolding settleEmpty emptied
 returns c = ap emptied (c .before .before .release-pending .ensures)
 
 pub settle-empty-spec : {M : Type 1} → statement M
-settle-empty-spec = tie.close (tie.spec release-pending-requires returns)
+settle-empty-spec = tie.close (tie.spec
+    (λ c κs. search needs)
+    returns)

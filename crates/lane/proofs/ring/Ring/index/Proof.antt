@@ -6,14 +6,14 @@ use native.Mathlib.Nat.{mod-lt}
 use Rattle.lane.proofs.ring.Ring.index.Statement.{statement}
 use Rattle.lane.proofs.ring.Ring.index.Tie as tie
 
-sub-result : tie.Need-sub-result
-sub-result c = omega (arith, some _ (c .pre .0))
-
 add-result : tie.Need-add-result
-add-result c = omega (arith, masked _ (c .pre .0) (c .args .cursor), mod-lt (c .args .cursor) (some _ (c .pre .0)))
+add-result c = omega (arith, masked _ (c .before .before .pre .0) (c .before .before .args .cursor), mod-lt (c .before .before .args .cursor) (some _ (c .before .before .pre .0)))
 
 returns : tie.Need-returns
-returns c = omega (arith, masked _ (c .pre .0) (c .args .cursor), mod-lt (c .args .cursor) (some _ (c .pre .0)))
+returns c = omega (arith, masked _ (c .before .before .pre .0) (c .before .before .args .cursor), mod-lt (c .before .before .args .cursor) (some _ (c .before .before .pre .0)))
 
 pub index-spec : {M : Type 1} → statement M
-index-spec = tie.close (tie.spec sub-result add-result returns)
+index-spec = tie.close (tie.spec
+    (λ c. omega (arith, some _ (c .before .pre .0)))
+    add-result
+    returns)

@@ -10,15 +10,13 @@ returns : tie.Need-returns
 unfolding pop
 returns c = simp (eq-eqb _ _ (c .if1 .taken))
 
-item-at-requires : tie.Need-item-at-requires
-item-at-requires c κs = search needs
-
-after-requires : tie.Need-after-requires
-after-requires c κs = search needs
-
 returns-2 : tie.Need-returns-2
 unfolding pop
 returns-2 c = simp (ne-eqb _ _ (c .before .before .if1 .left), c .before .item-at .ensures, c .after .ensures)
 
 pub pop-spec : {M : Type 1} → statement M
-pop-spec = tie.close (tie.spec returns item-at-requires after-requires returns-2)
+pop-spec = tie.close (tie.spec
+    returns
+    (λ c κs. search needs)
+    (λ c κs. search needs)
+    returns-2)

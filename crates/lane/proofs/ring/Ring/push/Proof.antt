@@ -7,27 +7,9 @@ use borrow.Author.Needs.{needs}
 use Rattle.lane.proofs.ring.Ring.push.Statement.{statement}
 use Rattle.lane.proofs.ring.Ring.push.Tie as tie
 
-distance-requires : tie.Need-distance-requires
-distance-requires c κs = search needs
-
 returns : tie.Need-returns
 unfolding push
 returns c = simp (eq-eqb _ _ (sym (c .before .before .distance .ensures) ∙ c .if1 .taken))
-
-index-requires : tie.Need-index-requires
-index-requires c κs = search needs
-
-mul-store : tie.Need-mul-store
-mul-store c = search needs
-
-slice-write-store : tie.Need-slice-write-store
-slice-write-store c = search needs
-
-after-requires : tie.Need-after-requires
-after-requires c κs = search needs
-
-same-length : tie.Need-same-length
-same-length c = search needs
 
 returns-2 : tie.Need-returns-2
 unfolding push
@@ -37,11 +19,10 @@ pub push-spec : {M : Type 1} → statement M
 push-spec =
     tie.close
     (tie.spec
-    distance-requires
+    (λ c κs. search needs)
     returns
-    index-requires
-    mul-store
-    slice-write-store
-    after-requires
-    same-length
+    (λ c κs. search needs)
+    (λ c. search needs) (λ c. search needs)
+    (λ c κs. search needs)
+    (λ c. search needs)
     returns-2)
