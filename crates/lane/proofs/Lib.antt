@@ -7,3 +7,4 @@ pub mod CountOrder
 pub mod OrderLaws
 pub mod TableLaws
 pub mod RingLaws
+pub mod HeldLaws

@@ -7,15 +7,13 @@ use Prim.Native.Nat.{ℕ, _+_, _-_, _≤_, _<_, _^_, min}
 use native.Mathlib.Omega.{arith}
 use borrow.Author.Tests.{eqb-true, eqb-false}
 use lib.Dec.{eqb}
-use lib.ListN.{set}
 use Rattle.model.specs.Capacity.{releaseBatch}
 use Rattle.lane.specs.Cursor.{after, distance, Capacity}
 use Rattle.lane.specs.Lane.{withCursors, withCounts, prefetch, reload, released, headOn, closeFast, windowFor, openWindow, openFor, grantFast, windowPop, popFast, releaseAtBatch, releaseAny, releasePending, settled, emptied, settleEmpty, readyOrIdle, refill, reloadIsEmpty, charged, addBurst, endBurst, targeted, popTargeted, polled, pollItem, pollRefilled, poll, fairWindow, burstOfWindow, fairly, popFair, endFullBurst, chunkLimit, chunkMoved, moveChunk, movedInto, sent, pushAndFlush, newLane}
 use Rattle.lane.specs.Order.{Cursors, Counts, InOrder, Filled, Refundable, sentLane, poppedLane, refilledLane, polledLane}
-use Rattle.lane.specs.Ring.{place, push, itemAt}
+use Rattle.lane.specs.Ring.{push, itemAt}
 use Rattle.model.specs.declared.LaneKey.{LaneKey}
 use Rattle.lane.specs.declared.ring.Ring.{Ring}
-use Rattle.lane.specs.declared.ring.Push.the-variants.{Pushed, Full}
 use Rattle.lane.specs.declared.lane.Lane.{Lane}
 use Rattle.lane.specs.declared.lane.Popped.{Popped}
 use Rattle.lane.specs.declared.lane.Popped.the-variants as Popped
@@ -232,7 +230,7 @@ module _ (C : ℕ) (small : C ≤ 65536) (l : Lane) (o : InOrder C l) where
 
 -- credit at the batch leaves window and burst as they are
 module _ (C : ℕ) (l : Lane) where
-  at-batch-is : (P : Lane → Type 0) → P l → P (released l) → P (releaseAtBatch C l .lane)
+  pub at-batch-is : (P : Lane → Type 0) → P l → P (released l) → P (releaseAtBatch C l .lane)
   unfolding releaseAtBatch
   at-batch-is P x y =
       cond-holds (λ (r : Released). P (r .lane)) (eqb (l .unreleased) (releaseBatch C))
@@ -356,14 +354,14 @@ module _ (ring : Ring) (small : ring .capacity ≤ 65536) (store : List ℕ) (it
   unfolding pushAndFlush sent push
   push-and-flush-keeps = go (eqb (distance (l .tail) (l .released)) (ring .capacity)) refl
     where
-      go : (t : Bool) → eqb (distance (l .tail) (l .released)) (ring .capacity) ≡ t
-          → InOrder (ring .capacity) (sentLane ((sent l (cond t (Full, store) (Pushed (after (l .tail) 1), set store (place ring (l .tail)) item))) .0))
-      go true e = o
+      go : (t : Bool) → eqb (distance (l .tail) (l .released)) (ring .capacity) ≡ t → InOrder (ring .capacity) (sentLane ((pushAndFlush ring store item l) .0))
+      go true e = rw e o
       go false e =
-          record {
+          rw e
+          (record {
             cursors = tail-goes-on (ring .capacity) (l .tail) (l .released) (l .head) (l .known) small (o .cursors) (eqb-false (distance (l .tail) (l .released)) (ring .capacity) e);
             counts = o .counts;
-          }
+          })
 
 -- a lane newly registered is in order
 pub new-lane-in-order : (C : ℕ) → Capacity C → (key : LaneKey) (cursor : ℕ) → cursor < 2 ^ 64 → InOrder C (newLane key cursor)

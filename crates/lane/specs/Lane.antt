@@ -89,6 +89,10 @@ newLane key cursor =
       living = 1;
     }
 
+-- what a lane holds: "its accepted sends of both kinds not yet handed out, oldest next"
+unfoldable pub held : Ring → List ℕ → Lane → List ℕ
+held ring store l = items ring store (l .head) (distance (l .tail) (l .head))
+
 -- THE RING'S TWO ENDS
 
 -- a send: "push refuses exactly if .."; else the item is stored and published
