@@ -24,9 +24,10 @@ use Rattle.model.specs.Order.{Ordered}
 use Rattle.model.specs.Ledger.{atOpening, Lane, Ledger, changeLane, setClosed, addRegistered, applyCall, note}
 use Rattle.model.specs.Closed.{NoneAfterClose}
 use Rattle.model.proofs.Counting.{Same, equal, other, same?, self, no}
-use Rattle.model.proofs.OrderKept.{front-registered, opened-ordered}
+use Rattle.model.proofs.OrderKept.{front-registered}
 use Rattle.model.proofs.Quiet.{Quiet, stays, goes, Quietly, trans, poll, poll-quiet, poll-ordered, release-all-quiet, settle-empty-quiet}
 use Rattle.model.proofs.Moves.{Silent, Moves, stays-put, credits, registers-new, registers-old, sends, posts, drops-it, pauses-it, resumes, resumes-not, closes-it, polls-all, shuts-it, takes, stops, aims, aims-none, Chain, stay, move, trace-chain}
+use Rattle.model.proofs.Opened.{opened-ordered}
 use Rattle.model.proofs.MovesKeepOrder.{has-lane-parts, move-ordered}
 use Rattle.model.proofs.LedgerLaws.{alike, unlike, keys?}
 use Rattle.model.proofs.Demand2.{queue-lane-slot, queue-lane-parts, give-item-slot, opens-as}
@@ -74,7 +75,7 @@ gone-put k s u x m at i o g = gone-older k s u i (subst (λ (l : Slot). Older (s
 move-gone : (k : LaneKey) {s u : State} {t : Tick} → Gone k s → Moves s t u → Gone k u
 move-gone k g (stays-put s c a h) = g
 move-gone k g (credits s c a h) = gone-quiet k s _ (release-all-quiet s) g
-move-gone k g (registers-new s m e) = gone-put k s _ (s .issued) (newLane (s .firstGeneration) (s .slotOf (s .issued))) (λ y. refl) (omega arith) (λ p. absurd (omega (arith, g .low))) g
+move-gone k g (registers-new s m e lt) = gone-put k s _ (s .issued) (newLane (s .firstGeneration) (s .slotOf (s .issued))) (λ y. refl) (omega arith) (λ p. absurd (omega (arith, g .low))) g
 move-gone k g (registers-old s m x f e) =
     gone-put k s _ x (newLane (s .slotOf x .generation + 1) (s .slotOf x)) (λ y. refl) (omega arith) (λ p. record { gens = omega arith; regs = λ q. inr (omega arith) }) g
 move-gone k g (sends s j v w a r nf) = gone-put k s _ (j .slot) _ (λ y. refl) (omega arith) (λ p. older-same (s .slotOf (j .slot)) _ refl refl) g
@@ -116,7 +117,7 @@ move-silent : (k : LaneKey) {s u : State} {t : Tick} → Ordered s → Gone k s 
 unfolding ofLane
 move-silent k o g (stays-put s c a h) = refl
 move-silent k o g (credits s c a h) = refl
-move-silent k o g (registers-new s m e) = refl
+move-silent k o g (registers-new s m e lt) = refl
 move-silent k o g (registers-old s m x f e) = refl
 move-silent k o g (sends s j v w a r nf) = refl
 move-silent k o g (posts s j v w a r nf) = refl
@@ -160,14 +161,14 @@ close-gone i o (closes-it s j c) =
     let x = i .key .slot in
     let p = has-lane-parts s (i .key) c in
     let e : (retireLane x (withQueue (without x (s .queue)) s)) .slotOf x ≡ retired (s .slotOf x) = retire-lane-slot x s _ x ∙ rw (self x) in
-    record { low = omega (arith, o .fine x .below (p .0), retire-lane-issued x (withQueue (without x (s .queue)) s)); least = omega (arith, ap (λ (l : Slot). l .generation) e, p .1); more = λ r. absurd (no r (ap (λ (l : Slot). l .registered) e)) }
+    record { low = omega (arith, o .each-slot x .registered-issued (p .0), retire-lane-issued x (withQueue (without x (s .queue)) s)); least = omega (arith, ap (λ (l : Slot). l .generation) e, p .1); more = λ r. absurd (no r (ap (λ (l : Slot). l .registered) e)) }
 
 pub none-after-close : NoneAfterClose theRules
 unfolding NoneAfterClose
 none-after-close o lent a calls before rest i e =
     let s = (openingOutcome o lent) .1 .1 in
     let p = at-point (λ L u. Ordered u) (λ L u v t h m. move-ordered h m) atOpening s _ before (ends (Control (CloseLane i)) Done ∷ rest)
-    (rw (opens-as o lent) (opened-ordered o)) (rw e at (trace-chain s calls)) in
+    (rw (opens-as o lent) (opened-ordered o lent a)) (rw e at (trace-chain s calls)) in
     go (p .1) (p .2)
   where
     go : {u w : State} → Ordered u → Chain u (ends (Control (CloseLane i)) Done ∷ rest) w → countTicks (ofLane (i .key)) rest ≡ 0

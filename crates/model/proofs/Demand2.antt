@@ -30,9 +30,10 @@ use Rattle.model.specs.Rules.{theRules}
 use Rattle.model.specs.Order.{Ordered}
 use Rattle.model.specs.Demand2.{outOf, into, shuts, values, Demand2}
 use Rattle.model.proofs.Counting.{Same, equal, other, same?, self, no, both-true}
-use Rattle.model.proofs.OrderKept.{opened-ordered, first-own, front-registered}
+use Rattle.model.proofs.OrderKept.{first-own, front-registered}
 use Rattle.model.proofs.Quiet.{Quiet, stays, goes, Quietly, trans, poll, poll-quiet, poll-ordered, release-all-quiet, settle-empty-quiet}
 use Rattle.model.proofs.Moves.{Moves, stays-put, credits, registers-new, registers-old, sends, posts, drops-it, pauses-it, resumes, resumes-not, closes-it, polls-all, shuts-it, takes, stops, aims, aims-none, Chain, stay, move, trace-chain}
+use Rattle.model.proofs.Opened.{opened-ordered}
 use Rattle.model.proofs.MovesKeepOrder.{has-lane-parts, unissued, move-ordered}
 use Rattle.model.proofs.LedgerLaws.{alike, unlike, keys?}
 
@@ -165,9 +166,9 @@ pub move-kept : (k : LaneKey) {s u : State} {t : Tick} → Ordered s → shuts k
 unfolding Kept outOf into shuts accepted
 move-kept k o z (stays-put s c a h) = kept-quiet k s s c a (h .sends-none k) refl
 move-kept k o z (credits s c a h) = kept-quiet k s _ c a (h .sends-none k) (ring-quiet s _ k (release-all-quiet s))
-move-kept k o z (registers-new s m e) = rw append-nil (ring-put s _ (s .issued) (newLane (s .firstGeneration) (s .slotOf (s .issued))) k (λ y. refl) (λ g. empty-ring (newLane (s .firstGeneration) (s .slotOf (s .issued))) g refl ∙ sym (ring-none (s .slotOf (s .issued)) g (unissued s o))))
+move-kept k o z (registers-new s m e lt) = rw append-nil (ring-put s _ (s .issued) (newLane (s .firstGeneration) (s .slotOf (s .issued))) k (λ y. refl) (λ g. empty-ring (newLane (s .firstGeneration) (s .slotOf (s .issued))) g refl ∙ sym (ring-none (s .slotOf (s .issued)) g (unissued s o))))
 move-kept k o z (registers-old s m x f e) = rw append-nil (ring-put s _ x (newLane (s .slotOf x .generation + 1) (s .slotOf x)) k (λ y. refl)
-    (λ g. empty-ring (newLane (s .slotOf x .generation + 1) (s .slotOf x)) g refl ∙ sym (ring-none (s .slotOf x) g (o .fine x .free-slot (omega (arith, ap (count x) e, first-own x f))))))
+    (λ g. empty-ring (newLane (s .slotOf x .generation + 1) (s .slotOf x)) g refl ∙ sym (ring-none (s .slotOf x) g (o .each-slot x .free-unregistered (omega (arith, ap (count x) e, first-own x f))))))
 move-kept k o z (sends s j v w a r nf) =
     let g = sender-parts s j a in
     kept-send k j s _ (j .slot) v (signalled (pushed v (s .slotOf (j .slot)))) refl (rings s _ (j .slot) _ j k (λ y. refl) refl r (g .1) r (g .1))
@@ -238,7 +239,7 @@ pub demand2 : Demand2 theRules ringOf
 unfolding Demand2 opened vacant
 demand2 o lent a calls k z =
     let s = (openingOutcome o lent) .1 .1 in
-    let c = chain-kept k (trace-chain s calls) (rw (opens-as o lent) (opened-ordered o)) z in
+    let c = chain-kept k (trace-chain s calls) (rw (opens-as o lent) (opened-ordered o lent a)) z in
     c ∙ ap (λ (l : List ℕ). l ++ values (into k) (trace theRules s calls)) (ap (λ (t : State). ringOf t k) (opens-as o lent) ∙ ring-at (opened o) k ∙ ring-none ((opened o) .slotOf (k .slot)) (k .generation) (closed-slot o (k .slot)))
   where
     closed-slot : (o : Opening) (x : ℕ) → (opened o) .slotOf x .registered ≡ false

@@ -20,10 +20,10 @@ use Rattle.model.specs.Ledger.{Lane, Ledger, atOpening, note, ledgerAfte
 use Rattle.model.specs.Stretch.{endsStretch, stretch, looks, looksInVain, untargeted, notFair, mostLive, groupsAt}
 use Rattle.model.specs.Demand3.{Promise, Demand3}
 use Rattle.model.proofs.Counting.{no, both-true, both-3, not-true}
-use Rattle.model.proofs.OrderKept.{opened-ordered}
 use Rattle.model.proofs.Quiet.{Hold, poll}
 use Rattle.model.proofs.WaitInReceive.{Wait, On, Polled, polled-to, poll-on, wait-start}
 use Rattle.model.proofs.Moves.{Moves, stays-put, credits, registers-new, registers-old, sends, posts, drops-it, pauses-it, resumes, resumes-not, closes-it, polls-all, shuts-it, takes, stops, aims, aims-none, Chain, stay, move, trace-chain}
+use Rattle.model.proofs.Opened.{opened-ordered}
 use Rattle.model.proofs.MovesKeepOrder.{has-lane-parts, move-ordered}
 use Rattle.model.proofs.LedgerLaws.{look}
 use Rattle.model.proofs.StretchBounds.{Under, under-most, under-passes, groups-up}
@@ -96,7 +96,7 @@ move-sees : {E R : ℕ} {K : LaneKey} {k : ℕ} {s u : State} {t : Tick} → On 
 unfolding looksInVain looks
 move-sees w (stays-put s c a h) = h .sees
 move-sees w (credits s c a h) = h .sees
-move-sees w (registers-new s m e) = refl
+move-sees w (registers-new s m e lt) = refl
 move-sees w (registers-old s m x f e) = refl
 move-sees w (sends s k v i a r nf) = refl
 move-sees w (posts s k v i a r nf) = refl
@@ -198,5 +198,5 @@ unfolding Demand3
 demand3 o lent a calls before rest e K w =
     let s = (openingOutcome o lent) .1 .1 in
     let p = at-point (λ L u. Ordered u × Agrees L u) (λ L u v t i m. (move-ordered (i .0) m, move-agrees L (i .0) (i .1) m)) atOpening s _ before rest
-    (rw (opens-as o lent) (opened-ordered o), rw (opens-as o lent) (opened-agrees o)) (rw e at (trace-chain s calls)) in
+    (rw (opens-as o lent) (opened-ordered o lent a), rw (opens-as o lent) (opened-agrees o)) (rw e at (trace-chain s calls)) in
     promise (ledgerAfter atOpening before) (p .0) _ rest K (p .1 .0) (p .1 .1) (p .2) w

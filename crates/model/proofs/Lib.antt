@@ -4,6 +4,7 @@ pub mod Quiet
 pub mod Ahead
 pub mod WaitInReceive
 pub mod Moves
+pub mod Opened
 pub mod MovesKeepOrder
 pub mod LedgerLaws
 pub mod StretchBounds
@@ -19,6 +20,7 @@ pub mod Closed
 pub mod Words
 pub mod Pages
 pub mod Capacity
+pub mod InOrder
 pub mod Chunks
 pub mod Examples
 pub mod BoundMet

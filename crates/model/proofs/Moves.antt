@@ -1,11 +1,12 @@
 -- A run as a chain of small moves, each with what it needs to know; a point may lie between any two.
 -- Assumes nothing.
 use mathlib.Core.Path.{_≡_, refl, ap}
-use mathlib.Core.Bool.{Bool, true, false}
+use mathlib.Core.Bool.{Bool, true, false, not}
 use mathlib.Core.List.{List, [], _∷_, _++_, map}
-use Prim.Native.Nat.{ℕ, zero, suc, _+_}
+use Prim.Native.Nat.{ℕ, zero, suc, _+_, _<_}
 use native.Mathlib.Omega.{arith}
 use lib.ListN.{length}
+use borrow.Author.Tests.{leb-false}
 use lib.Dec.{eqb, leb}
 use Rattle.model.specs.declared.LaneKey.{LaneKey}
 use Rattle.model.specs.declared.LaneId.{LaneId}
@@ -20,7 +21,7 @@ use Rattle.model.specs.declared.Call.the-variants.{Sender, Receive, Cont
 use Rattle.model.specs.declared.Refusal.{Refusal}
 use Rattle.model.specs.declared.Answer.{Answer}
 use Rattle.model.specs.declared.Answer.the-variants.{Done, Registered, Taken, Item, Items, Empty, Disconnected, Refused}
-use Rattle.model.specs.Lists.{if, both, either, keep, from, without}
+use Rattle.model.specs.Lists.{nonEmpty, if, both, either, keep, from, without}
 use Rattle.model.specs.State.{State, mayQueue, registeredLanes, keyOf, senderLives, hasLane, hasLaneId, isFull, livingSenders}
 use Rattle.model.specs.Changes.{withQueue, withFree, withBudget, withIssued, withOpen, put, newLane, signalled, pushed, senderDropped, popped, withPaused, credited}
 use Rattle.model.specs.Ready.{collectReady}
@@ -53,7 +54,7 @@ pub data How : Bool → ReceiveCall → Type 0 where
 pub data Moves : State → Tick → State → Type 0 where
   stays-put : (s : State) (c : Call) (a : Answer) → Silent c a → Moves s (ends c a) s
   credits : (s : State) (c : Call) (a : Answer) → Silent c a → Moves s (ends c a) (releaseAll s)
-  registers-new : (s : State) (m : ℕ) → s .free ≡ []
+  registers-new : (s : State) (m : ℕ) → s .free ≡ [] → s .issued < s .slots
       → Moves s (ends (Sender (RegisterSender m)) (Registered record { slot = s .issued; generation = s .firstGeneration })) (withIssued (suc (s .issued)) (put (s .issued) (newLane (s .firstGeneration) (s .slotOf (s .issued))) s))
   registers-old : (s : State) (m x : ℕ) (f : List ℕ) → s .free ≡ x ∷ f
       → Moves s (ends (Sender (RegisterSender m)) (Registered record { slot = x; generation = s .slotOf x .generation + 1 })) (withFree f (put x (newLane (s .slotOf x .generation + 1) (s .slotOf x)) s))
@@ -126,11 +127,11 @@ has-lane-of-id s i e = both-true (eqb (i .channel) (s .channel)) (hasLane s (i .
 sender-move : (s : State) (c : SenderCall) → Moves s (ends (Sender c) ((senderOutcome s c) .1 .0)) ((senderOutcome s c) .1 .1)
 unfolding senderOutcome registerSender trySend trySendUnsignaled dropSender issueSlot olderLives
 sender-move s (RegisterSender m) =
-    unless-law (λ o. Moves s (ends (Sender (RegisterSender m)) (o .1 .0)) (o .1 .1)) _ s _ (λ n. stays-put s _ _ (turned-away _ n)) (λ p. go (s .free) refl)
+    unless-law (λ o. Moves s (ends (Sender (RegisterSender m)) (o .1 .0)) (o .1 .1)) _ s _ (λ n. stays-put s _ _ (turned-away _ n)) (λ p. go (s .free) refl (p .1 .1 .0))
   where
-    go : (f : List ℕ) → s .free ≡ f → Moves s (ends (Sender (RegisterSender m)) ((issueSlot f s) .1 .0)) ((issueSlot f s) .1 .1)
-    go [] e = registers-new s m e
-    go (x ∷ f) e = registers-old s m x f e
+    go : (f : List ℕ) → s .free ≡ f → both (not (nonEmpty f)) (leb (s .slots) (s .issued)) ≡ false → Moves s (ends (Sender (RegisterSender m)) ((issueSlot f s) .1 .0)) ((issueSlot f s) .1 .1)
+    go [] e h = registers-new s m e (omega (arith, leb-false (s .slots) (s .issued) h))
+    go (x ∷ f) e h = registers-old s m x f e
 sender-move s (TrySend k v) =
     unless-law (λ o. Moves s (ends (Sender (TrySend k v)) (o .1 .0)) (o .1 .1)) _ s _ (λ n. stays-put s _ _ (turned-away _ n))
     (λ p. sends s k v _ (not-false (p .0)) (both-true (s .isOpen) (s .slotOf (k .slot) .registered) (not-false (p .1 .0)) .1) (p .1 .1 .0))
@@ -292,7 +293,7 @@ receive-chain s TryRecvFair = unless-law (Receives s TryRecvFair) _ s _ (refusin
 receive-chain s (TryRecvFrom i) = unless-law (Receives s (TryRecvFrom i)) _ s _ (refusing s (TryRecvFrom i)) (λ p. take-from-chain s i (has-lane-of-id s i (not-false (p .1 .0))))
 receive-chain s (TryRecvBatchInto m n) = unless-law (Receives s (TryRecvBatchInto m n)) _ s _ (refusing s (TryRecvBatchInto m n)) (λ p. batch-chain m n s)
 
-call-chain : (s : State) (c : Call) → Chain s (ticks theRules s c) ((outcome s c) .1 .1)
+pub call-chain : (s : State) (c : Call) → Chain s (ticks theRules s c) ((outcome s c) .1 .1)
 unfolding ticks handed outcome
 call-chain s (Sender c) = move (sender-move s c) (stay _)
 call-chain s (Control c) = move (control-move s c) (stay _)

@@ -7,22 +7,20 @@ use mathlib.Core.List.{List, [], _∷_, _++_}
 use Prim.Native.Nat.{ℕ, zero, suc, _+_, _-_, _≤_, _<_}
 use native.Mathlib.Omega.{arith}
 use lib.Dec.{eqb, leb, ltb}
-use borrow.Author.Tests.{leb-false, ltb-true}
-use Rattle.model.specs.declared.Opening.{Opening}
+use borrow.Author.Tests.{eqb-false, leb-false, ltb-true}
 use Rattle.model.specs.Lists.{if, both, either, count, keep, from, nonEmpty}
-use Rattle.model.specs.State.{Slot, State, vacant, queued, mayQueue}
+use Rattle.model.specs.State.{Slot, State, queued, mayQueue}
 use Rattle.model.specs.Changes.{withQueue, withBudget, put, signalled, popped, settledEmpty, retired, unmarked}
 use Rattle.model.specs.Ready.{groupOf, groupsIn, marks, isReady, collectMarks, collectGroup, startGroup, groupsRound, collectFirst, collectEach, collectReadyGroup, collectReady}
 use Rattle.model.specs.Turn.{retireLane, retireLaneIf, settleEmpty, refill, beforeNextTurn, runDownFrom, unreleasedAfterOne, giveItem, giveOldest, giveFront, collectIfDue, runDown, collectIfNoneQueued, polled, takeOne, takeFair}
 use Rattle.model.specs.Receive.{retireEmptyPausedLanes, releaseAll}
-use Rattle.model.specs.Opening.{opened}
 use Rattle.model.specs.Order.{SlotOrdered, SlotsOrdered, Ordered}
 use Rattle.model.proofs.Counting.{Same, equal, other, same?, same-self, self, no, both-true, not-true, count-append, keep-in, keep-out, from-once, from-in, unqueued-zero, both-3}
 
 -- a registered lane is not free
 pub not-free : {y i n m : ℕ} {l : Slot} → SlotOrdered y i n m l → l .registered ≡ true → m ≡ 0
 not-free {m = zero} o r = refl
-not-free {m = suc m} o r = absurd (no r (o .free-slot (omega arith)))
+not-free {m = suc m} o r = absurd (no r (o .free-unregistered (omega arith)))
 
 -- one slot changes
 pub one-slot : (s : State) (x : ℕ) (l : Slot) (q f : List ℕ) → SlotsOrdered (s .issued) (s .queue) (s .free) (s .slotOf)
@@ -54,9 +52,10 @@ first-own x q = omega (arith, same-self x)
 pub retire-lane-ordered : (x : ℕ) (s : State) → Ordered s → s .slotOf x .registered ≡ true → count x (s .queue) ≡ 0 → Ordered (retireLane x s)
 unfolding retireLane
 retire-lane-ordered x s o r z = record {
-  fine = one-slot s x (retired (s .slotOf x)) (s .queue) _ (o .fine) (λ y d. refl) (go (eqb (s .slotOf x .generation) 18446744073709551615)) (own (eqb (s .slotOf x .generation) 18446744073709551615));
-  small = o .small;
-  in-groups = o .in-groups;
+  each-slot = one-slot s x (retired (s .slotOf x)) (s .queue) _ (o .each-slot) (λ y d. refl) (go (eqb (s .slotOf x .generation) 18446744073709551615)) (own (eqb (s .slotOf x .generation) 18446744073709551615) refl);
+  budget-most = o .budget-most;
+  cursor-most = o .cursor-most;
+  sizes = o .sizes;
 }
   where
     go : (b : Bool) (y : ℕ) → x ≢ y → count y (if b (s .free) (x ∷ s .free)) ≡ count y (s .free)
@@ -64,20 +63,27 @@ retire-lane-ordered x s o r z = record {
     go false y d = first-other x y (s .free) d
 
     times : (b : Bool) → count x (if b (s .free) (x ∷ s .free)) ≤ 1
-    times true = omega (arith, not-free (o .fine x) r)
-    times false = omega (arith, not-free (o .fine x) r, first-own x (s .free))
+    times true = omega (arith, not-free (o .each-slot x) r)
+    times false = omega (arith, not-free (o .each-slot x) r, first-own x (s .free))
 
-    own : (b : Bool) → SlotOrdered x (s .issued) (count x (s .queue)) (count x (if b (s .free) (x ∷ s .free))) (retired (s .slotOf x))
-    own b = record {
-      once = omega arith;
-      once-free = times b;
-      in-registered = λ h. absurd (omega arith);
-      in-unpaused = λ h. refl;
+    last : (b : Bool) → eqb (s .slotOf x .generation) 18446744073709551615 ≡ b → 1 ≤ count x (if b (s .free) (x ∷ s .free)) → s .slotOf x .generation ≢ 18446744073709551615
+    last true e h = absurd (omega (arith, not-free (o .each-slot x) r))
+    last false e h = eqb-false _ _ e
+
+    own : (b : Bool) → eqb (s .slotOf x .generation) 18446744073709551615 ≡ b → SlotOrdered x (s .issued) (count x (s .queue)) (count x (if b (s .free) (x ∷ s .free))) (retired (s .slotOf x))
+    own b e = record {
+      queued-once = omega arith;
+      free-once = times b;
+      queued-registered = λ h. absurd (omega arith);
+      queued-unpaused = λ h. refl;
       is-marked = λ h p q z. absurd (no h refl);
-      below = λ h. absurd (no h refl);
-      below-free = λ h. o .fine x .below r;
-      free-slot = λ h. refl;
-      room = o .fine x .room;
+      registered-issued = λ h. absurd (no h refl);
+      free-issued = λ h. o .each-slot x .registered-issued r;
+      free-unregistered = λ h. refl;
+      burst-most = λ h. absurd (no h refl);
+      living-issued = o .each-slot x .living-issued;
+      marked-issued = o .each-slot x .marked-issued;
+      free-generation = last b e;
     }
 
 pub retire-lane-if-ordered : (b : Bool) (x : ℕ) (s : State) → Ordered s → (b ≡ true → s .slotOf x .registered ≡ true) → count x (s .queue) ≡ 0 → Ordered (retireLaneIf b x s)
@@ -92,23 +98,27 @@ unfolding settleEmpty
 settle-empty-ordered x q s o r c z =
     retire-lane-if-ordered (not (s .slotOf x .living)) x (withQueue q (put x (settledEmpty (s .slotOf x)) s))
     record {
-      fine = one-slot s x (settledEmpty (s .slotOf x)) q (s .free) (o .fine) c (λ y d. refl) own;
-      small = o .small;
-      in-groups = o .in-groups;
+      each-slot = one-slot s x (settledEmpty (s .slotOf x)) q (s .free) (o .each-slot) c (λ y d. refl) own;
+      budget-most = o .budget-most;
+      cursor-most = o .cursor-most;
+      sizes = o .sizes;
     }
     (λ e. rw (self x) r) z
   where
     own : SlotOrdered x (s .issued) (count x q) (count x (s .free)) (settledEmpty (s .slotOf x))
     own = record {
-      once = omega arith;
-      once-free = o .fine x .once-free;
-      in-registered = λ h. r;
-      in-unpaused = λ h. absurd (omega arith);
+      queued-once = omega arith;
+      free-once = o .each-slot x .free-once;
+      queued-registered = λ h. r;
+      queued-unpaused = λ h. absurd (omega arith);
       is-marked = λ h p e n. absurd (no e refl);
-      below = o .fine x .below;
-      below-free = o .fine x .below-free;
-      free-slot = o .fine x .free-slot;
-      room = omega arith;
+      registered-issued = o .each-slot x .registered-issued;
+      free-issued = o .each-slot x .free-issued;
+      free-unregistered = o .each-slot x .free-unregistered;
+      burst-most = λ h. omega arith;
+      living-issued = o .each-slot x .living-issued;
+      marked-issued = o .each-slot x .marked-issued;
+      free-generation = o .each-slot x .free-generation;
     }
 
 -- BUDGETS
@@ -123,19 +133,19 @@ refill-pos zero = omega arith
 refill-pos (suc n) = omega arith
 
 pub budget-ordered : (b : ℕ) (s : State) → b ≤ 64 → Ordered s → Ordered (withBudget b s)
-budget-ordered b s h o = record { fine = o .fine; small = h; in-groups = o .in-groups }
+budget-ordered b s h o = record { each-slot = o .each-slot; budget-most = h; cursor-most = o .cursor-most; sizes = o .sizes }
 
 pub before-next-turn-ordered : (q : List ℕ) (s : State) → Ordered s → Ordered (beforeNextTurn q s)
 unfolding beforeNextTurn
 before-next-turn-ordered [] s o = o
-before-next-turn-ordered (y ∷ q) s o = budget-ordered (refill (s .budget)) s (refill-le (s .budget) (o .small)) o
+before-next-turn-ordered (y ∷ q) s o = budget-ordered (refill (s .budget)) s (refill-le (s .budget) (o .budget-most)) o
 
 -- the front lane
 pub front-registered : (s : State) (y : ℕ) (q : List ℕ) → s .queue ≡ y ∷ q → Ordered s → s .slotOf y .registered ≡ true
-front-registered s y q e o = o .fine y .in-registered (omega (arith, ap (count y) e, first-own y q))
+front-registered s y q e o = o .each-slot y .queued-registered (omega (arith, ap (count y) e, first-own y q))
 
 pub front-alone : (s : State) (y : ℕ) (q : List ℕ) → s .queue ≡ y ∷ q → Ordered s → count y q ≡ 0
-front-alone s y q e o = omega (arith, o .fine y .once, ap (count y) e, first-own y q)
+front-alone s y q e o = omega (arith, o .each-slot y .queued-once, ap (count y) e, first-own y q)
 
 pub front-rest : (s : State) (y : ℕ) (q : List ℕ) → s .queue ≡ y ∷ q → (z : ℕ) → y ≢ z → count z q ≡ count z (s .queue)
 front-rest s y q e z d = omega (arith, ap (count z) e, first-other y z q d)
@@ -168,9 +178,10 @@ run-down-from-ordered (y ∷ q) s e o =
 pub give-item-ordered : (s : State) (y : ℕ) (q vs : List ℕ) (back : Bool) → s .queue ≡ y ∷ q → (back ≡ false → s .slotOf y .burst < 63) → Ordered s → Ordered (giveItem s y q vs back)
 unfolding giveItem
 give-item-ordered s y q vs back e r o = record {
-  fine = one-slot s y _ (if back (q ++ (y ∷ [])) (y ∷ q)) (s .free) (o .fine) (others back) (λ z d. refl) (own back r);
-  small = omega (arith, refill-le (s .budget) (o .small));
-  in-groups = o .in-groups;
+  each-slot = one-slot s y _ (if back (q ++ (y ∷ [])) (y ∷ q)) (s .free) (o .each-slot) (others back) (λ z d. refl) (own back r);
+  budget-most = omega (arith, refill-le (s .budget) (o .budget-most));
+  cursor-most = o .cursor-most;
+  sizes = o .sizes;
 }
   where
     others : (b : Bool) (z : ℕ) → y ≢ z → count z (if b (q ++ (y ∷ [])) (y ∷ q)) ≡ count z (s .queue)
@@ -187,15 +198,18 @@ give-item-ordered s y q vs back e r o = record {
 
     own : (b : Bool) → (b ≡ false → s .slotOf y .burst < 63) → SlotOrdered y (s .issued) (count y (if b (q ++ (y ∷ [])) (y ∷ q))) (count y (s .free)) (popped vs (unreleasedAfterOne s y) (if b 0 (s .slotOf y .burst + 1)) (s .slotOf y))
     own b f = record {
-      once = omega (arith, one b);
-      once-free = o .fine y .once-free;
-      in-registered = λ h. front-registered s y q e o;
-      in-unpaused = λ h. o .fine y .in-unpaused (omega (arith, ap (count y) e, first-own y q));
+      queued-once = omega (arith, one b);
+      free-once = o .each-slot y .free-once;
+      queued-registered = λ h. front-registered s y q e o;
+      queued-unpaused = λ h. o .each-slot y .queued-unpaused (omega (arith, ap (count y) e, first-own y q));
       is-marked = λ h p g n. absurd (omega (arith, one b));
-      below = o .fine y .below;
-      below-free = o .fine y .below-free;
-      free-slot = o .fine y .free-slot;
-      room = short b f;
+      registered-issued = o .each-slot y .registered-issued;
+      free-issued = o .each-slot y .free-issued;
+      free-unregistered = o .each-slot y .free-unregistered;
+      burst-most = λ h. short b f;
+      living-issued = o .each-slot y .living-issued;
+      marked-issued = o .each-slot y .marked-issued;
+      free-generation = o .each-slot y .free-generation;
     }
 
 -- GATHERING a group
@@ -231,62 +245,74 @@ module _ (s : State) (g : ℕ) (o : Ordered s) where
   collect-group-fine y = go (isReady s y) refl (same? (groupOf y) g)
     where
       f : SlotOrdered y (s .issued) (count y (s .queue)) (count y (s .free)) (s .slotOf y)
-      f = o .fine y
+      f = o .each-slot y
 
       go : (b : Bool) → isReady s y ≡ b → Same (groupOf y) g → SlotOrdered y (s .issued) (count y (s .queue ++ more)) (count y (s .free)) (if (eqb (groupOf y) g) (unmarked (s .slotOf y)) (s .slotOf y))
       go true e (equal p b i) =
           let r = is-ready-parts s y e in
           let n : count y (s .queue ++ more) ≡ 1 =
-          omega (arith, count-append y (s .queue) more, keep-in (isReady s) y (marks s g) e, marks-in s y g (f .is-marked (r .1) (r .2) (r .0) (r .3)) p, from-in y 0 (s .issued) (omega arith) (omega (arith, f .below (r .1))), r .3) in
+          omega (arith, count-append y (s .queue) more, keep-in (isReady s) y (marks s g) e, marks-in s y g (f .is-marked (r .1) (r .2) (r .0) (r .3)) p, from-in y 0 (s .issued) (omega arith) (omega (arith, f .registered-issued (r .1))), r .3) in
           rw b record {
-            once = omega arith;
-            once-free = f .once-free;
-            in-registered = λ h. r .1;
-            in-unpaused = λ h. r .2;
+            queued-once = omega arith;
+            free-once = f .free-once;
+            queued-registered = λ h. r .1;
+            queued-unpaused = λ h. r .2;
             is-marked = λ h p g z. absurd (omega arith);
-            below = f .below;
-            below-free = f .below-free;
-            free-slot = f .free-slot;
-            room = f .room;
+            registered-issued = f .registered-issued;
+            free-issued = f .free-issued;
+            free-unregistered = f .free-unregistered;
+            burst-most = f .burst-most;
+            living-issued = f .living-issued;
+            marked-issued = λ h. absurd (no h refl);
+            free-generation = f .free-generation;
           }
       go true e (other d b i) =
           let r = is-ready-parts s y e in
           rw b record {
-            once = omega (arith, count-append y (s .queue) more, keep-in (isReady s) y (marks s g) e, marks-once s y g, r .3);
-            once-free = f .once-free;
-            in-registered = λ h. r .1;
-            in-unpaused = λ h. r .2;
+            queued-once = omega (arith, count-append y (s .queue) more, keep-in (isReady s) y (marks s g) e, marks-once s y g, r .3);
+            free-once = f .free-once;
+            queued-registered = λ h. r .1;
+            queued-unpaused = λ h. r .2;
             is-marked = λ h p g n. f .is-marked h p g (r .3);
-            below = f .below;
-            below-free = f .below-free;
-            free-slot = f .free-slot;
-            room = f .room;
+            registered-issued = f .registered-issued;
+            free-issued = f .free-issued;
+            free-unregistered = f .free-unregistered;
+            burst-most = f .burst-most;
+            living-issued = f .living-issued;
+            marked-issued = f .marked-issued;
+            free-generation = f .free-generation;
           }
       go false e (equal p b i) =
           let n : count y (s .queue ++ more) ≡ count y (s .queue) = omega (arith, count-append y (s .queue) more, keep-out (isReady s) y (marks s g) e) in
           rw b record {
-            once = omega (arith, f .once);
-            once-free = f .once-free;
-            in-registered = λ h. f .in-registered (omega arith);
-            in-unpaused = λ h. f .in-unpaused (omega arith);
+            queued-once = omega (arith, f .queued-once);
+            free-once = f .free-once;
+            queued-registered = λ h. f .queued-registered (omega arith);
+            queued-unpaused = λ h. f .queued-unpaused (omega arith);
             is-marked = λ h u t z. absurd (no (is-ready-intro s y t h u (omega arith)) e);
-            below = f .below;
-            below-free = f .below-free;
-            free-slot = f .free-slot;
-            room = f .room;
+            registered-issued = f .registered-issued;
+            free-issued = f .free-issued;
+            free-unregistered = f .free-unregistered;
+            burst-most = f .burst-most;
+            living-issued = f .living-issued;
+            marked-issued = λ h. absurd (no h refl);
+            free-generation = f .free-generation;
           }
       go false e (other d b i) =
           let n : count y (s .queue ++ more) ≡ count y (s .queue) = omega (arith, count-append y (s .queue) more, keep-out (isReady s) y (marks s g) e) in
           rw b record {
-            once = omega (arith, f .once);
-            once-free = f .once-free;
-            in-registered = λ h. f .in-registered (omega arith);
-            in-unpaused = λ h. f .in-unpaused (omega arith);
+            queued-once = omega (arith, f .queued-once);
+            free-once = f .free-once;
+            queued-registered = λ h. f .queued-registered (omega arith);
+            queued-unpaused = λ h. f .queued-unpaused (omega arith);
             is-marked = λ h u t z. f .is-marked h u t (omega arith);
-            below = f .below;
-            below-free = f .below-free;
-            free-slot = f .free-slot;
-            room = f .room;
+            registered-issued = f .registered-issued;
+            free-issued = f .free-issued;
+            free-unregistered = f .free-unregistered;
+            burst-most = f .burst-most;
+            living-issued = f .living-issued;
+            marked-issued = f .marked-issued;
+            free-generation = f .free-generation;
           }
 
 pub collect-group-ordered : (s : State) (g : ℕ) → g < groupsIn (s .issued) → Ordered s → Ordered (collectGroup s g)
@@ -295,7 +321,7 @@ collect-group-ordered s g l o = go (marks s g) refl
   where
     go : (m : List ℕ) → marks s g ≡ m → Ordered (collectMarks m s g)
     go [] e = o
-    go (x ∷ m) e = record { fine = λ y. subst-marks e (collect-group-fine s g o y); small = o .small; in-groups = l }
+    go (x ∷ m) e = record { each-slot = λ y. subst-marks e (collect-group-fine s g o y); budget-most = o .budget-most; cursor-most = l; sizes = o .sizes }
       where
         subst-marks : {y : ℕ} {l : Slot} → marks s g ≡ x ∷ m → SlotOrdered y (s .issued) (count y (s .queue ++ keep (isReady s) (marks s g))) (count y (s .free)) l → SlotOrdered y (s .issued) (count y (s .queue ++ keep (isReady s) (x ∷ m))) (count y (s .free)) l
         subst-marks e h = rw e at h
@@ -416,74 +442,64 @@ retire-empty-paused-ordered (x ∷ xs) s o =
       where
         zero-of : (n : ℕ) → count x (s .queue) ≡ n → s .slotOf x .paused ≡ true → count x (s .queue) ≡ 0
         zero-of zero e p = e
-        zero-of (suc n) e p = absurd (no p (o .fine x .in-unpaused (omega arith)))
+        zero-of (suc n) e p = absurd (no p (o .each-slot x .queued-unpaused (omega arith)))
     retire-if-or false e = o
 
 -- CREDIT
 pub release-all-ordered : (s : State) → Ordered s → Ordered (releaseAll s)
 unfolding releaseAll
 release-all-ordered s o = record {
-  fine = λ y. let f = o .fine y in record { once = f .once; once-free = f .once-free; in-registered = f .in-registered; in-unpaused = f .in-unpaused; is-marked = f .is-marked; below = f .below; below-free = f .below-free; free-slot = f .free-slot; room = f .room };
-  small = o .small;
-  in-groups = o .in-groups;
+  each-slot = λ y. let f = o .each-slot y in record { queued-once = f .queued-once; free-once = f .free-once; queued-registered = f .queued-registered; queued-unpaused = f .queued-unpaused; is-marked = f .is-marked; registered-issued = f .registered-issued; free-issued = f .free-issued; free-unregistered = f .free-unregistered; burst-most = f .burst-most; living-issued = f .living-issued; marked-issued = f .marked-issued; free-generation = f .free-generation };
+  budget-most = o .budget-most;
+  cursor-most = o .cursor-most;
+  sizes = o .sizes;
 }
 
 -- one slot changes, queue and free list do not
 pub put-ordered : (s : State) (x : ℕ) (l : Slot) → Ordered s → SlotOrdered x (s .issued) (count x (s .queue)) (count x (s .free)) l → Ordered (put x l s)
-put-ordered s x l o h = record { fine = one-slot s x l (s .queue) (s .free) (o .fine) (λ y d. refl) (λ y d. refl) h; small = o .small; in-groups = o .in-groups }
+put-ordered s x l o h = record { each-slot = one-slot s x l (s .queue) (s .free) (o .each-slot) (λ y d. refl) (λ y d. refl) h; budget-most = o .budget-most; cursor-most = o .cursor-most; sizes = o .sizes }
 
 -- lane x goes to the back
 pub back-ordered : (s : State) (x : ℕ) (l : Slot) → Ordered s → count x (s .queue) ≡ 0 → s .slotOf x .registered ≡ true → l .registered ≡ true → l .paused ≡ false → l .burst ≤ 63
     → Ordered (withQueue (s .queue ++ (x ∷ [])) (put x l s))
 back-ordered s x l o z r rl pl b = record {
-  fine = one-slot s x l (s .queue ++ (x ∷ [])) (s .free) (o .fine) (λ y d. last-other x y (s .queue) d) (λ y d. refl)
+  each-slot = one-slot s x l (s .queue ++ (x ∷ [])) (s .free) (o .each-slot) (λ y d. last-other x y (s .queue) d) (λ y d. refl)
       record {
-        once = omega (arith, last-own x (s .queue));
-        once-free = o .fine x .once-free;
-        in-registered = λ h. rl;
-        in-unpaused = λ h. pl;
+        queued-once = omega (arith, last-own x (s .queue));
+        free-once = o .each-slot x .free-once;
+        queued-registered = λ h. rl;
+        queued-unpaused = λ h. pl;
         is-marked = λ h p g n. absurd (omega (arith, last-own x (s .queue)));
-        below = λ h. o .fine x .below r;
-        below-free = o .fine x .below-free;
-        free-slot = λ h. absurd (no r (o .fine x .free-slot h));
-        room = b;
+        registered-issued = λ h. o .each-slot x .registered-issued r;
+        free-issued = o .each-slot x .free-issued;
+        free-unregistered = λ h. absurd (no r (o .each-slot x .free-unregistered h));
+        burst-most = λ h. b;
+        living-issued = λ h. o .each-slot x .registered-issued r;
+        marked-issued = λ h. o .each-slot x .registered-issued r;
+        free-generation = λ h. absurd (no r (o .each-slot x .free-unregistered h));
       };
-  small = o .small;
-  in-groups = o .in-groups;
+  budget-most = o .budget-most;
+  cursor-most = o .cursor-most;
+  sizes = o .sizes;
 }
 
 -- a signal that is marked, on a slot whose ring, sender or pause changed
-pub signal-fine : (y i n m : ℕ) (l k : Slot) → SlotOrdered y i n m l → k .registered ≡ l .registered → k .paused ≡ l .paused → k .pending ≡ l .pending → k .marked ≡ l .marked → k .burst ≡ l .burst → SlotOrdered y i n m (signalled k)
-signal-fine y i n m l k f r p g t b = record {
-  once = f .once;
-  once-free = f .once-free;
-  in-registered = λ h. r ∙ f .in-registered h;
-  in-unpaused = λ h. p ∙ f .in-unpaused h;
+pub signal-fine : (y i n m : ℕ) (l k : Slot) → SlotOrdered y i n m l → k .registered ≡ l .registered → k .paused ≡ l .paused → k .pending ≡ l .pending → k .marked ≡ l .marked → k .burst ≡ l .burst → k .generation ≡ l .generation → y < i → SlotOrdered y i n m (signalled k)
+signal-fine y i n m l k f r p g t b e lt = record {
+  queued-once = f .queued-once;
+  free-once = f .free-once;
+  queued-registered = λ h. r ∙ f .queued-registered h;
+  queued-unpaused = λ h. p ∙ f .queued-unpaused h;
   is-marked = λ h u q z. go (k .pending) refl h u z;
-  below = λ h. f .below (sym r ∙ h);
-  below-free = f .below-free;
-  free-slot = λ h. r ∙ f .free-slot h;
-  room = omega (arith, f .room);
+  registered-issued = λ h. f .registered-issued (sym r ∙ h);
+  free-issued = f .free-issued;
+  free-unregistered = λ h. r ∙ f .free-unregistered h;
+  burst-most = λ h. omega (arith, f .burst-most (sym r ∙ h));
+  living-issued = λ h. lt;
+  marked-issued = λ h. lt;
+  free-generation = λ h q. f .free-generation h (sym e ∙ q);
 }
   where
     go : (c : Bool) → k .pending ≡ c → k .registered ≡ true → k .paused ≡ false → n ≡ 0 → either (not c) (k .marked) ≡ true
     go true e h u z = t ∙ f .is-marked (sym r ∙ h) (sym p ∙ u) (sym g ∙ e) z
     go false e h u z = refl
-
-pub opened-ordered : (o : Opening) → Ordered (opened o)
-unfolding opened vacant count
-opened-ordered o = record {
-  fine = λ y. record {
-    once = omega arith;
-    once-free = omega arith;
-    in-registered = λ h. absurd (omega arith);
-    in-unpaused = λ h. refl;
-    is-marked = λ h p g n. absurd (no h refl);
-    below = λ h. absurd (no h refl);
-    below-free = λ h. absurd (omega arith);
-    free-slot = λ h. refl;
-    room = omega arith;
-  };
-  small = omega arith;
-  in-groups = omega arith;
-}

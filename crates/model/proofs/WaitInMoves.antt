@@ -187,15 +187,15 @@ module _ (E R : ℕ) (K : LaneKey) where
       go : Wait E R (K .slot) k s → Wait E R (K .slot) k (releaseAll s)
       go (in-queue i a) = in-queue i (omega (arith, ahead-le (s .slotOf) ((releaseAll s) .slotOf) (s .queue) (K .slot) (λ y d c. omega arith)))
       go (in-marks z m a) = in-marks z m a
-  move-on k w n (registers-new s m e) f =
+  move-on k w n (registers-new s m e lt) f =
       let o = w .ord in
-      off s _ k (s .issued) _ (λ p. omega (arith, o .fine (K .slot) .below (w .hold .is-registered), p)) (λ z. refl) refl refl
-      (λ c. absurd (omega (arith, c, unqueued-of (o .fine (s .issued)) (unissued s o)))) (shrinks-same (K .slot) (s .queue)) (λ z. z) w
+      off s _ k (s .issued) _ (λ p. omega (arith, o .each-slot (K .slot) .registered-issued (w .hold .is-registered), p)) (λ z. refl) refl refl
+      (λ c. absurd (omega (arith, c, unqueued-of (o .each-slot (s .issued)) (unissued s o)))) (shrinks-same (K .slot) (s .queue)) (λ z. z) w
   move-on k w n (registers-old s m y r e) f =
       let o = w .ord in
-      let v = o .fine y .free-slot (omega (arith, ap (count y) e, first-own y r)) in
+      let v = o .each-slot y .free-unregistered (omega (arith, ap (count y) e, first-own y r)) in
       off s _ k y _ (λ p. no (w .hold .is-registered) (ap (λ (z : ℕ). s .slotOf z .registered) p ∙ v)) (λ z. refl) refl refl
-      (λ c. absurd (omega (arith, c, unqueued-of (o .fine y) v))) (shrinks-same (K .slot) (s .queue)) (λ z. z) w
+      (λ c. absurd (omega (arith, c, unqueued-of (o .each-slot y) v))) (shrinks-same (K .slot) (s .queue)) (λ z. z) w
   move-on k w n (sends s j v i a r nf) f =
       let l = s .slotOf (j .slot) in
       at-sender s k (j .slot) (signalled (pushed v l)) (λ e p. either-true (not (l .pending)) (l .marked) (ap (λ (z : ℕ). s .slotOf z .marked) (sym p) ∙ e))
@@ -237,7 +237,7 @@ module _ (E R : ℕ) (K : LaneKey) where
             arith,
             count-append (K .slot) (s .queue) (keep (mayQueue s) (from 0 (s .issued))),
             keep-in (mayQueue s) (K .slot) (from 0 (s .issued)) (may-queue-intro s (K .slot) (w .hold .is-registered) (w .hold .is-unpaused) z),
-            from-in (K .slot) 0 (s .issued) (omega arith) (omega (arith, w .ord .fine (K .slot) .below (w .hold .is-registered))),
+            from-in (K .slot) 0 (s .issued) (omega arith) (omega (arith, w .ord .each-slot (K .slot) .registered-issued (w .hold .is-registered))),
           ) in
           in-queue c (omega (arith, queued-most E R (K .slot) (K .generation) _ (move-ordered (w .ord) (polls-all s)) h n c))
   move-on k w n (shuts-it s) f = absurd (no refl f)

@@ -167,7 +167,7 @@ nearer E s g o l w m = go (ltb (s .cursor) (groupsIn (s .issued))) refl
           r .4,
           elim (same? (r .0) g) [
             | equal p b i ↦ inl p
-            | other d b i ↦ inr (omega (arith, r .2, o .in-groups, away-up E (suc (r .0)) g (omega (arith, r .2)), away-round E (s .cursor) g (omega arith)))
+            | other d b i ↦ inr (omega (arith, r .2, o .cursor-most, away-up E (suc (r .0)) g (omega (arith, r .2)), away-round E (s .cursor) g (omega arith)))
           ],
         )
 
@@ -254,7 +254,7 @@ module _ (E R x g : ℕ) where
   -- once queued, the wait is at most 64 × (R - 1)
   pub queued-most : (s : State) → Ordered s → Hold x g s → Few R (s .slotOf) → 1 ≤ count x (s .queue) → ahead (s .slotOf) (s .queue) x + 64 ≤ 64 * R
   queued-most s o h f c =
-      omega (arith, ahead-weigh (s .slotOf) (s .queue) x c, f .few (s .queue) (λ y. o .fine y .once) (λ y n. o .fine y .in-registered n), ap bit (live-ring (s .slotOf x) (h .some-item)))
+      omega (arith, ahead-weigh (s .slotOf) (s .queue) x c, f .few (s .queue) (λ y. o .each-slot y .queued-once) (λ y n. o .each-slot y .queued-registered n), ap bit (live-ring (s .slotOf x) (h .some-item)))
 
   collect-group-in : (s : State) (f : ℕ) {k : ℕ} → 1 ≤ count x (s .queue) → ahead (s .slotOf) (s .queue) x ≤ k → Wait E R x k (collectGroup s f)
   collect-group-in s f c a =
@@ -269,7 +269,7 @@ module _ (E R x g : ℕ) where
   x-ready s h z = is-ready-intro s x (h .is-pending) (h .is-registered) (h .is-unpaused) z
 
   x-mark : (s : State) → Ordered s → Hold x g s → s .slotOf x .marked ≡ true → count x (marks s (groupOf x)) ≡ 1
-  x-mark s o h m = marks-in s x (groupOf x) m refl ∙ from-in x 0 (s .issued) (omega arith) (omega (arith, o .fine x .below (h .is-registered)))
+  x-mark s o h m = marks-in s x (groupOf x) m refl ∙ from-in x 0 (s .issued) (omega arith) (omega (arith, o .each-slot x .registered-issued (h .is-registered)))
 
   -- its own group: it is queued
   collect-group-own : (s : State) → Ordered s → Hold x g s → count x (s .queue) ≡ 0 → s .slotOf x .marked ≡ true → 1 ≤ count x ((collectGroup s (groupOf x)) .queue)
@@ -289,7 +289,7 @@ module _ (E R x g : ℕ) where
       o = w .ord
 
       low : groupOf x < groupsIn (s .issued)
-      low = group-low s x (o .fine x .below (w .hold .is-registered))
+      low = group-low s x (o .each-slot x .registered-issued (w .hold .is-registered))
 
       raise : (u : State) → ((1 ≤ count x (u .queue)) × (ahead (u .slotOf) (u .queue) x ≤ k)) ⊎ ((count x (u .queue) ≡ 0) × (u .slotOf x .marked ≡ true) × (64 + 64 * away E (u .cursor) (groupOf x) + 64 * R ≤ k + 64)) → Wait E R x k (withBudget 64 u)
       raise u (inl p) = in-queue (p .0) (p .1)
@@ -382,7 +382,7 @@ module _ (E R x g : ℕ) where
     where
       go : Wait E R x k s → Soon k (groupsRound s) s
       go (in-queue c a) = now c a
-      go (in-marks z m a) = later z m (groups-round-has s (groupOf x) (group-low s x (w .ord .fine x .below (w .hold .is-registered)))) (omega arith)
+      go (in-marks z m a) = later z m (groups-round-has s (groupOf x) (group-low s x (w .ord .each-slot x .registered-issued (w .hold .is-registered)))) (omega arith)
 
   -- SETTLING the front
   not-x : (s : State) (y : ℕ) → Hold x g s → s .slotOf y .ring ≡ [] → x ≢ y
@@ -540,7 +540,7 @@ module _ (E R x g : ℕ) where
       go (in-queue c a) true f =
           let l = popped vs (unreleasedAfterOne s y) 0 (s .slotOf y) in (
             ahead (s .slotOf) q x,
-            omega (arith, was, full, o .fine y .room),
+            omega (arith, was, full, o .each-slot y .burst-most (front-registered s y q e o)),
             in-queue (omega (arith, count-append x q (y ∷ []), count-x)) (rw (ahead-append (λ z. if (eqb y z) l (s .slotOf z)) q (y ∷ []) x (omega (arith, count-x))) (less true l)),
           )
       go (in-queue c a) false f =
@@ -589,12 +589,12 @@ module _ (E R x g : ℕ) where
   wait-start s o h f w = go (count x (s .queue)) refl
     where
       low : groupOf x < groupsIn (s .issued)
-      low = group-low s x (o .fine x .below (h .is-registered))
+      low = group-low s x (o .each-slot x .registered-issued (h .is-registered))
 
       go : (n : ℕ) → count x (s .queue) ≡ n → Wait E R x (64 * (E + R - 1)) s
-      go zero e = in-marks e (o .fine x .is-marked (h .is-registered) (h .is-unpaused) (h .is-pending) e) (near (leb (s .cursor) (groupOf x)) refl)
+      go zero e = in-marks e (o .each-slot x .is-marked (h .is-registered) (h .is-unpaused) (h .is-pending) e) (near (leb (s .cursor) (groupOf x)) refl)
         where
           near : (b : Bool) → leb (s .cursor) (groupOf x) ≡ b → s .budget + 64 * away E (s .cursor) (groupOf x) + 64 * R ≤ 64 * (E + R - 1) + 64
-          near true q = omega (arith, low, w, o .small, away-up E (s .cursor) (groupOf x) (leb-true (s .cursor) (groupOf x) q))
-          near false q = omega (arith, low, w, o .small, away-round E (s .cursor) (groupOf x) (leb-false (s .cursor) (groupOf x) q), leb-false (s .cursor) (groupOf x) q, o .in-groups)
+          near true q = omega (arith, low, w, o .budget-most, away-up E (s .cursor) (groupOf x) (leb-true (s .cursor) (groupOf x) q))
+          near false q = omega (arith, low, w, o .budget-most, away-round E (s .cursor) (groupOf x) (leb-false (s .cursor) (groupOf x) q), leb-false (s .cursor) (groupOf x) q, o .cursor-most)
       go (suc n) e = in-queue (omega arith) (omega (arith, low, w, queued-most s o h f (omega arith)))
