@@ -17,7 +17,7 @@ use Rattle.model.specs.Receive.{andMore, takeUpTo}
 use Rattle.model.proofs.Counting.{Same, equal, other, same?, self}
 use Rattle.model.proofs.Words.{state-path}
 
--- THE FRONT LANE HOLDS AN ITEM, and the budget is not spent
+-- the front lane holds an item, and the budget is not spent
 collect-if-due-none : (b : ℕ) (q : List ℕ) (s : State) → 1 ≤ b → collectIfDue b q s ≡ s
 unfolding collectIfDue
 collect-if-due-none zero q s h = absurd (omega arith)
@@ -108,7 +108,7 @@ take-chunk (suc n) s y q e l b c d = go (s .slotOf y .ring) refl l (take-chunk n
         ∙ ap (λ (u : State). ((keyOf s y, v) ∷ map (λ x. (keyOf s y, x)) (take n vs), u)) (chunk-more s y n)
         ∙ ap (λ (l : List ℕ). (map (λ x. (keyOf s y, x)) (take (suc n) l), chunked s y (suc n))) (sym r)
 
--- COUNTS kept in a word: one slot less
+-- a count kept in a word: one slot less
 pub one-less : (p q : ℕ → Bool) (x a n : ℕ) → ((y : ℕ) → x ≢ y → q y ≡ p y) → p x ≡ true → q x ≡ false → a ≤ x → x < a + n → length (keep p (from a n)) ≡ suc (length (keep q (from a n)))
 unfolding keep from
 one-less p q x a zero h t f l m = absurd (omega arith)

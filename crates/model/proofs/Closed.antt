@@ -1,4 +1,4 @@
--- Keys never come back: generations only grow.
+-- A closed lane gives nothing more: its key never comes back, since generations only grow.
 -- Assumes nothing.
 use mathlib.Core.Path.{_≡_, refl, ap, sym, _∙_, subst}
 use mathlib.Core.Logic.{_⊎_, inl, inr}

@@ -1,4 +1,4 @@
--- Demand 2, its last part: handed out, and then still held, are the accepted sends.
+-- Demand 2 holds of the rules: the items handed out of a lane, and then those still in its ring, are its accepted sends.
 -- Assumes nothing.
 use mathlib.Core.Path.{_≡_, refl, ap, sym, _∙_}
 use mathlib.Core.Logic.{_≢_}

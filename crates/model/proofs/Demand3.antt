@@ -1,4 +1,4 @@
--- Demand 3 of the rules: at any point of any run from an opening.
+-- Demand 3 holds of the rules, at any point of any run from an accepted opening.
 -- Assumes nothing.
 use mathlib.Core.Path.{_≡_, refl, ap, sym, _∙_}
 use mathlib.Core.Bool.{Bool, true, false, not}
@@ -33,14 +33,14 @@ use Rattle.model.proofs.LiveCount.{agrees-few}
 use Rattle.model.proofs.WaitInMoves.{move-on}
 use Rattle.model.proofs.FairOnce.{Once, fresh, move-once}
 
--- GENERIC: what a move keeps, every point has
+-- what a move keeps, every point has
 module _ (I : Ledger → State → Type 0) (keeps : (L : Ledger) (s u : State) (t : Tick) → I L s → Moves s t u → I (note L t) u) where
   pub at-point : (L : Ledger) (s e : State) (before rest : List Tick) → I L s → Chain s (before ++ rest) e → (u : State) × I (ledgerAfter L before) u × Chain u rest e
   unfolding ledgerAfter
   at-point L s e [] rest i r = (s, i, r)
   at-point L s e (t ∷ before) rest i (move {u = u} m r) = at-point (note L t) u e before rest (keeps L s u t i m) r
 
--- GENERIC: a potential that falls by the number of ticks that pass a test bounds their number in the stretch
+-- a potential that falls by the number of ticks that pass a test bounds their number in the stretch
 module _ (K : LaneKey) (p : Tick → Bool) (Given : Ledger → List Tick → Type 0) (Pot : ℕ → Ledger → State → Type 0)
     (passes : (L : Ledger) (t : Tick) (st : List Tick) → Given L (t ∷ st) → Given (note L t) st)
     (falls : (k : ℕ) (L : Ledger) (s u : State) (t : Tick) (st : List Tick) → Pot k L s → Moves s t u → endsStretch K t ≡ false → Given L (t ∷ st)
@@ -55,7 +55,7 @@ module _ (K : LaneKey) (p : Tick → Bool) (Given : Ledger → List Tick → Typ
       go true e z ih = omega arith
       go false e z ih = let f = falls k L s u t (stretch K ts) q m e z in omega (arith, f .1, ih (f .0) (f .2) (passes L t (stretch K ts) z))
 
--- while lane K waits
+-- while the lane with key K waits
 record Waits (E R : ℕ) (K : LaneKey) (k : ℕ) (L : Ledger) (s : State) : Type 0 where
   ord : Ordered s
   agrees : Agrees L s

@@ -28,7 +28,7 @@ use Rattle.model.proofs.MovesKeepOrder.{has-lane-parts}
 use Rattle.model.proofs.LedgerLaws.{alike, unlike, keys?}
 use Rattle.model.proofs.WaitInMoves.{Shrinks, shrinks-same, shrinks-append, shrinks-without, not-own, retire-lane-queue}
 
--- THE QUEUE through a fair poll
+-- the queue through a fair poll
 shrinks-trans : {x : ℕ} {p q r : List ℕ} → Shrinks x p q → Shrinks x q r → Shrinks x p r
 shrinks-trans a b = record { stays-in = λ c. b .stays-in (a .stays-in c); ahead-less = λ c f. omega (arith, a .ahead-less c f, b .ahead-less (a .stays-in c) f); before-less = λ c y. omega (arith, a .before-less c y, b .before-less (a .stays-in c) y) }
 
@@ -96,7 +96,7 @@ give-item-once {x} {k} y s z q vs e d i o w = go (same? y z) w
     go (other g f u) (fresh l) = (k, omega arith, fresh l)
     go (other g f u) (spent c b) = (k, omega arith, spent there (omega (arith, here, rw (ne-eqb x z d) at (rw e at b))))
 
--- EVERY MOVE of a stretch whose receives are fair
+-- every move of a stretch whose receives are fair
 pub record Singly (x : ℕ) (j : LaneKey) (c k : ℕ) (u : State) : Type 0 where
   pub rest : ℕ
   pub pays : c + rest ≤ k

@@ -91,7 +91,7 @@ key-path i j p q = λ t. record { slot = p t; generation = q t }
 match-at : {l : Lane} {m n : Slot} → n ≡ m → Matches l m → Matches l n
 match-at {l} {m} {n} o h = subst (λ (x : Slot). Matches l x) (sym o) h
 
--- QUIET
+-- a change that moves no item
 still-matches : {l : Lane} {m n : Slot} → Still m n → Matches l m → Matches l n
 still-matches {l} a h = record {
   values-same = h .values-same ∙ sym (a .rings);
@@ -123,7 +123,7 @@ agrees-quiet L s u q h = record {
         let at-k : look k (L .lanes) ≡ some (f .entry) = ap (λ (i : LaneKey). look i (L .lanes)) (key-path k (keyOf s (k .slot)) refl (sym (c .1))) ∙ f .looked in
         absurd (no (sym (waits-seen k (L .lanes) ∙ ap seen at-k) ∙ e) (seen-false (f .entry) (none-held (f .entry .holds) (f .matches .values-same ∙ z))))
 
--- ONE LANE
+-- one lane changes
 module _ (L : Ledger) (s u : State) (j : LaneKey) (f : Lane → Lane) (keeps : (l : Lane) → (f l) .key ≡ l .key) (m : Slot)
     (at : (y : ℕ) → u .slotOf y ≡ if (eqb (j .slot) y) m (s .slotOf y)) (r : s .slotOf (j .slot) .registered ≡ true) (g : s .slotOf (j .slot) .generation ≡ j .generation)
     (i : u .issued ≡ s .issued) (w : u .isOpen ≡ s .isOpen) (h : Agrees L s) where
@@ -157,7 +157,7 @@ module _ (L : Ledger) (s u : State) (j : LaneKey) (f : Lane → Lane) (keeps : (
         matches = match-at o (n .matches);
       }
 
-  -- a key that is not j's, and is ready, is current as it was
+  -- a key that is not j's, and waits, is registered as it was
   other-current : (k : LaneKey) → k ≢ j → waitsIn k ((changeLane j f L) .lanes) ≡ true → hasLane u k ≡ true
   other-current k d e =
       let c = h .is-current k (waits-seen k (L .lanes) ∙ ap seen (sym (other-look k d)) ∙ sym (waits-seen k ((changeLane j f L) .lanes)) ∙ e) in
@@ -194,7 +194,7 @@ module _ (L : Ledger) (s u : State) (j : LaneKey) (f : Lane → Lane) (keeps : (
     ];
   }
 
-  -- the lane is no longer registered, and no longer ready
+  -- the lane is no longer registered, and no longer waits
   pub agrees-closed : m .registered ≡ false → ((l : Lane) → (f l) .closed ≡ true) → Agrees (changeLane j f L) u
   agrees-closed mr mc = record {
     shut-same = same-shut;
@@ -209,7 +209,7 @@ module _ (L : Ledger) (s u : State) (j : LaneKey) (f : Lane → Lane) (keeps : (
     ];
   }
 
--- a sender dropped of a lane that is closed: no lane's entry but its own changes, and it was not ready
+-- a sender dropped of a lane that is closed: no lane's entry but its own changes, and it did not wait
 module _ (L : Ledger) (s u : State) (j : LaneKey) (m : Slot) (at : (y : ℕ) → u .slotOf y ≡ if (eqb (j .slot) y) m (s .slotOf y)) (r : s .slotOf (j .slot) .registered ≡ false) (mr : m .registered ≡ false)
     (i : u .issued ≡ s .issued) (w : u .isOpen ≡ s .isOpen) (h : Agrees L s) where
   keeps-key : (l : Lane) → (setDropped l) .key ≡ l .key
@@ -424,7 +424,7 @@ still-matches-more g h e r p w = record {
   senders = h .senders ∙ ap not (sym (w ∙ ap (λ (l : Slot). l .living) e));
 }
 
--- EVERY MOVE
+-- every move
 pub move-agrees : (L : Ledger) {s u : State} {t : Tick} → Ordered s → Agrees L s → Moves s t u → Agrees (note L t) u
 unfolding note accepted applyCall addRegistered
 move-agrees L o h (stays-put s c a n) = subst (λ (M : Ledger). Agrees M s) (sym (n .noted L)) h

@@ -1,4 +1,4 @@
--- Every move keeps the order; and every move keeps, of each lane, what is handed out, still held and accepted.
+-- Every move keeps the state in order.
 -- Assumes nothing.
 use mathlib.Core.Path.{_≡_, refl, ap, sym, _∙_}
 use mathlib.Core.Logic.{_≢_}
@@ -22,7 +22,7 @@ use Rattle.model.proofs.OrderKept.{not-free, one-slot, first-own, first
 use Rattle.model.proofs.Quiet.{poll, poll-ordered}
 use Rattle.model.proofs.Moves.{Moves, stays-put, credits, registers-new, registers-old, sends, posts, drops-it, pauses-it, resumes, resumes-not, closes-it, polls-all, shuts-it, takes, stops, aims, aims-none}
 
--- a current key
+-- the key of a registered lane
 pub has-lane-parts : (s : State) (k : LaneKey) → hasLane s k ≡ true → (s .slotOf (k .slot) .registered ≡ true) × (s .slotOf (k .slot) .generation ≡ k .generation)
 unfolding hasLane
 has-lane-parts s k e =
@@ -39,7 +39,7 @@ may-queue-parts s y e =
     let b = both-3 (s .slotOf y .registered) (not (s .slotOf y .paused)) (not (queued s y)) e in
     (b .0, not-true (b .1), unqueued-zero (count y (s .queue)) (b .2))
 
--- ORDER
+-- all lanes are polled
 poll-all-fine : (s : State) → Ordered s → Ordered (withQueue (s .queue ++ keep (mayQueue s) (from 0 (s .issued))) s)
 poll-all-fine s o = record { each-slot = λ y. go y (mayQueue s y) refl; budget-most = o .budget-most; cursor-most = o .cursor-most; sizes = o .sizes }
   where

@@ -1,4 +1,4 @@
--- The invariant, slot by slot. Every piece of every call keeps it.
+-- Each part of a receive keeps the state in order, slot by slot.
 -- Assumes nothing.
 use mathlib.Core.Path.{_≡_, refl, ap, sym, _∙_}
 use mathlib.Core.Logic.{_≢_}
@@ -48,7 +48,7 @@ pub first-own : (x : ℕ) (q : List ℕ) → count x (x ∷ q) ≡ suc (count x 
 unfolding count
 first-own x q = omega (arith, same-self x)
 
--- RETIRING lane x, that is not queued
+-- lane x, not queued, retires
 pub retire-lane-ordered : (x : ℕ) (s : State) → Ordered s → s .slotOf x .registered ≡ true → count x (s .queue) ≡ 0 → Ordered (retireLane x s)
 unfolding retireLane
 retire-lane-ordered x s o r z = record {
@@ -91,7 +91,7 @@ unfolding retireLaneIf
 retire-lane-if-ordered true x s o r z = retire-lane-ordered x s o (r refl) z
 retire-lane-if-ordered false x s o r z = o
 
--- LEAVING the queue
+-- lane x is found empty and leaves the queue
 pub settle-empty-ordered : (x : ℕ) (q : List ℕ) (s : State) → Ordered s → s .slotOf x .registered ≡ true → ((y : ℕ) → x ≢ y → count y q ≡ count y (s .queue)) → count x q ≡ 0
     → Ordered (settleEmpty x q s)
 unfolding settleEmpty
@@ -121,7 +121,7 @@ settle-empty-ordered x q s o r c z =
       free-generation = o .each-slot x .free-generation;
     }
 
--- BUDGETS
+-- the budget
 pub refill-le : (n : ℕ) → n ≤ 64 → refill n ≤ 64
 unfolding refill
 refill-le zero h = omega arith
@@ -174,7 +174,7 @@ run-down-from-ordered (y ∷ q) s e o =
     go [] r = r
     go (v ∷ vs) r = o
 
--- a turn
+-- the front lane gives an item
 pub give-item-ordered : (s : State) (y : ℕ) (q vs : List ℕ) (back : Bool) → s .queue ≡ y ∷ q → (back ≡ false → s .slotOf y .burst < 63) → Ordered s → Ordered (giveItem s y q vs back)
 unfolding giveItem
 give-item-ordered s y q vs back e r o = record {
@@ -212,7 +212,7 @@ give-item-ordered s y q vs back e r o = record {
       free-generation = o .each-slot y .free-generation;
     }
 
--- GATHERING a group
+-- a group is collected
 pub is-ready-parts : (s : State) (y : ℕ) → isReady s y ≡ true → (s .slotOf y .pending ≡ true) × (s .slotOf y .registered ≡ true) × (s .slotOf y .paused ≡ false) × (count y (s .queue) ≡ 0)
 unfolding isReady mayQueue
 is-ready-parts s y e =
@@ -428,7 +428,7 @@ pub take-fair-ordered : (s : State) → Ordered s → Ordered ((takeFair s) .1)
 unfolding takeFair
 take-fair-ordered s o = give-front-ordered true _ _ refl (run-down-ordered _ (budget-ordered 64 (collectReady s) (omega arith) (collect-ready-ordered s o)))
 
--- SWEEPING
+-- empty paused lanes are retired
 pub retire-empty-paused-ordered : (xs : List ℕ) (s : State) → Ordered s → Ordered (retireEmptyPausedLanes xs s)
 unfolding retireEmptyPausedLanes retireLaneIf
 retire-empty-paused-ordered [] s o = o
@@ -445,7 +445,7 @@ retire-empty-paused-ordered (x ∷ xs) s o =
         zero-of (suc n) e p = absurd (no p (o .each-slot x .queued-unpaused (omega arith)))
     retire-if-or false e = o
 
--- CREDIT
+-- every lane gives back its credit
 pub release-all-ordered : (s : State) → Ordered s → Ordered (releaseAll s)
 unfolding releaseAll
 release-all-ordered s o = record {

@@ -189,7 +189,7 @@ pub polled-quiet : (s : State) → Quietly s (polled s)
 unfolding polled
 polled-quiet s = trans (trans (collect-if-due-quiet (s .budget) (s .queue) s) (run-down-quiet _)) (collect-if-none-quiet _ _)
 
--- before a receive looks at the front: `fairly` or not
+-- what a receive does before it looks at the front: a fair one, or another
 unfoldable pub poll : Bool → State → State
 poll true s = runDown (withBudget 64 (collectReady s))
 poll false s = polled s

@@ -1,4 +1,4 @@
--- The bounds R and G of a stretch pass on from each point to the next: `most-live` and the groups at the end bound every point in between.
+-- The bounds R and G of a stretch pass on from each point to the next: `mostLive` and the groups at the end bound every point in between.
 -- Assumes nothing.
 use mathlib.Core.Path.{_≡_, refl}
 use mathlib.Core.Bool.{Bool, true, false, not}

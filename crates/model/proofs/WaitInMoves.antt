@@ -30,7 +30,7 @@ use Rattle.model.proofs.LedgerLaws.{alike, unlike, keys?}
 use Rattle.model.proofs.Demand2.{sender-parts, queue-lane-slot, give-item-slot}
 use Rattle.model.proofs.LedgerAgrees.{key-path, retire-lane-slot}
 
--- HOW A QUEUE MAY CHANGE before lane x
+-- how a queue may change before lane x
 pub record Shrinks (x : ℕ) (q r : List ℕ) : Type 0 where
   pub stays-in : 1 ≤ count x q → 1 ≤ count x r
   pub ahead-less : 1 ≤ count x q → (f : ℕ → Slot) → ahead f r x ≤ ahead f q x
@@ -116,7 +116,7 @@ pub record Onward (E R : ℕ) (K : LaneKey) (c k : ℕ) (u : State) : Type 0 whe
   pub hold : Hold (K .slot) (K .generation) u
   pub wait : Wait E R (K .slot) rest u
 
--- the slot of a current key that is not K is not K's
+-- the slot of a registered lane whose key is not K is not K's
 pub not-own : (s : State) (K j : LaneKey) → Hold (K .slot) (K .generation) s → s .slotOf (j .slot) .generation ≡ j .generation → sameKey j K ≡ false → K .slot ≢ j .slot
 not-own s K j h g f p = elim (keys? j K) [
   | alike q e ↦ no e f

@@ -20,7 +20,7 @@ use Rattle.model.proofs.OrderKept.{is-ready-intro, marks-in, first-own,
 use Rattle.model.proofs.Quiet.{Quietly, trans, settle-empty-quiet, before-next-turn-quiet, collect-group-quiet, budget-quiet, collect-ready-group-quiet, Hold, hold-quiet, collect-ready-quiet, poll}
 use Rattle.model.proofs.Ahead.{share, bit, ahead, weigh, live-ring, share-live, share-most, ahead-weigh, ahead-append, ahead-le, Few, few-quiet, away, away-up, away-round}
 
--- WHAT A GATHERING DOES
+-- what collecting a group does
 pub collect-group-queue : (s : State) (f : ℕ) → (collectGroup s f) .queue ≡ s .queue ++ keep (isReady s) (marks s f)
 unfolding collectGroup collectMarks keep
 collect-group-queue s f = go (marks s f)
@@ -78,7 +78,7 @@ unfolding count
 non-empty-count x [] h = absurd (omega arith)
 non-empty-count x (y ∷ l) h = refl
 
--- FINDING THE NEXT GROUP
+-- finding the next group
 seek-in : (s : State) (a n g : ℕ) (rest : List ℕ) → a ≤ g → g < a + n → nonEmpty (marks s g) ≡ true
     → (f : ℕ) × (a ≤ f) × (f ≤ g) × (nonEmpty (marks s f) ≡ true) × (collectFirst (from a n ++ rest) s ≡ collectGroup s f)
 unfolding collectFirst from
@@ -228,7 +228,7 @@ unfolding poll polled
 poll-settled true s = run-down-settled _
 poll-settled false s = collect-if-none-settled _ _ refl (run-down-settled _)
 
--- LANE x, of generation g, WAITS. E: the groups at the stretch's end. R: the most live lanes
+-- Lane x, of generation g, waits. E: the groups at the stretch's end. R: the most live lanes
 pub data Wait (E R x k : ℕ) (s : State) : Type 0 where
   in-queue : 1 ≤ count x (s .queue) → ahead (s .slotOf) (s .queue) x ≤ k → Wait E R x k s
   in-marks : count x (s .queue) ≡ 0 → s .slotOf x .marked ≡ true → s .budget + 64 * away E (s .cursor) (groupOf x) + 64 * R ≤ k + 64 → Wait E R x k s
@@ -280,7 +280,7 @@ module _ (E R x g : ℕ) where
   collect-group-not s f d z h =
       rw (collect-group-queue s f) (omega (arith, count-append x (s .queue) (keep (isReady s) (marks s f)), keep-in (isReady s) x (marks s f) (x-ready s h z), marks-out s x f d))
 
-  -- COLLECTING ONE GROUP, at a budget of 0
+  -- collecting one group, at a budget of 0
   one-wait : (s : State) {k : ℕ} → s .budget ≡ 0 → On E R x g k s → Wait E R x k (withBudget 64 (collectReadyGroup s))
   unfolding collectReadyGroup collectFirst Nearer
   one-wait s {k} b w = go (w .wait)
@@ -337,7 +337,7 @@ module _ (E R x g : ℕ) where
       go zero [] b = w
       go (suc n) q b = w
 
-  -- COLLECTING ALL: x is queued by the end
+  -- collecting all groups: x is queued by the end
   data Soon (k : ℕ) (gs : List ℕ) (s : State) : Type 0 where
     now : 1 ≤ count x (s .queue) → ahead (s .slotOf) (s .queue) x ≤ k → Soon k gs s
     later : count x (s .queue) ≡ 0 → s .slotOf x .marked ≡ true → 1 ≤ count (groupOf x) gs → 64 * R ≤ k + 64 → Soon k gs s
@@ -384,7 +384,7 @@ module _ (E R x g : ℕ) where
       go (in-queue c a) = now c a
       go (in-marks z m a) = later z m (groups-round-has s (groupOf x) (group-low s x (w .ord .each-slot x .registered-issued (w .hold .is-registered)))) (omega arith)
 
-  -- SETTLING the front
+  -- empty lanes leave the front
   not-x : (s : State) (y : ℕ) → Hold x g s → s .slotOf y .ring ≡ [] → x ≢ y
   not-x s y h e p = omega (arith, h .some-item, ap (λ (z : ℕ). length (s .slotOf z .ring)) p, ap length e)
 
@@ -584,7 +584,7 @@ module _ (E R x g : ℕ) where
       raise u c (in-queue d a) = in-queue d a
       raise u c (in-marks z m a) = absurd (omega arith)
 
-  -- AT THE START of a stretch
+  -- at the start of a stretch
   pub wait-start : (s : State) → Ordered s → Hold x g s → Few R (s .slotOf) → groupsIn (s .issued) ≤ E → Wait E R x (64 * (E + R - 1)) s
   wait-start s o h f w = go (count x (s .queue)) refl
     where

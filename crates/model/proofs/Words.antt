@@ -1,4 +1,4 @@
--- What the rules have, the words have.
+-- Demands 2 and 3 hold of any words that simulate the rules.
 -- Assumes nothing.
 use mathlib.Core.Path.{_≡_, refl, ap, sym, _∙_}
 use mathlib.Core.List.{List, [], _∷_, _++_}

@@ -54,13 +54,9 @@ queueLaneIf false x s = s
 -- A lane found empty settles; with its sender dropped it retires and the answer is Disconnected.
 unfoldable pub takeFrom : List ℕ → ℕ → State → Outcome
 takeFrom [] x s = says (if (s .slotOf x .living) Empty Disconnected) (settleEmpty x (without x (s .queue)) s)
-takeFrom (v ∷ vs) x s = (
-  (keyOf s x, v) ∷ [],
-  (
-    Item v (idOf s (keyOf s x)),
-    queueLaneIf (mayQueue s x) x (put x (popped vs (unreleasedAfterOne s x) (s .slotOf x .burst) (s .slotOf x)) s),
-  ),
-)
+takeFrom (v ∷ vs) x s =
+    let m = popped vs (unreleasedAfterOne s x) (s .slotOf x .burst) (s .slotOf x) in
+    ((keyOf s x, v) ∷ [], (Item v (idOf s (keyOf s x)), queueLaneIf (mayQueue s x) x (put x m s)))
 
 unfoldable pub tryRecvFrom : State → LaneId → Outcome
 tryRecvFrom s i =
