@@ -164,6 +164,38 @@ table =
       calls = registers ∷ registers ∷ sends 0 1 ∷ sends 1 2 ∷ Receive (TryRecvBatchInto 1 1) ∷ Control (CloseLane (idAt 0 0)) ∷ registers ∷ sends 0 3 ∷ drops 0 ∷ registers ∷ Receive (TryRecvBatchInto 9 9) ∷ [];
       answers = lane 0 0 ∷ lane 1 0 ∷ Taken true ∷ Taken true ∷ Items 1 ∷ Done ∷ Refused OlderSenderLives ∷ Refused LaneClosed ∷ Done ∷ lane 0 1 ∷ Items 1 ∷ [];
     }
+    -- "Whatever queues a lane, resume too, puts it at the back."
+    ∷ record {
+      capacity = 4;
+      slots = 2;
+      budget = 61;
+      calls = registers ∷ registers ∷ sends 0 1 ∷ sends 1 2 ∷ plain ∷ Control (Pause (idAt 0 0)) ∷ sends 0 3 ∷ Control (Resume (idAt 0 0)) ∷ plain ∷ plain ∷ plain ∷ [];
+      answers = lane 0 0 ∷ lane 1 0 ∷ Taken true ∷ Taken true ∷ gave 1 0 ∷ Done ∷ Taken false ∷ Done ∷ gave 2 1 ∷ gave 3 0 ∷ Empty ∷ [];
+    }
+    -- "budget 0 and queue non-empty, collect one group and set the budget to 64": lane 1 comes after 128 items of lane 0, which has 200
+    ∷ record {
+      capacity = 256;
+      slots = 2;
+      budget = 63;
+      calls = registers ∷ registers ∷ repeat 200 (sends 0 5) ++ (plain ∷ sends 1 6 ∷ repeat 128 plain);
+      answers = lane 0 0 ∷ lane 1 0 ∷ Taken true ∷ repeat 199 (Taken false) ++ (gave 5 0 ∷ Taken true ∷ repeat 127 (gave 5 0) ++ (gave 6 1 ∷ []));
+    }
+    -- "Targeted: counts in neither burst nor budget": 64 plain receives of lane 0 go before lane 1
+    ∷ record {
+      capacity = 128;
+      slots = 2;
+      budget = 63;
+      calls = registers ∷ registers ∷ repeat 70 (sends 0 5) ++ (sends 1 6 ∷ plain ∷ Receive (TryRecvFrom (idAt 0 0)) ∷ repeat 64 plain);
+      answers = lane 0 0 ∷ lane 1 0 ∷ Taken true ∷ repeat 69 (Taken false) ++ (Taken true ∷ repeat 65 (gave 5 0) ++ (gave 6 1 ∷ []));
+    }
+    -- a batch moves as many items as it says, and "every lane gives back its credit"
+    ∷ record {
+      capacity = 4;
+      slots = 1;
+      budget = 61;
+      calls = registers ∷ sends 0 1 ∷ sends 0 2 ∷ sends 0 3 ∷ sends 0 4 ∷ Receive (TryRecvBatchInto 2 2) ∷ sends 0 5 ∷ sends 0 6 ∷ sends 0 7 ∷ plain ∷ Control CountHeld ∷ [];
+      answers = lane 0 0 ∷ Taken true ∷ Taken false ∷ Taken false ∷ Taken false ∷ Items 2 ∷ Taken false ∷ Taken false ∷ Refused Full ∷ gave 3 0 ∷ Held 3 ∷ [];
+    }
     ∷ []
 
 -- the computed test, over the whole table

@@ -8,6 +8,7 @@ pub mod Opened
 pub mod MovesKeepOrder
 pub mod LedgerLaws
 pub mod StretchBounds
+pub mod Demand1
 pub mod Demand2
 pub mod HandsAsAnswered
 pub mod LedgerAgrees

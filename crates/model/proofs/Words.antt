@@ -1,4 +1,4 @@
--- Demands 2 and 3 hold of any words that simulate the rules.
+-- Demands 2 and 3, and that a closed lane gives nothing more, hold of any words that simulate the rules.
 -- Assumes nothing.
 use mathlib.Core.Path.{_≡_, refl, ap, sym, _∙_}
 use mathlib.Core.List.{List, [], _∷_, _++_}
@@ -14,9 +14,11 @@ use Rattle.model.specs.Runs.{Tick, ends, Rules, handed, ticks, trace, co
 use Rattle.model.specs.Rules.{theRules}
 use Rattle.model.specs.Demand2.{Demand2, shuts, values, outOf, into}
 use Rattle.model.specs.Demand3.{Demand3}
+use Rattle.model.specs.Closed.{NoneAfterClose}
 use Rattle.model.specs.Words.{Simulation}
 use Rattle.model.proofs.Demand2.{demand2}
 use Rattle.model.proofs.Demand3.{demand3}
+use Rattle.model.proofs.Closed.{none-after-close}
 
 -- two states are equal if their parts are, the slots one by one
 pub state-path : (s u : State) → ((y : ℕ) → s .slotOf y ≡ u .slotOf y) → s .queue ≡ u .queue → s .free ≡ u .free → s .issued ≡ u .issued → s .budget ≡ u .budget → s .cursor ≡ u .cursor
@@ -48,6 +50,10 @@ module _ (R S : Rules) (sim : Simulation R S) where
   unfolding Demand3
   transfer3 h o lent d calls before rest e = h o lent (sym (sim .opens-alike o lent) ∙ d) calls before rest (sym (opened-trace o lent d calls) ∙ e)
 
+  transfer-closed : NoneAfterClose S → NoneAfterClose R
+  unfolding NoneAfterClose
+  transfer-closed h o lent d calls before rest i e = h o lent (sym (sim .opens-alike o lent) ∙ d) calls before rest i (sym (opened-trace o lent d calls) ∙ e)
+
   transfer2 : (ring : S .State → LaneKey → List ℕ) → Demand2 S ring → Demand2 R (λ w. ring (sim .view w))
   unfolding Demand2
   transfer2 ring h o lent d calls k z =
@@ -55,6 +61,9 @@ module _ (R S : Rules) (sim : Simulation R S) where
       let end = same-after ((R .opens o lent) .1) calls (sim .opens-ok o lent d) ∙ ap (λ (x : S .State). after S x calls) (sim .opens-view o lent d) in
       let g = h o lent (sym (sim .opens-alike o lent) ∙ d) calls k (ap (countTicks (shuts k)) (sym t) ∙ z) in
       ap (λ (l : List Tick). values (outOf k) l ++ ring (sim .view (after R ((R .opens o lent) .1) calls)) k) t ∙ ap (λ (x : S .State). values (outOf k) (trace S ((S .opens o lent) .1) calls) ++ ring x k) end ∙ g ∙ ap (values (into k)) (sym t)
+
+pub words-none-after-close : (R : Rules) → Simulation R theRules → NoneAfterClose R
+words-none-after-close R sim = transfer-closed R theRules sim none-after-close
 
 pub words-demand3 : (R : Rules) → Simulation R theRules → Demand3 R
 words-demand3 R sim = transfer3 R theRules sim demand3

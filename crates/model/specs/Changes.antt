@@ -132,127 +132,77 @@ newLane g l = record {
   burst = 0;
 }
 
--- "A send marks its lane's signal; idle to pending sets the page bit"
-abbrev pub signalled : Slot → Slot
-signalled l = record {
-  registered = l .registered;
-  living = l .living;
-  paused = l .paused;
-  pending = true;
-  marked = either (not (l .pending)) (l .marked);
+-- What changes of a slot, in three parts: the lane's flags, its signal and page bit, its ring.
+abbrev pub withFlags : Bool → Bool → Bool → Slot → Slot
+withFlags registered living paused l = record {
+  registered = registered;
+  living = living;
+  paused = paused;
+  pending = l .pending;
+  marked = l .marked;
   generation = l .generation;
   ring = l .ring;
   unreleased = l .unreleased;
   burst = l .burst;
 }
+
+abbrev pub withSignal : Bool → Bool → Slot → Slot
+withSignal pending marked l = record {
+  registered = l .registered;
+  living = l .living;
+  paused = l .paused;
+  pending = pending;
+  marked = marked;
+  generation = l .generation;
+  ring = l .ring;
+  unreleased = l .unreleased;
+  burst = l .burst;
+}
+
+abbrev pub withRing : List ℕ → ℕ → ℕ → Slot → Slot
+withRing ring unreleased burst l = record {
+  registered = l .registered;
+  living = l .living;
+  paused = l .paused;
+  pending = l .pending;
+  marked = l .marked;
+  generation = l .generation;
+  ring = ring;
+  unreleased = unreleased;
+  burst = burst;
+}
+
+-- "A send marks its lane's signal; idle to pending sets the page bit"
+abbrev pub signalled : Slot → Slot
+signalled l = withSignal true (either (not (l .pending)) (l .marked)) l
 
 -- Taking a page "reads it and leaves 0"; the signal is not touched.
 abbrev pub unmarked : Slot → Slot
-unmarked l = record {
-  registered = l .registered;
-  living = l .living;
-  paused = l .paused;
-  pending = l .pending;
-  marked = false;
-  generation = l .generation;
-  ring = l .ring;
-  unreleased = l .unreleased;
-  burst = l .burst;
-}
+unmarked l = withSignal (l .pending) false l
 
 -- "flush publishes everything pushed"
 abbrev pub pushed : ℕ → Slot → Slot
-pushed v l = record {
-  registered = l .registered;
-  living = l .living;
-  paused = l .paused;
-  pending = l .pending;
-  marked = l .marked;
-  generation = l .generation;
-  ring = l .ring ++ (v ∷ []);
-  unreleased = l .unreleased;
-  burst = l .burst;
-}
-
-abbrev pub senderDropped : Slot → Slot
-senderDropped l = record {
-  registered = l .registered;
-  living = false;
-  paused = l .paused;
-  pending = l .pending;
-  marked = l .marked;
-  generation = l .generation;
-  ring = l .ring;
-  unreleased = l .unreleased;
-  burst = l .burst;
-}
+pushed v l = withRing (l .ring ++ (v ∷ [])) (l .unreleased) (l .burst) l
 
 -- An item taken: the items left, the unreleased count and the burst after it.
 abbrev pub popped : List ℕ → ℕ → ℕ → Slot → Slot
-popped vs n b l = record {
-  registered = l .registered;
-  living = l .living;
-  paused = l .paused;
-  pending = l .pending;
-  marked = l .marked;
-  generation = l .generation;
-  ring = vs;
-  unreleased = n;
-  burst = b;
-}
+popped vs n b l = withRing vs n b l
 
 -- "Credit goes back [..] when the lane is found empty"; "its signal goes back to idle only when the lane is found empty"
 -- The burst starts anew.
 abbrev pub settledEmpty : Slot → Slot
-settledEmpty l = record {
-  registered = l .registered;
-  living = l .living;
-  paused = l .paused;
-  pending = false;
-  marked = l .marked;
-  generation = l .generation;
-  ring = l .ring;
-  unreleased = 0;
-  burst = 0;
-}
-
--- The lane is gone; its sender and "a closed lane's signal is kept while its sender lives".
-abbrev pub retired : Slot → Slot
-retired l = record {
-  registered = false;
-  living = l .living;
-  paused = false;
-  pending = l .pending;
-  marked = l .marked;
-  generation = l .generation;
-  ring = l .ring;
-  unreleased = l .unreleased;
-  burst = l .burst;
-}
-
-abbrev pub withPaused : Bool → Slot → Slot
-withPaused b l = record {
-  registered = l .registered;
-  living = l .living;
-  paused = b;
-  pending = l .pending;
-  marked = l .marked;
-  generation = l .generation;
-  ring = l .ring;
-  unreleased = l .unreleased;
-  burst = l .burst;
-}
+settledEmpty l = withSignal false (l .marked) (withRing (l .ring) 0 0 l)
 
 -- The lane's credit goes back.
 abbrev pub credited : Slot → Slot
-credited l = record {
-  registered = l .registered;
-  living = l .living;
-  paused = l .paused;
-  pending = l .pending;
-  marked = l .marked;
-  generation = l .generation;
-  ring = l .ring;
-  unreleased = if (l .registered) 0 (l .unreleased);
-  burst = l .burst;
-}
+credited l = withRing (l .ring) (if (l .registered) 0 (l .unreleased)) (l .burst) l
+
+abbrev pub withPaused : Bool → Slot → Slot
+withPaused b l = withFlags (l .registered) (l .living) b l
+
+abbrev pub senderDropped : Slot → Slot
+senderDropped l = withFlags (l .registered) false (l .paused) l
+
+-- The lane is gone; its sender may live on, and "a closed lane's signal is kept while its sender lives".
+abbrev pub retired : Slot → Slot
+retired l = withFlags false (l .living) false l

@@ -14,6 +14,7 @@ pub mod Rules
 pub mod Order
 pub mod Ledger
 pub mod Stretch
+pub mod Demand1
 pub mod Demand2
 pub mod Demand3
 pub mod Closed
