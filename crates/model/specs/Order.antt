@@ -29,6 +29,7 @@ pub record SlotOrdered (y issued n m : ℕ) (l : Slot) : Type 0 where
   -- "Free slots are distinct, hold no lane and had a last generation below 2^64 - 1"
   pub free-once : m ≤ 1
   pub free-unregistered : 1 ≤ m → l .registered ≡ false
+  -- (a generation is a u64, so it is below 2^64 - 1 if it is not that number)
   pub free-generation : 1 ≤ m → l .generation ≢ 18446744073709551615
   -- "Per registered lane": "burst at most 63"
   pub burst-most : l .registered ≡ true → l .burst ≤ 63
@@ -60,6 +61,7 @@ pub record LaneFits (c : ℕ) (l : Slot) : Type 0 where
   pub below-batch : l .unreleased < releaseBatch c
 
 pub record RingsFit (s : State) : Type 0 where
+  -- C is at least 1, as `Sizes` says too
   pub positive : 1 ≤ s .capacity
   -- "Per registered lane"
   pub each-fits : (y : ℕ) → s .slotOf y .registered ≡ true → LaneFits (s .capacity) (s .slotOf y)
