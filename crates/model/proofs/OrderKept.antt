@@ -321,7 +321,7 @@ collect-group-ordered s g l o = go (marks s g) refl
   where
     go : (m : List ℕ) → marks s g ≡ m → Ordered (collectMarks m s g)
     go [] e = o
-    go (x ∷ m) e = record { each-slot = λ y. subst-marks e (collect-group-fine s g o y); budget-most = o .budget-most; cursor-most = l; sizes = o .sizes }
+    go (x ∷ m) e = record { each-slot = λ y. subst-marks e (collect-group-fine s g o y); budget-most = o .budget-most; cursor-most = omega (arith, l); sizes = o .sizes }
       where
         subst-marks : {y : ℕ} {l : Slot} → marks s g ≡ x ∷ m → SlotOrdered y (s .issued) (count y (s .queue ++ keep (isReady s) (marks s g))) (count y (s .free)) l → SlotOrdered y (s .issued) (count y (s .queue ++ keep (isReady s) (x ∷ m))) (count y (s .free)) l
         subst-marks e h = rw e at h
