@@ -1,0 +1,97 @@
+-- The receives: plain, fair, targeted and batch.
+-- Assumes nothing.
+use mathlib.Core.Bool.{Bool, true, false, not}
+use mathlib.Core.List.{List, [], _∷_, _++_}
+use Prim.Native.Nat.{ℕ, zero, suc}
+use lib.ListN.{length}
+use lib.Dec.{leb, ltb}
+use Rattle.model.specs.declared.LaneKey.{LaneKey}
+use Rattle.model.specs.declared.LaneId.{LaneId}
+use Rattle.model.specs.declared.ReceiveCall.{ReceiveCall}
+use Rattle.model.specs.declared.ReceiveCall.the-variants.{TryRecv, TryRecvFair, TryRecvFrom, TryRecvBatchInto}
+use Rattle.model.specs.declared.Refusal.the-variants.{ReceiverClosed, OutputShort, NoSuchLane}
+use Rattle.model.specs.declared.Answer.the-variants.{Item, Items, Empty, Disconnected}
+use Rattle.model.specs.Lists.{if, both, nonEmpty, without, from}
+use Rattle.model.specs.State.{State, mayQueue, registeredLanes, livingSenders, keyOf, idOf, hasLaneId}
+use Rattle.model.specs.Changes.{withSlots, withQueue, put, signalled, popped, credited}
+use Rattle.model.specs.Turn.{retireLaneIf, settleEmpty, unreleasedAfterOne, Took, takeOne, takeFair}
+use Rattle.model.specs.Outcome.{Outcome, says, unless}
+
+-- "after empty paused lanes are retired". Reading: by ascending slot.
+unfoldable pub retireEmptyPausedLanes : List ℕ → State → State
+retireEmptyPausedLanes [] s = s
+retireEmptyPausedLanes (x ∷ xs) s =
+    retireEmptyPausedLanes xs
+    (retireLaneIf (both (s .slotOf x .registered) (both (s .slotOf x .paused) (not (nonEmpty (s .slotOf x .ring))))) x s)
+
+-- "Disconnected: no living sender and no registered lane, after empty paused lanes are retired.
+-- With no living sender but a paused lane holding items: Empty."
+unfoldable pub emptyOrDrained : State → Outcome
+emptyOrDrained s = says (if (leb 1 (registeredLanes s)) Empty Disconnected) s
+
+unfoldable pub nothingTaken : State → Outcome
+nothingTaken s = if (leb 1 (livingSenders s)) (says Empty s) (emptyOrDrained (retireEmptyPausedLanes (from 0 (s .issued)) s))
+
+-- "Single receives answer item and lane id (channel id, key)."
+unfoldable pub answerOne : List (LaneKey × ℕ) → State → Outcome
+answerOne [] s = nothingTaken s
+answerOne (g ∷ gs) s = (g ∷ [], (Item (g .1) (idOf s (g .0)), s))
+
+-- "Plain: first the open fast window at `fast_slot`; else [..]", as `takeOne` says.
+unfoldable pub tryRecv : State → Outcome
+tryRecv s = unless ((not (s .isOpen), ReceiverClosed) ∷ []) s (let t = takeOne s in answerOne (t .0) (t .1))
+
+-- "Fair: collect all groups if any is ready, budget 64, one item of the front lane, which goes to the back."
+unfoldable pub tryRecvFair : State → Outcome
+tryRecvFair s = unless ((not (s .isOpen), ReceiverClosed) ∷ []) s (let t = takeFair s in answerOne (t .0) (t .1))
+
+-- "Whatever queues a lane, resume too, puts it at the back." Its signal is marked.
+unfoldable pub queueLaneIf : Bool → ℕ → State → State
+queueLaneIf true x s = withQueue (s .queue ++ (x ∷ [])) (put x (signalled (s .slotOf x)) s)
+queueLaneIf false x s = s
+
+-- "Targeted: counts in neither burst nor budget, works on a paused lane, queues an unpaused one."
+-- A lane found empty settles; with its sender dropped it retires and the answer is Disconnected.
+unfoldable pub takeFrom : List ℕ → ℕ → State → Outcome
+takeFrom [] x s = says (if (s .slotOf x .living) Empty Disconnected) (settleEmpty x (without x (s .queue)) s)
+takeFrom (v ∷ vs) x s =
+    let m = popped vs (unreleasedAfterOne s x) (s .slotOf x .burst) (s .slotOf x) in
+    ((keyOf s x, v) ∷ [], (Item v (idOf s (keyOf s x)), queueLaneIf (mayQueue s x) x (put x m s)))
+
+unfoldable pub tryRecvFrom : State → LaneId → Outcome
+tryRecvFrom s i =
+    unless ((not (s .isOpen), ReceiverClosed) ∷ (not (hasLaneId s i), NoSuchLane) ∷ []) s
+    (takeFrom (s .slotOf (i .key .slot) .ring) (i .key .slot) s)
+
+-- An item and what follows it; or nothing, and then nothing follows.
+unfoldable pub andMore : List (LaneKey × ℕ) → State → Took → Took
+andMore [] s r = ([], s)
+andMore (g ∷ gs) s r = (g ∷ r .0, r .1)
+
+-- "Batch: until the limit, or until nothing is queued and nothing is ready"
+-- Reading: item by item; moving several of a lane at once comes to the same.
+unfoldable pub takeUpTo : ℕ → State → Took
+takeUpTo zero s = ([], s)
+takeUpTo (suc m) s = let t = takeOne s in let r = takeUpTo m (t .1) in andMore (t .0) (t .1) r
+
+-- "then every lane gives back its credit"
+unfoldable pub releaseAll : State → State
+releaseAll s = withSlots (λ y. credited (s .slotOf y)) s
+
+-- "Limit 0 answers 0 items, even with no senders, and still gives back."
+-- The answer is the number of items; the items are those handed out, in order.
+unfoldable pub answerItems : ℕ → List (LaneKey × ℕ) → State → Outcome
+answerItems zero l s = (l, (Items (length l), s))
+answerItems (suc m) [] s = nothingTaken s
+answerItems (suc m) (g ∷ l) s = (g ∷ l, (Items (length (g ∷ l)), s))
+
+unfoldable pub tryRecvBatchInto : State → ℕ → ℕ → Outcome
+tryRecvBatchInto s limit room =
+    unless ((not (s .isOpen), ReceiverClosed) ∷ (ltb room limit, OutputShort) ∷ []) s
+    (let t = takeUpTo limit s in answerItems limit (t .0) (releaseAll (t .1)))
+
+unfoldable pub receiveOutcome : State → ReceiveCall → Outcome
+receiveOutcome s TryRecv = tryRecv s
+receiveOutcome s TryRecvFair = tryRecvFair s
+receiveOutcome s (TryRecvFrom i) = tryRecvFrom s i
+receiveOutcome s (TryRecvBatchInto limit room) = tryRecvBatchInto s limit room

@@ -1,0 +1,25 @@
+-- Document 01's rules, put together.
+-- Assumes nothing.
+use Rattle.model.specs.declared.Call.{Call}
+use Rattle.model.specs.declared.Call.the-variants.{Sender, Receive, Control}
+use Rattle.model.specs.State.{State}
+use Rattle.model.specs.Outcome.{Outcome}
+use Rattle.model.specs.Runs.{Rules}
+use Rattle.model.specs.Sender.{senderOutcome}
+use Rattle.model.specs.Receive.{receiveOutcome}
+use Rattle.model.specs.Control.{controlOutcome}
+use Rattle.model.specs.Opening.{openingOutcome}
+
+unfoldable pub outcome : State → Call → Outcome
+outcome s (Sender c) = senderOutcome s c
+outcome s (Receive r) = receiveOutcome s r
+outcome s (Control c) = controlOutcome s c
+
+-- What demands 2 and 3 are proved of.
+abbrev pub theRules : Rules
+theRules = record {
+  State = State;
+  opens = λ o lent. (openingOutcome o lent) .1;
+  step = λ s c. (outcome s c) .1;
+  hands = λ s r. (receiveOutcome s r) .0;
+}

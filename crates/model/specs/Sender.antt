@@ -1,0 +1,67 @@
+-- The sender calls.
+-- Assumes nothing.
+use mathlib.Core.Bool.{Bool, false, not}
+use mathlib.Core.List.{List, [], _∷_}
+use Prim.Native.Nat.{ℕ, suc, _+_}
+use lib.Dec.{leb}
+use Rattle.model.specs.declared.LaneKey.{LaneKey}
+use Rattle.model.specs.declared.SenderCall.{SenderCall}
+use Rattle.model.specs.declared.SenderCall.the-variants.{RegisterSender, TrySend, TrySendUnsignaled, DropSender}
+use Rattle.model.specs.declared.Refusal.the-variants.{ReceiverClosed, AtCapacity, NoFreeSlot, OlderSenderLives, NoSuchSender, LaneClosed, Full}
+use Rattle.model.specs.declared.Answer.the-variants.{Done, Registered, Taken}
+use Rattle.model.specs.Lists.{both, nonEmpty}
+use Rattle.model.specs.State.{State, registeredLanes, senderLives, isFull}
+use Rattle.model.specs.Changes.{withFree, withIssued, put, newLane, signalled, pushed, senderDropped}
+use Rattle.model.specs.Outcome.{Outcome, says, unless}
+
+-- "Slots: the one freed last is issued first, with generation + 1; else the next unused."
+-- "a slot's first lane has the first generation"
+unfoldable pub issueSlot : List ℕ → State → Outcome
+issueSlot [] s =
+    says (Registered record { slot = s .issued; generation = s .firstGeneration })
+    (withIssued (suc (s .issued)) (put (s .issued) (newLane (s .firstGeneration) (s .slotOf (s .issued))) s))
+issueSlot (x ∷ f) s =
+    says (Registered record { slot = x; generation = s .slotOf x .generation + 1 })
+    (withFree f (put x (newLane (s .slotOf x .generation + 1) (s .slotOf x)) s))
+
+-- "the slot due still has a living older sender". Reading: only a slot from the free list can have one.
+unfoldable pub olderLives : List ℕ → State → Bool
+olderLives [] s = false
+olderLives (x ∷ f) s = s .slotOf x .living
+
+-- "receiver closed"; "registered lanes are as many as the most-lanes number, or more"; "free list empty and slot S - 1 issued"
+unfoldable pub registerSender : State → ℕ → Outcome
+registerSender s most =
+    unless
+    ((not (s .isOpen), ReceiverClosed) ∷ (leb most (registeredLanes s), AtCapacity)
+    ∷ (both (not (nonEmpty (s .free))) (leb (s .slots) (s .issued)), NoFreeSlot) ∷ (olderLives (s .free) s, OlderSenderLives) ∷ [])
+    s (issueSlot (s .free) s)
+
+-- "no living sender has this key"; "lane closed, or the receiver (`Disconnected`)"; "ring full (`Full`)"
+-- "answers whether the signal went from idle to pending"
+unfoldable pub trySend : State → LaneKey → ℕ → Outcome
+trySend s k v =
+    unless
+    ((not (senderLives s k), NoSuchSender) ∷ (not (both (s .isOpen) (s .slotOf (k .slot) .registered)), LaneClosed)
+    ∷ (isFull s (k .slot), Full) ∷ [])
+    s (says (Taken (not (s .slotOf (k .slot) .pending))) (put (k .slot) (signalled (pushed v (s .slotOf (k .slot)))) s))
+
+-- "woken: 1 or 0; unsignalled always 0"
+unfoldable pub trySendUnsignaled : State → LaneKey → ℕ → Outcome
+trySendUnsignaled s k v =
+    unless
+    ((not (senderLives s k), NoSuchSender) ∷ (not (both (s .isOpen) (s .slotOf (k .slot) .registered)), LaneClosed)
+    ∷ (isFull s (k .slot), Full) ∷ [])
+    s (says (Taken false) (put (k .slot) (pushed v (s .slotOf (k .slot))) s))
+
+-- "Dropping a sender marks its lane (a closed lane's signal is kept while its sender lives) and lowers the living count"
+unfoldable pub dropSender : State → LaneKey → Outcome
+dropSender s k =
+    unless ((not (senderLives s k), NoSuchSender) ∷ []) s
+    (says Done (put (k .slot) (signalled (senderDropped (s .slotOf (k .slot)))) s))
+
+unfoldable pub senderOutcome : State → SenderCall → Outcome
+senderOutcome s (RegisterSender most) = registerSender s most
+senderOutcome s (TrySend k v) = trySend s k v
+senderOutcome s (TrySendUnsignaled k v) = trySendUnsignaled s k v
+senderOutcome s (DropSender k) = dropSender s k
