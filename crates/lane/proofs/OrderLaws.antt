@@ -7,7 +7,7 @@ use Prim.Native.Nat.{ℕ, _+_, _-_, _≤_, _<_, _^_, min}
 use native.Mathlib.Omega.{arith}
 use borrow.Author.Tests.{eqb-true, eqb-false}
 use lib.Dec.{eqb}
-use Rattle.model.specs.Capacity.{releaseBatch}
+use Rattle.model.specs.State.{releaseBatch}
 use Rattle.lane.specs.Cursor.{after, distance, Capacity}
 use Rattle.lane.specs.Lane.{withCursors, withCounts, prefetch, reload, released, headOn, closeFast, windowFor, openWindow, openFor, grantFast, windowPop, popFast, releaseAtBatch, releaseAny, releasePending, settled, emptied, settleEmpty, readyOrIdle, refill, reloadIsEmpty, charged, addBurst, endBurst, targeted, popTargeted, polled, pollItem, pollRefilled, poll, fairWindow, burstOfWindow, fairly, popFair, endFullBurst, chunkLimit, chunkMoved, moveChunk, movedInto, sent, pushAndFlush, newLane}
 use Rattle.lane.specs.Order.{Cursors, Counts, InOrder, Filled, Refundable, sentLane, poppedLane, refilledLane, polledLane}
@@ -36,7 +36,12 @@ positive h = omega arith
 
 -- the release batch is at most the capacity
 pub batch-most : (C : ℕ) → releaseBatch C ≤ C
+unfolding releaseBatch
 batch-most C = omega arith
+
+pub batch-some : (C : ℕ) → 0 < C → 0 < releaseBatch C
+unfolding releaseBatch
+batch-some C h = omega arith
 
 module _ (C : ℕ) (small : C ≤ 65536) (l : Lane) (o : InOrder C l) where
   fits : {B d m c u b w : ℕ} → Counts B d m c u b w → m ≤ C → c + w < 2 ^ 64
@@ -369,11 +374,8 @@ new-lane-in-order C k key cursor h =
     let z : distance cursor cursor ≡ 0 = distance-self cursor h in
     record {
       cursors = record { tail-u64 = h; released-u64 = h; head-u64 = h; known-u64 = h; head-on = rw z (omega arith); known-on = rw z (omega arith); tail-on = rw z (omega arith); tail-within = rw z (omega arith) };
-      counts = rw z (record { cached-is = refl; unreleased-is = refl; unreleased-below = some-batch C (some C k); window-most = omega arith; burst-most = omega arith });
+      counts = rw z (record { cached-is = refl; unreleased-is = refl; unreleased-below = batch-some C (some C k); window-most = omega arith; burst-most = omega arith });
     }
-  where
-    some-batch : (C : ℕ) → 0 < C → 0 < releaseBatch C
-    some-batch C h = omega arith
 
 -- settling leaves nothing published since the last look, where there was nothing
 settled-nothing-new : (m : Lane) → m .known ≡ m .tail → m .tail < 2 ^ 64 → prefetch (settleEmpty m .lane) .cached ≡ 0

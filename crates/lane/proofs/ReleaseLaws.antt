@@ -9,7 +9,8 @@ use lib.Count.{trailingZeros}
 use lib.Dec.{eqb, eqb→eq}
 use lib.ListN.{length, getD}
 use Rattle.lane.specs.Cursor.{Capacity}
-use Rattle.model.specs.Capacity.{rounded, doubled, releaseBatch}
+use Rattle.model.specs.State.{releaseBatch}
+use Rattle.model.specs.Opening.{nextPowerOfTwo, doubledUntil}
 use Rattle.lane.specs.Release.{examples, agree}
 use Rattle.lane.proofs.EveryEntry.{at}
 
@@ -31,9 +32,9 @@ module _ (C : ℕ) (k : Capacity C) where
   log-is = rw (k .is) (eqb→eq (trailingZeros 64 (2 ^ k .log)) (k .log) (at counts-zeros batches tt (k .log) (omega (arith, k .small))))
 
   pub entry-is : getD batches (k .log) 0 ≡ releaseBatch C
-  unfolding holds-rule
+  unfolding holds-rule releaseBatch
   entry-is = rw (k .is) (eqb→eq (getD batches (k .log) 0) (releaseBatch (2 ^ k .log)) (at holds-rule batches tt (k .log) (omega (arith, k .small))))
 
 pub examples-agree : agree examples ≡ true
-unfolding rounded doubled
+unfolding doubledUntil releaseBatch
 examples-agree = refl

@@ -8,7 +8,7 @@ use Rattle.model.specs.declared.LaneKey.{LaneKey}
 use Rattle.lane.specs.Lists.{written}
 use Rattle.lane.specs.Cursor.{after, distance}
 use Rattle.lane.specs.Ring.{itemAt, items, push}
-use Rattle.model.specs.Capacity.{releaseBatch}
+use Rattle.model.specs.State.{releaseBatch}
 use Rattle.lane.specs.declared.ring.Ring.{Ring}
 use Rattle.lane.specs.declared.ring.Push.{Push}
 use Rattle.lane.specs.declared.ring.Push.the-variants.{Pushed, Full}

@@ -4,7 +4,8 @@ use mathlib.Core.Bool.{Bool, true, _&&_}
 use mathlib.Core.List.{List, [], _∷_}
 use Prim.Native.Nat.{ℕ}
 use lib.Dec.{eqb}
-use Rattle.model.specs.Capacity.{rounded, releaseBatch}
+use Rattle.model.specs.State.{releaseBatch}
+use Rattle.model.specs.Opening.{nextPowerOfTwo}
 
 -- a capacity as an opening takes it, the C it is rounded up to, and the batch of C
 pub record Example : Type 0 where
@@ -26,4 +27,4 @@ examples =
 -- every example is as the rules have it
 abbrev pub agree : List Example → Bool
 agree [] = true
-agree (e ∷ es) = eqb (rounded (e .capacity)) (e .C) && (eqb (releaseBatch (e .C)) (e .batch) && agree es)
+agree (e ∷ es) = eqb (nextPowerOfTwo (e .capacity)) (e .C) && (eqb (releaseBatch (e .C)) (e .batch) && agree es)

@@ -1,7 +1,7 @@
 // The release batch: how many consumed places go back to the sender at once (receiver/lane.rs, `Lane::new`).
 ghost use mathlib.Core.Path.{_≡_};
 ghost use Rattle.lane.specs.Cursor.{Capacity};
-ghost use Rattle.model.specs.Capacity.{releaseBatch};
+ghost use Rattle.model.specs.State.{releaseBatch};
 
 // By the logarithm of the capacity.
 const RELEASE_BATCH: [u64; 17] = [

@@ -1,4 +1,3 @@
-pub mod Capacity
 pub mod Answers
 pub mod Lists
 pub mod State
