@@ -1,6 +1,6 @@
 -- A lane in order stays in order under every method.
 -- Assumes nothing.
-use mathlib.Core.Path.{_≡_, refl, _∙_, sym, ap}
+use mathlib.Core.Path.{_≡_, refl, _∙_, sym, ap, ap₂}
 use mathlib.Core.Bool.{Bool, true, false, cond, _||_}
 use mathlib.Core.List.{List}
 use Prim.Native.Nat.{ℕ, _+_, _-_, _≤_, _<_, _^_, min}
@@ -22,7 +22,7 @@ use Rattle.lane.specs.declared.lane.Targeted.{Targeted}
 use Rattle.lane.specs.declared.lane.LanePoll.the-variants as LanePoll
 use Rattle.lane.specs.declared.lane.Refill.{Refill}
 use Rattle.lane.specs.declared.lane.Refill.the-variants as Refill
-use Rattle.lane.proofs.CursorLaws.{some, behind-after, ahead-after, distance-self}
+use Rattle.lane.proofs.CursorLaws.{some, behind-after, ahead-after, distance-self, distance-none}
 use Rattle.lane.proofs.CursorOrder.{held-adds, head-goes-on, tail-goes-on, known-is-tail, released-is-head}
 use Rattle.lane.proofs.CountOrder.{counts-close, counts-look, counts-open, counts-pop, counts-charge, counts-credit, counts-release, counts-burst}
 
@@ -377,23 +377,41 @@ new-lane-in-order C k key cursor h =
       counts = rw z (record { cached-is = refl; unreleased-is = refl; unreleased-below = batch-some C (some C k); window-most = omega arith; burst-most = omega arith });
     }
 
--- settling leaves nothing published since the last look, where there was nothing
-settled-nothing-new : (m : Lane) → m .known ≡ m .tail → m .tail < 2 ^ 64 → prefetch (settleEmpty m .lane) .cached ≡ 0
-unfolding settleEmpty emptied releasePending releaseAny
-settled-nothing-new m k h =
-    cond-holds (λ (r : Released). prefetch (settled (r .lane)) .cached ≡ 0) (eqb (closeFast m .unreleased) 0)
-    (record { lane = closeFast m; released = false }) (record { lane = released (closeFast m); released = true })
-    (λ t. nothing) (λ t. nothing)
-  where
-    nothing : distance (m .tail) (m .known) ≡ 0
-    nothing = rw k (distance-self (m .tail) h)
+-- A LANE FOUND EMPTY
 
--- `Keep` never occurs: after a lane was found empty and settled, the Rust's second look finds nothing
-pub keep-never : (C : ℕ) (l : Lane) → InOrder C l → reload (closeFast l) .cached ≡ 0 → prefetch (settleEmpty (reload (closeFast l)) .lane) .cached ≡ 0
-unfolding reload
-keep-never C l o e = go (eqb (closeFast l .cached) 0) refl e
-  where
-    go : (t : Bool) → eqb (closeFast l .cached) 0 ≡ t → cond t (prefetch (closeFast l)) (closeFast l) .cached ≡ 0
-        → prefetch (settleEmpty (cond t (prefetch (closeFast l)) (closeFast l)) .lane) .cached ≡ 0
-    go true s f = settled-nothing-new (prefetch (closeFast l)) refl (o .cursors .tail-u64)
-    go false s f = absurd (eqb-false (closeFast l .cached) 0 s f)
+-- a look that finds nothing new changes nothing
+look-same : (l : Lane) → distance (l .tail) (l .known) ≡ l .cached → l .tail ≡ l .known → prefetch l ≡ l
+look-same l e f = ap₂ (λ (c k : ℕ). withCounts c (l .unreleased) (l .burst) (l .window) (withCursors (l .tail) (l .released) (l .head) k l)) e f
+
+module _ (C : ℕ) (small : C ≤ 65536) (l : Lane) (o : InOrder C l) (none : reload (closeFast l) .cached ≡ 0) where
+  -- it was looked at, and what is known of is all that was published
+  found-by-look : (reload (closeFast l) ≡ prefetch (closeFast l)) × (l .cached + l .window ≡ 0)
+  unfolding reload
+  found-by-look = go (eqb (l .cached + l .window) 0) refl none
+    where
+      go : (t : Bool) → eqb (l .cached + l .window) 0 ≡ t → cond t (prefetch (closeFast l)) (closeFast l) .cached ≡ 0
+          → (cond t (prefetch (closeFast l)) (closeFast l) ≡ prefetch (closeFast l)) × (l .cached + l .window ≡ 0)
+      go true s f = (refl, eqb-true (l .cached + l .window) 0 s)
+      go false s f = absurd (eqb-false (l .cached + l .window) 0 s f)
+
+  nothing-new : distance (l .tail) (l .known) ≡ 0
+  nothing-new = sym (ap (λ (m : Lane). m .cached) (found-by-look .0)) ∙ none
+
+  -- its ring is empty: the Rust's test of `is_disconnected` on the cursors holds
+  pub found-empty : l .tail ≡ l .head
+  found-empty =
+      distance-none (l .tail) (l .head) (o .cursors .tail-u64) (o .cursors .head-u64)
+      (held-adds C (l .tail) (l .released) (l .head) (l .known) small (o .cursors) ∙ ap₂ _+_ nothing-new (sym (o .counts .cached-is) ∙ found-by-look .1))
+
+  -- `Keep` never occurs: settled, the lane has nothing published since, and the Rust's second look changes nothing
+  pub keep-never : prefetch (settleEmpty (reload (closeFast l)) .lane) ≡ settleEmpty (reload (closeFast l)) .lane
+  unfolding settleEmpty emptied releasePending releaseAny
+  keep-never =
+      rw (found-by-look .0)
+      (cond-holds (λ (r : Released). prefetch (settled (r .lane)) ≡ settled (r .lane)) (eqb (closeFast (prefetch (closeFast l)) .unreleased) 0)
+      (record { lane = closeFast (prefetch (closeFast l)); released = false }) (record { lane = released (closeFast (prefetch (closeFast l))); released = true })
+      (λ t. look-same (settled (closeFast (prefetch (closeFast l)))) same refl)
+      (λ t. look-same (settled (released (closeFast (prefetch (closeFast l))))) same refl))
+    where
+      same : distance (l .tail) (l .tail) ≡ distance (l .tail) (l .known) + 0
+      same = distance-self (l .tail) (o .cursors .tail-u64) ∙ sym (ap (λ (n : ℕ). n + 0) nothing-new)
