@@ -25,3 +25,8 @@ pub mod InOrder
 pub mod Chunks
 pub mod Examples
 pub mod BoundMet
+pub mod Events
+pub mod EventsOfRuns
+pub mod Budget
+pub mod OneTurn
+pub mod Collections

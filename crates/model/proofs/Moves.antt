@@ -124,7 +124,7 @@ unfolding hasLaneId
 has-lane-of-id s i e = both-true (eqb (i .channel) (s .channel)) (hasLane s (i .key)) e .1
 
 -- calls that are no receives: one move
-sender-move : (s : State) (c : SenderCall) → Moves s (ends (Sender c) ((senderOutcome s c) .1 .0)) ((senderOutcome s c) .1 .1)
+pub sender-move : (s : State) (c : SenderCall) → Moves s (ends (Sender c) ((senderOutcome s c) .1 .0)) ((senderOutcome s c) .1 .1)
 unfolding senderOutcome registerSender trySend trySendUnsignaled dropSender issueSlot olderLives
 sender-move s (RegisterSender m) =
     unless-law (λ o. Moves s (ends (Sender (RegisterSender m)) (o .1 .0)) (o .1 .1)) _ s _ (λ n. stays-put s _ _ (turned-away _ n)) (λ p. go (s .free) refl (p .1 .1 .0))
@@ -145,7 +145,7 @@ quiet-control : (c : ControlCall) (a : Answer) → ((L : Ledger) → note L (end
 unfolding looksInVain looks into
 quiet-control c a h = record { noted = h; sees = refl; sends-none = λ k. refl }
 
-control-move : (s : State) (c : ControlCall) → Moves s (ends (Control c) ((controlOutcome s c) .1 .0)) ((controlOutcome s c) .1 .1)
+pub control-move : (s : State) (c : ControlCall) → Moves s (ends (Control c) ((controlOutcome s c) .1 .0)) ((controlOutcome s c) .1 .1)
 unfolding controlOutcome pause resume closeLane releaseConsumed pollAllLanes closeReceiver countHeld resumeIf note applyCall addRegistered accepted
 control-move s (Pause i) =
     unless-law (λ o. Moves s (ends (Control (Pause i)) (o .1 .0)) (o .1 .1)) _ s _ (λ n. stays-put s _ _ (turned-away _ n)) (λ p. pauses-it s i (has-lane-of-id s i (not-false (p .1 .0))))

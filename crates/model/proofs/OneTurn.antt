@@ -1,0 +1,28 @@
+-- In every run a lane gives at most 64 items to untargeted receives between two ends of its turn.
+-- Assumes nothing.
+use mathlib.Core.Path.{_≡_, refl, ap}
+use mathlib.Core.Bool.{Bool, true, false}
+use mathlib.Core.List.{List, _++_}
+use Prim.Native.Nat.{ℕ, _+_, _≤_}
+use native.Mathlib.Omega.{arith}
+use Rattle.model.specs.declared.LaneKey.{LaneKey}
+use Rattle.model.specs.Lists.{if}
+use Rattle.model.specs.Runs.{sameKey}
+use Rattle.model.specs.Events.{Event, budgetSet, collected, foundEmpty, itemTaken, wentToBack, takesItemOf}
+use Rattle.model.specs.OneTurn.{endsTurnOf, AtMost64InOneTurn}
+use Rattle.model.proofs.Events.{Tally, next, Small, Below}
+use Rattle.model.proofs.EventsOfRuns.{zeros, run-pass, part-most}
+
+reads : (k : LaneKey) (T : Tally) (e : Event) → (next k T e) .inTurn ≡ if (endsTurnOf k e) 0 (if (takesItemOf k e) (T .inTurn + 1) (T .inTurn))
+unfolding next endsTurnOf takesItemOf
+reads k T budgetSet = refl
+reads k T collected = refl
+reads k T (foundEmpty j) = refl
+reads k T (itemTaken j) = refl
+reads k T (wentToBack j) = refl
+
+pub at-most-64-in-one-turn : AtMost64InOneTurn
+unfolding AtMost64InOneTurn
+at-most-64-in-one-turn o lent a calls before part rest e k z =
+    part-most k (takesItemOf k) (endsTurnOf k) (λ T. T .inTurn) (reads k) (λ T s. s .turn-small) zeros before part rest
+    (rw e at (run-pass k o lent a calls .below)) z

@@ -1,0 +1,19 @@
+-- No more than 64 items go out between two collections.
+-- Assumes nothing.
+use mathlib.Core.Path.{_≡_}
+use mathlib.Core.List.{List, _++_}
+use Prim.Native.Nat.{_≤_}
+use Rattle.model.specs.declared.Opening.{Opening}
+use Rattle.model.specs.declared.Call.{Call}
+use Rattle.model.specs.declared.Answer.the-variants.{Done}
+use Rattle.model.specs.Runs.{Lent}
+use Rattle.model.specs.Opening.{openingOutcome}
+use Rattle.model.specs.Events.{Event, runEvents, collects, takesItem, countEvents}
+
+-- "while a page bit is set no more than 64 go out between two collections, however plain receives and batches mix"
+-- `part` is any part of a run's events without a collection. No page bit need be set: without one, a collection finds nothing.
+unfoldable pub AtMost64BetweenCollections : Type 0
+AtMost64BetweenCollections =
+    (o : Opening) (lent : Lent) → (openingOutcome o lent) .1 .0 ≡ Done
+    → (calls : List Call) (before part rest : List Event) → runEvents o lent calls ≡ before ++ (part ++ rest)
+    → countEvents collects part ≡ 0 → countEvents takesItem part ≤ 64
