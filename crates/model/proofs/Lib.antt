@@ -30,3 +30,4 @@ pub mod EventsOfRuns
 pub mod Budget
 pub mod OneTurn
 pub mod Collections
+pub mod Disconnected

@@ -194,7 +194,7 @@ gave-items r n = record { noted = λ L. refl; sees = never (looks (Receive r)); 
     never false = refl
 
 -- a take: nothing, or one item
-data TakeResult (f : Bool) (s : State) : Took → Type 0 where
+pub data TakeResult (f : Bool) (s : State) : Took → Type 0 where
   took-none : (poll f s) .queue ≡ [] → TakeResult f s ([], poll f s)
   took-one : (y v : ℕ) (q vs : List ℕ) → (poll f s) .queue ≡ y ∷ q → (poll f s) .slotOf y .ring ≡ v ∷ vs
       → TakeResult f s ((keyOf (poll f s) y, v) ∷ [], giveItem (poll f s) y q vs (either f (leb 63 ((poll f s) .slotOf y .burst))))
@@ -209,11 +209,11 @@ give-front-taken f s (y ∷ q) e h = go ((poll f s) .slotOf y .ring) refl h
     go [] g (nothing-queued n) = let z : _≡_ {A = ℕ} 0 1 = cc in absurd (omega arith)
     go [] g (front z v p vs n m) = let w : z ≡ y = cc in absurd (omega (arith, ap length g, ap length m, ap (λ (a : ℕ). length ((poll f s) .slotOf a .ring)) w))
 
-take-one-taken : (s : State) → TakeResult false s (takeOne s)
+pub take-one-taken : (s : State) → TakeResult false s (takeOne s)
 unfolding takeOne poll
 take-one-taken s = give-front-taken false s (polled s .queue) refl (poll-settled false s)
 
-take-fair-taken : (s : State) → TakeResult true s (takeFair s)
+pub take-fair-taken : (s : State) → TakeResult true s (takeFair s)
 unfolding takeFair poll
 take-fair-taken s = give-front-taken true s ((runDown (withBudget 64 (collectReady s))) .queue) refl (poll-settled true s)
 

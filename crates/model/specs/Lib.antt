@@ -23,3 +23,4 @@ pub mod Events
 pub mod Budget
 pub mod OneTurn
 pub mod Collections
+pub mod Disconnected
