@@ -31,3 +31,4 @@ pub mod Budget
 pub mod OneTurn
 pub mod Collections
 pub mod Disconnected
+pub mod EventExamples
