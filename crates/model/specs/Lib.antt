@@ -24,3 +24,6 @@ pub mod Budget
 pub mod OneTurn
 pub mod Collections
 pub mod Disconnected
+pub mod Examples
+pub mod EventExamples
+pub mod BoundMet

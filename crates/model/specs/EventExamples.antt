@@ -12,7 +12,8 @@ use Rattle.model.specs.declared.Call.{Call}
 use Rattle.model.specs.declared.Call.the-variants.{Sender, Receive, Control}
 use Rattle.model.specs.Runs.{Lent, accepted, after}
 use Rattle.model.specs.Events.{Event, budgetSet, collected, foundEmpty, itemTaken, wentToBack, refillEvents, beforeNextTurnEvents, runDownFromEvents, runDownEvents, backEvents, giveOldestEvents, giveFrontEvents, collectIfDueEvents, collectIfNoneQueuedEvents, polledEvents, takeOneEvents, takeFairEvents, andMoreEvents, takeUpToEvents, takeFromEvents, receiveEvents, callEvents, eventsFrom, runEvents}
-use Rattle.model.proofs.Examples.{compute}
+use Rattle.model.specs.Budget.{itemsCountedFrom, itemsSinceSet}
+use Rattle.model.specs.Examples.{compute}
 
 -- two slots of capacity 128
 twoSlots : Opening
@@ -47,6 +48,11 @@ limits-met :
     ≡ budgetSet ∷ collected ∷ repeat 64 (itemTaken (lane 0)) ++ (wentToBack (lane 0) ∷ collected ∷ budgetSet ∷ itemTaken (lane 0) ∷ [])
 unfolding computeEvents
 limits-met = refl
+
+-- and the budget is 64 less the one item since its last setting
+budget-then : itemsSinceSet (runEvents twoSlots lent (registers ∷ repeat 65 (sends 0) ++ repeat 65 plain)) ≡ 1
+unfolding computeEvents itemsSinceSet itemsCountedFrom
+budget-then = refl
 
 -- 64 items of lane 0 in a batch, "pause it, send one to lane 1": nothing is queued and the budget is 0, so it is set when the item is
 -- taken; then a fair receive, which finds lane 1 empty, a batch of the two items sent next, and a targeted receive of nothing

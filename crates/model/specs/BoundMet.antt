@@ -5,7 +5,7 @@ use mathlib.Core.Bool.{true}
 use mathlib.Core.List.{List, [], _∷_, _++_}
 use Prim.Native.Nat.{ℕ, zero, suc}
 use native.Mathlib.Omega.{arith}
-use lib.ListN.{take, drop, take-append-drop}
+use lib.ListN.{take, drop}
 use Rattle.model.specs.declared.LaneKey.{LaneKey}
 use Rattle.model.specs.declared.LaneId.{LaneId}
 use Rattle.model.specs.declared.Opening.{Opening}
@@ -20,9 +20,8 @@ use Rattle.model.specs.Opening.{openingOutcome}
 use Rattle.model.specs.Rules.{theRules}
 use Rattle.model.specs.Ledger.{Ledger, atOpening, changeLane, addItem, removeOldest, setPaused, setClosed, setDropped, addRegistered, applyCall, note, ledgerAfter, waits, waitsIn, anyOrdinary, isLive, liveLanes, holdsAny}
 use Rattle.model.specs.Stretch.{endsWait, endsStretch, stretch, looks, findsNothing, looksInVain, untargeted, otherReceive, notFair, afterCalls, mostLive, groupsAt}
-use Rattle.model.specs.Demand3.{bound, Promise, Demand3}
-use Rattle.model.proofs.Examples.{compute}
-use Rattle.model.proofs.Demand3.{demand3}
+use Rattle.model.specs.Demand3.{bound, Promise}
+use Rattle.model.specs.Examples.{compute}
 
 o : Opening
 o = record { capacity = 128; slots = 2; channel = 7; cursor = 0; generation = 0 }
@@ -86,12 +85,7 @@ the-bound = refl
 bound-met : countTicks untargeted st ≡ bound (groupsAt (ledgerAfter L st)) (mostLive L st)
 bound-met = items-given ∙ sym the-bound
 
--- what the demand promises here, by its theorem
-promised : Promise L st
-unfolding L st run Demand3
-promised = demand3 o lent accepted-opening calls (take 133 run) (drop 133 run) (sym (take-append-drop 133 run)) (k 1) it-waits
-
--- and by computing alone
+-- what the demand promises of this stretch, by computing alone
 computed : Promise L st
 unfolding seen
 computed = record { sees = none-in-vain; bounded = omega (arith, bound-met); fair-once = λ z j. absurd (omega (arith, z, plain-only)) }
