@@ -21,7 +21,7 @@ use Rattle.model.specs.Outcome.{Outcome}
 use Rattle.model.specs.Runs.{accepted}
 use Rattle.model.specs.Receive.{answerOne, takeFrom, andMore, takeUpTo, releaseAll, answerItems, tryRecv, tryRecvFair, tryRecvFrom, tryRecvBatchInto, receiveOutcome}
 use Rattle.model.specs.Rules.{outcome}
-use Rattle.model.specs.Events.{Event, budgetSet, collected, foundEmpty, itemTaken, wentToBack, refillEvents, beforeNextTurnEvents, runDownFromEvents, runDownEvents, backEvents, giveOldestEvents, giveFrontEvents, collectIfDueEvents, collectIfNoneQueuedEvents, polledEvents, takeOneEvents, takeFairEvents, andMoreEvents, takeUpToEvents, takeFromEvents, receiveEvents, callEvents, runEvents, takesItem, countEvents, lanesOfItems}
+use Rattle.model.specs.Events.{Event, budgetSet, collected, noneMarked, foundEmpty, itemTaken, wentToBack, anyMarked, collectEvent, refillEvents, beforeNextTurnEvents, runDownFromEvents, runDownEvents, backEvents, giveOldestEvents, giveFrontEvents, collectIfDueEvents, collectIfNoneQueuedEvents, polledEvents, takeOneEvents, takeFairEvents, andMoreEvents, takeUpToEvents, takeFromEvents, receiveEvents, callEvents, runEvents, takesItem, countEvents, lanesOfItems}
 use Rattle.model.specs.Budget.{itemsCountedFrom, itemsSinceSet, BudgetCountsItems, isTargeted, ItemsAsHanded, AsManyAsHanded}
 use Rattle.model.proofs.Moves.{unless-law, nothing-taken-gives-none}
 use Rattle.model.proofs.Events.{Tally, next, tally}
@@ -32,6 +32,7 @@ unfolding tally next itemsCountedFrom
 counted-from k T [] = refl
 counted-from k T (budgetSet ∷ es) = counted-from k (next k T budgetSet) es
 counted-from k T (collected ∷ es) = counted-from k (next k T collected) es
+counted-from k T (noneMarked ∷ es) = counted-from k (next k T noneMarked) es
 counted-from k T (foundEmpty j ∷ es) = counted-from k (next k T (foundEmpty j)) es
 counted-from k T (itemTaken j ∷ es) = counted-from k (next k T (itemTaken j)) es
 counted-from k T (wentToBack j ∷ es) = counted-from k (next k T (wentToBack j)) es
@@ -50,6 +51,7 @@ unfolding lanesOfItems
 lanes-append [] fs = refl
 lanes-append (budgetSet ∷ es) fs = lanes-append es fs
 lanes-append (collected ∷ es) fs = lanes-append es fs
+lanes-append (noneMarked ∷ es) fs = lanes-append es fs
 lanes-append (foundEmpty k ∷ es) fs = lanes-append es fs
 lanes-append (itemTaken k ∷ es) fs = ap (λ (l : List LaneKey). k ∷ l) (lanes-append es fs)
 lanes-append (wentToBack k ∷ es) fs = lanes-append es fs
@@ -85,20 +87,29 @@ run-down-none : (s : State) → lanesOfItems (runDownEvents s) ≡ []
 unfolding runDownEvents
 run-down-none s = run-down-from-none (s .queue) s
 
-collect-if-due-none : (n : ℕ) (q : List ℕ) → lanesOfItems (collectIfDueEvents n q) ≡ []
+-- a collection is no item
+collect-then : (s : State) (es : List Event) → lanesOfItems (collectEvent s ∷ es) ≡ lanesOfItems es
+unfolding lanesOfItems collectEvent
+collect-then s es = go (anyMarked s)
+  where
+    go : (b : Bool) → lanesOfItems (if b collected noneMarked ∷ es) ≡ lanesOfItems es
+    go true = refl
+    go false = refl
+
+collect-if-due-none : (n : ℕ) (q : List ℕ) (s : State) → lanesOfItems (collectIfDueEvents n q s) ≡ []
 unfolding lanesOfItems collectIfDueEvents
-collect-if-due-none zero [] = refl
-collect-if-due-none zero (y ∷ q) = refl
-collect-if-due-none (suc n) q = refl
+collect-if-due-none zero [] s = refl
+collect-if-due-none zero (y ∷ q) s = collect-then s (budgetSet ∷ [])
+collect-if-due-none (suc n) q s = refl
 
 collect-if-none-queued-none : (q : List ℕ) (s : State) → lanesOfItems (collectIfNoneQueuedEvents q s) ≡ []
 unfolding lanesOfItems collectIfNoneQueuedEvents
-collect-if-none-queued-none [] s = run-down-none (collectReady s)
+collect-if-none-queued-none [] s = collect-then s (runDownEvents (collectReady s)) ∙ run-down-none (collectReady s)
 collect-if-none-queued-none (y ∷ q) s = refl
 
 polled-none : (s : State) → lanesOfItems (polledEvents s) ≡ []
 unfolding polledEvents
-polled-none s = none-then _ _ (collect-if-due-none (s .budget) (s .queue)) ∙ none-then _ _ (run-down-none _) ∙ collect-if-none-queued-none _ _
+polled-none s = none-then _ _ (collect-if-due-none (s .budget) (s .queue) s) ∙ none-then _ _ (run-down-none _) ∙ collect-if-none-queued-none _ _
 
 -- the front lane gives nothing, or one item
 data AtMostOne : List (LaneKey × ℕ) → List LaneKey → Type 0 where
@@ -126,7 +137,8 @@ take-fair-lanes : (s : State) → AtMostOne ((takeFair s) .0) (lanesOfItems (tak
 unfolding takeFair takeFairEvents lanesOfItems
 take-fair-lanes s =
     let full = withBudget 64 (collectReady s) in
-    rw (none-then (runDownEvents full) (giveFrontEvents true (runDown full) (runDown full .queue)) (run-down-none full)) (give-front-lanes true (runDown full) _)
+    let fs = giveFrontEvents true (runDown full) (runDown full .queue) in
+    rw (collect-then s (budgetSet ∷ runDownEvents full ++ fs) ∙ none-then (runDownEvents full) fs (run-down-none full)) (give-front-lanes true (runDown full) _)
 
 take-up-to-lanes : (m : ℕ) (s : State) → lanesOfItems (takeUpToEvents m s) ≡ map (λ g. g .0) ((takeUpTo m s) .0)
 unfolding takeUpTo takeUpToEvents andMore andMoreEvents lanesOfItems
@@ -181,6 +193,7 @@ unfolding countEvents takesItem lanesOfItems
 count-lanes [] = refl
 count-lanes (budgetSet ∷ es) = omega (arith, count-lanes es)
 count-lanes (collected ∷ es) = omega (arith, count-lanes es)
+count-lanes (noneMarked ∷ es) = omega (arith, count-lanes es)
 count-lanes (foundEmpty k ∷ es) = omega (arith, count-lanes es)
 count-lanes (itemTaken k ∷ es) = omega (arith, count-lanes es)
 count-lanes (wentToBack k ∷ es) = omega (arith, count-lanes es)

@@ -18,7 +18,7 @@ use Rattle.model.specs.Turn.{retireLane, retireLaneIf, settleEmpty, refi
 use Rattle.model.specs.Receive.{retireEmptyPausedLanes, andMore, takeUpTo, releaseAll}
 use Rattle.model.specs.Runs.{sameKey}
 use Rattle.model.specs.Order.{Ordered}
-use Rattle.model.specs.Events.{Event, budgetSet, collected, foundEmpty, itemTaken, wentToBack, refillEvents, beforeNextTurnEvents, runDownFromEvents, runDownEvents, backEvents, giveOldestEvents, giveFrontEvents, collectIfDueEvents, collectIfNoneQueuedEvents, polledEvents, takeOneEvents, takeFairEvents, andMoreEvents, takeUpToEvents}
+use Rattle.model.specs.Events.{Event, budgetSet, collected, noneMarked, foundEmpty, itemTaken, wentToBack, anyMarked, collectEvent, refillEvents, beforeNextTurnEvents, runDownFromEvents, runDownEvents, backEvents, giveOldestEvents, giveFrontEvents, collectIfDueEvents, collectIfNoneQueuedEvents, polledEvents, takeOneEvents, takeFairEvents, andMoreEvents, takeUpToEvents}
 use Rattle.model.proofs.Counting.{equal, other, same?, self, no}
 use Rattle.model.proofs.OrderKept.{front-registered, settle-empty-queue, before-next-turn-queue, polled-ordered, take-one-ordered, run-down-ordered, collect-ready-ordered, budget-ordered, back-room}
 use Rattle.model.proofs.WaitInReceive.{settle-empty-budget}
@@ -33,6 +33,7 @@ pub record Tally : Type 0 where
 unfoldable pub next : LaneKey → Tally → Event → Tally
 next k T budgetSet = record { sinceSet = 0; sinceCollected = T .sinceCollected; inTurn = T .inTurn }
 next k T collected = record { sinceSet = T .sinceSet; sinceCollected = 0; inTurn = T .inTurn }
+next k T noneMarked = record { sinceSet = T .sinceSet; sinceCollected = 0; inTurn = T .inTurn }
 next k T (foundEmpty j) = record { sinceSet = T .sinceSet; sinceCollected = T .sinceCollected; inTurn = if (sameKey j k) 0 (T .inTurn) }
 next k T (itemTaken j) = record { sinceSet = T .sinceSet + 1; sinceCollected = T .sinceCollected + 1; inTurn = if (sameKey j k) (T .inTurn + 1) (T .inTurn) }
 next k T (wentToBack j) = record { sinceSet = T .sinceSet; sinceCollected = T .sinceCollected; inTurn = if (sameKey j k) 0 (T .inTurn) }
@@ -175,14 +176,22 @@ collect-ready-group-alike : (s : State) → Alike s (collectReadyGroup s)
 unfolding collectReadyGroup
 collect-ready-group-alike s = collect-first-alike (groupsRound s) s
 
--- a collection
-collect-counted : {k : LaneKey} {T : Tally} {s : State} → Counted k T s → Counted k (next k T collected) s
-unfolding next
-collect-counted c = record { by-budget = c .by-budget; fewer = omega arith; turn-most = c .turn-most; by-burst = c .by-burst; known = c .known }
+-- a collection, or a look for one
+collect-counted : {k : LaneKey} {T : Tally} (e : State) {s : State} → Counted k T s → Counted k (next k T (collectEvent e)) s
+unfolding next collectEvent
+collect-counted {k} {T} e {s} c = go (anyMarked e)
+  where
+    go : (b : Bool) → Counted k (next k T (if b collected noneMarked)) s
+    go true = record { by-budget = c .by-budget; fewer = omega arith; turn-most = c .turn-most; by-burst = c .by-burst; known = c .known }
+    go false = record { by-budget = c .by-budget; fewer = omega arith; turn-most = c .turn-most; by-burst = c .by-burst; known = c .known }
 
-none-since : (k : LaneKey) (T : Tally) → (next k T collected) .sinceCollected ≡ 0
-unfolding next
-none-since k T = refl
+none-since : (k : LaneKey) (T : Tally) (e : State) → (next k T (collectEvent e)) .sinceCollected ≡ 0
+unfolding next collectEvent
+none-since k T e = go (anyMarked e)
+  where
+    go : (b : Bool) → (next k T (if b collected noneMarked)) .sinceCollected ≡ 0
+    go true = refl
+    go false = refl
 
 -- the budget is set; then no item came since the last collection
 set-counted : {k : LaneKey} {T : Tally} {s : State} → T .sinceCollected ≡ 0 → Counted k T s → Counted k (next k T budgetSet) (withBudget 64 s)
@@ -357,21 +366,21 @@ give-front-pass k f T s o r = go (s .queue) refl
     go [] e = no-event (r .counted)
     go (y ∷ q) e = take y q (s .slotOf y .ring) e
 
-collect-if-due-pass : (k : LaneKey) (n : ℕ) (q : List ℕ) (T : Tally) (s : State) → s .budget ≡ n → s .queue ≡ q → Counted k T s → Pass k (ReadyNow k) T (collectIfDueEvents n q) (collectIfDue n q s)
+collect-if-due-pass : (k : LaneKey) (n : ℕ) (q : List ℕ) (T : Tally) (s : State) → s .budget ≡ n → s .queue ≡ q → Counted k T s → Pass k (ReadyNow k) T (collectIfDueEvents n q s) (collectIfDue n q s)
 unfolding collectIfDue collectIfDueEvents tally Unspent
 collect-if-due-pass k zero (y ∷ q) T s e p c =
-    let d = counted-alike (collect-ready-group-alike s) (collect-counted c) in
-    let g = set-counted (none-since k T) d in
+    let d = counted-alike (collect-ready-group-alike s) (collect-counted s c) in
+    let g = set-counted (none-since k T s) d in
     record { below = goes-below (small c) (goes-below (small d) (ends-below (small g))); at-end = record { counted = g; unspent = λ h z. absurd (omega (arith, z)) } }
 collect-if-due-pass k zero [] T s e p c = record { below = ends-below (small c); at-end = record { counted = c; unspent = λ h z. absurd (no h (ap nonEmpty p)) } }
 collect-if-due-pass k (suc n) q T s e p c = record { below = ends-below (small c); at-end = record { counted = c; unspent = λ h z. absurd (omega (arith, z, e)) } }
 
 -- a collection of all groups, and then the queue runs down
-collect-all-pass : (k : LaneKey) (T : Tally) (s : State) → Counted k T s → Pass k (ReadyNow k) T (collected ∷ runDownEvents (collectReady s)) (runDown (collectReady s))
+collect-all-pass : (k : LaneKey) (T : Tally) (s : State) → Counted k T s → Pass k (ReadyNow k) T (collectEvent s ∷ runDownEvents (collectReady s)) (runDown (collectReady s))
 unfolding runDownEvents runDown tally Unspent
 collect-all-pass k T s c =
-    let d = counted-alike (collect-ready-alike s) (collect-counted c) in
-    let p = run-down-pass k _ (next k T collected) (collectReady s) refl record { counted = d; unspent = λ h z. none-since k T } in
+    let d = counted-alike (collect-ready-alike s) (collect-counted s c) in
+    let p = run-down-pass k _ (next k T (collectEvent s)) (collectReady s) refl record { counted = d; unspent = λ h z. none-since k T s } in
     record { below = goes-below (small c) (p .below); at-end = p .at-end }
 
 collect-if-none-pass : (k : LaneKey) (q : List ℕ) (T : Tally) (s : State) → s .queue ≡ q → Ready k q T s → Pass k (ReadyNow k) T (collectIfNoneQueuedEvents q s) (collectIfNoneQueued q s)
@@ -393,9 +402,9 @@ pub take-fair-pass : (k : LaneKey) (T : Tally) (s : State) → Ordered s → Cou
 unfolding takeFair takeFairEvents runDownEvents runDown tally Unspent
 take-fair-pass k T s o c =
     let full = withBudget 64 (collectReady s) in
-    let d = counted-alike (collect-ready-alike s) (collect-counted c) in
-    let g : Counted k (next k (next k T collected) budgetSet) full = set-counted (none-since k T) d in
-    let p = bind (run-down-pass k (full .queue) (next k (next k T collected) budgetSet) full refl record { counted = g; unspent = λ h z. absurd (omega (arith, z)) })
+    let d = counted-alike (collect-ready-alike s) (collect-counted s c) in
+    let g : Counted k (next k (next k T (collectEvent s)) budgetSet) full = set-counted (none-since k T s) d in
+    let p = bind (run-down-pass k (full .queue) (next k (next k T (collectEvent s)) budgetSet) full refl record { counted = g; unspent = λ h z. absurd (omega (arith, z)) })
     (λ U r. give-front-pass k true U (runDown full) (run-down-ordered full (budget-ordered 64 (collectReady s) (omega arith) (collect-ready-ordered s o))) r) in
     record { below = goes-below (small c) (goes-below (small d) (p .below)); at-end = p .at-end }
 

@@ -8,7 +8,7 @@ use native.Mathlib.Omega.{arith}
 use Rattle.model.specs.declared.LaneKey.{LaneKey}
 use Rattle.model.specs.Lists.{if}
 use Rattle.model.specs.Runs.{sameKey}
-use Rattle.model.specs.Events.{Event, budgetSet, collected, foundEmpty, itemTaken, wentToBack, takesItemOf}
+use Rattle.model.specs.Events.{Event, budgetSet, collected, noneMarked, foundEmpty, itemTaken, wentToBack, takesItemOf}
 use Rattle.model.specs.OneTurn.{endsTurnOf, AtMost64InOneTurn}
 use Rattle.model.proofs.Events.{Tally, next, Small, Below}
 use Rattle.model.proofs.EventsOfRuns.{zeros, run-pass, part-most}
@@ -17,6 +17,7 @@ reads : (k : LaneKey) (T : Tally) (e : Event) → (next k T e) .inTurn ≡ if (e
 unfolding next endsTurnOf takesItemOf
 reads k T budgetSet = refl
 reads k T collected = refl
+reads k T noneMarked = refl
 reads k T (foundEmpty j) = refl
 reads k T (itemTaken j) = refl
 reads k T (wentToBack j) = refl

@@ -17,7 +17,7 @@ use Rattle.model.specs.Runs.{Lent, after}
 use Rattle.model.specs.Opening.{openingOutcome}
 use Rattle.model.specs.Receive.{receiveOutcome}
 use Rattle.model.specs.Rules.{theRules}
-use Rattle.model.specs.Events.{Event, budgetSet, collected, foundEmpty, itemTaken, wentToBack, callEvents, runEvents, takesItem, countEvents, lanesOfItems}
+use Rattle.model.specs.Events.{Event, budgetSet, collected, noneMarked, foundEmpty, itemTaken, wentToBack, callEvents, runEvents, takesItem, countEvents, lanesOfItems}
 
 -- Items counted on from n: each adds one, a setting of the budget starts again at 0.
 unfoldable pub itemsCountedFrom : ℕ → List Event → ℕ
@@ -25,6 +25,7 @@ itemsCountedFrom n [] = n
 itemsCountedFrom n (budgetSet ∷ es) = itemsCountedFrom 0 es
 itemsCountedFrom n (itemTaken k ∷ es) = itemsCountedFrom (n + 1) es
 itemsCountedFrom n (collected ∷ es) = itemsCountedFrom n es
+itemsCountedFrom n (noneMarked ∷ es) = itemsCountedFrom n es
 itemsCountedFrom n (foundEmpty k ∷ es) = itemsCountedFrom n es
 itemsCountedFrom n (wentToBack k ∷ es) = itemsCountedFrom n es
 

@@ -8,12 +8,13 @@ use Rattle.model.specs.declared.Call.{Call}
 use Rattle.model.specs.declared.Answer.the-variants.{Done}
 use Rattle.model.specs.Runs.{Lent}
 use Rattle.model.specs.Opening.{openingOutcome}
-use Rattle.model.specs.Events.{Event, runEvents, collects, takesItem, countEvents}
+use Rattle.model.specs.Events.{Event, runEvents, collects, findsNoneMarked, takesItem, countEvents}
 
 -- "while a page bit is set no more than 64 go out between two collections, however plain receives and batches mix"
--- `part` is any part of a run's events without a collection. No page bit need be set: without one, a collection finds nothing.
+-- `part` is any part of a run's events without a collection, and in which no look for one finds that no page bit is set.
+-- (Without that, lane 0 alone goes on for ever: after its first 64 items of `EventExamples` there is nothing to collect.)
 unfoldable pub AtMost64BetweenCollections : Type 0
 AtMost64BetweenCollections =
     (o : Opening) (lent : Lent) → (openingOutcome o lent) .1 .0 ≡ Done
     → (calls : List Call) (before part rest : List Event) → runEvents o lent calls ≡ before ++ (part ++ rest)
-    → countEvents collects part ≡ 0 → countEvents takesItem part ≤ 64
+    → countEvents collects part ≡ 0 → countEvents findsNoneMarked part ≡ 0 → countEvents takesItem part ≤ 64

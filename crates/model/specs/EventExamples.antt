@@ -11,7 +11,7 @@ use Rattle.model.specs.declared.ControlCall.the-variants.{Pause}
 use Rattle.model.specs.declared.Call.{Call}
 use Rattle.model.specs.declared.Call.the-variants.{Sender, Receive, Control}
 use Rattle.model.specs.Runs.{Lent, accepted, after}
-use Rattle.model.specs.Events.{Event, budgetSet, collected, foundEmpty, itemTaken, wentToBack, refillEvents, beforeNextTurnEvents, runDownFromEvents, runDownEvents, backEvents, giveOldestEvents, giveFrontEvents, collectIfDueEvents, collectIfNoneQueuedEvents, polledEvents, takeOneEvents, takeFairEvents, andMoreEvents, takeUpToEvents, takeFromEvents, receiveEvents, callEvents, eventsFrom, runEvents}
+use Rattle.model.specs.Events.{Event, budgetSet, collected, noneMarked, foundEmpty, itemTaken, wentToBack, anyMarked, collectEvent, refillEvents, beforeNextTurnEvents, runDownFromEvents, runDownEvents, backEvents, giveOldestEvents, giveFrontEvents, collectIfDueEvents, collectIfNoneQueuedEvents, polledEvents, takeOneEvents, takeFairEvents, andMoreEvents, takeUpToEvents, takeFromEvents, receiveEvents, callEvents, eventsFrom, runEvents}
 use Rattle.model.specs.Budget.{itemsCountedFrom, itemsSinceSet}
 use Rattle.model.specs.Examples.{compute}
 
@@ -39,13 +39,13 @@ plain : Call
 plain = Receive TryRecv
 
 computeEvents : Unit {0}
-unfolding compute twoSlots lent lane repeat registers sends plain accepted after refillEvents beforeNextTurnEvents runDownFromEvents runDownEvents backEvents giveOldestEvents giveFrontEvents collectIfDueEvents collectIfNoneQueuedEvents polledEvents takeOneEvents takeFairEvents andMoreEvents takeUpToEvents takeFromEvents receiveEvents callEvents eventsFrom runEvents
+unfolding compute twoSlots lent lane repeat registers sends plain accepted after anyMarked collectEvent refillEvents beforeNextTurnEvents runDownFromEvents runDownEvents backEvents giveOldestEvents giveFrontEvents collectIfDueEvents collectIfNoneQueuedEvents polledEvents takeOneEvents takeFairEvents andMoreEvents takeUpToEvents takeFromEvents receiveEvents callEvents eventsFrom runEvents
 computeEvents = tt
 
--- lane 0 has 65 items: its first 64 are one turn, and the next collection is due before its last
+-- lane 0 has 65 items: its first 64 are one turn, and a collection is due before its last, but there is nothing to collect
 limits-met :
     runEvents twoSlots lent (registers ∷ repeat 65 (sends 0) ++ repeat 65 plain)
-    ≡ budgetSet ∷ collected ∷ repeat 64 (itemTaken (lane 0)) ++ (wentToBack (lane 0) ∷ collected ∷ budgetSet ∷ itemTaken (lane 0) ∷ [])
+    ≡ budgetSet ∷ collected ∷ repeat 64 (itemTaken (lane 0)) ++ (wentToBack (lane 0) ∷ noneMarked ∷ budgetSet ∷ itemTaken (lane 0) ∷ [])
 unfolding computeEvents
 limits-met = refl
 
@@ -60,7 +60,7 @@ each-event :
     runEvents twoSlots lent
     (registers ∷ registers ∷ repeat 64 (sends 0) ++ (Receive (TryRecvBatchInto 64 64) ∷ Control (Pause record { channel = 7; key = lane 0 }) ∷ sends 1 ∷ plain ∷ Receive TryRecvFair ∷ sends 1 ∷ sends 1
     ∷ Receive (TryRecvBatchInto 3 3) ∷ Receive (TryRecvFrom record { channel = 7; key = lane 0 }) ∷ []))
-    ≡ budgetSet ∷ collected ∷ repeat 64 (itemTaken (lane 0)) ++ (wentToBack (lane 0) ∷ collected ∷ budgetSet ∷ itemTaken (lane 1) ∷ collected ∷ budgetSet ∷ foundEmpty (lane 1)
-    ∷ collected ∷ itemTaken (lane 1) ∷ itemTaken (lane 1) ∷ foundEmpty (lane 1) ∷ collected ∷ foundEmpty (lane 0) ∷ [])
+    ≡ budgetSet ∷ collected ∷ repeat 64 (itemTaken (lane 0)) ++ (wentToBack (lane 0) ∷ collected ∷ budgetSet ∷ itemTaken (lane 1) ∷ noneMarked ∷ budgetSet ∷ foundEmpty (lane 1)
+    ∷ collected ∷ itemTaken (lane 1) ∷ itemTaken (lane 1) ∷ foundEmpty (lane 1) ∷ noneMarked ∷ foundEmpty (lane 0) ∷ [])
 unfolding computeEvents
 each-event = refl

@@ -11,7 +11,7 @@ use Rattle.model.specs.declared.ReceiveCall.{ReceiveCall}
 use Rattle.model.specs.declared.ReceiveCall.the-variants.{TryRecv, TryRecvFair, TryRecvFrom, TryRecvBatchInto}
 use Rattle.model.specs.declared.Call.{Call}
 use Rattle.model.specs.declared.Call.the-variants.{Sender, Receive, Control}
-use Rattle.model.specs.Lists.{if, either, nonEmpty}
+use Rattle.model.specs.Lists.{if, either, nonEmpty, keep, from}
 use Rattle.model.specs.State.{State, keyOf}
 use Rattle.model.specs.Changes.{withBudget}
 use Rattle.model.specs.Ready.{collectReady}
@@ -23,14 +23,24 @@ use Rattle.model.specs.Rules.{outcome}
 pub data Event : Type 0 where
   -- the poll budget is set to 64
   budgetSet : Event
-  -- the ready lanes of one group, or of all groups, are collected
+  -- the ready lanes of one group, or of all groups, are collected, and some page bit is set
   collected : Event
+  -- they would be, but no page bit is set
+  noneMarked : Event
   -- the lane with this key is found empty, and leaves the queue if it is in it
   foundEmpty : LaneKey → Event
   -- an untargeted receive takes an item of the lane with this key
   itemTaken : LaneKey → Event
   -- and then that lane goes to the back of the queue
   wentToBack : LaneKey → Event
+
+-- Whether a page bit is set.
+unfoldable pub anyMarked : State → Bool
+anyMarked s = nonEmpty (keep (λ x. s .slotOf x .marked) (from 0 (s .issued)))
+
+-- What a collection in state s is.
+unfoldable pub collectEvent : State → Event
+collectEvent s = if (anyMarked s) collected noneMarked
 
 -- A budget of 0 is set to 64; another stays.
 unfoldable pub refillEvents : ℕ → List Event
@@ -68,21 +78,21 @@ giveFrontEvents fairly s [] = []
 giveFrontEvents fairly s (y ∷ q) = giveOldestEvents s fairly y (s .slotOf y .ring)
 
 -- "budget 0 and queue non-empty, collect one group and set the budget to 64"
-unfoldable pub collectIfDueEvents : ℕ → List ℕ → List Event
-collectIfDueEvents zero (y ∷ q) = collected ∷ budgetSet ∷ []
-collectIfDueEvents zero [] = []
-collectIfDueEvents (suc n) q = []
+unfoldable pub collectIfDueEvents : ℕ → List ℕ → State → List Event
+collectIfDueEvents zero (y ∷ q) s = collectEvent s ∷ budgetSet ∷ []
+collectIfDueEvents zero [] s = []
+collectIfDueEvents (suc n) q s = []
 
 -- "then the poll loop, which goes on until it has an item or nothing is queued and nothing is ready"
 unfoldable pub collectIfNoneQueuedEvents : List ℕ → State → List Event
-collectIfNoneQueuedEvents [] s = collected ∷ runDownEvents (collectReady s)
+collectIfNoneQueuedEvents [] s = collectEvent s ∷ runDownEvents (collectReady s)
 collectIfNoneQueuedEvents (y ∷ q) s = []
 
 unfoldable pub polledEvents : State → List Event
 polledEvents s =
     let due = collectIfDue (s .budget) (s .queue) s in
     let t = runDown due in
-    collectIfDueEvents (s .budget) (s .queue) ++ (runDownEvents due ++ collectIfNoneQueuedEvents (t .queue) t)
+    collectIfDueEvents (s .budget) (s .queue) s ++ (runDownEvents due ++ collectIfNoneQueuedEvents (t .queue) t)
 
 unfoldable pub takeOneEvents : State → List Event
 takeOneEvents s = polledEvents s ++ (let t = polled s in giveFrontEvents false t (t .queue))
@@ -92,7 +102,7 @@ unfoldable pub takeFairEvents : State → List Event
 takeFairEvents s =
     let full = withBudget 64 (collectReady s) in
     let t = runDown full in
-    collected ∷ budgetSet ∷ runDownEvents full ++ giveFrontEvents true t (t .queue)
+    collectEvent s ∷ budgetSet ∷ runDownEvents full ++ giveFrontEvents true t (t .queue)
 
 -- An item and what follows it; or nothing, and then nothing follows.
 unfoldable pub andMoreEvents : List (LaneKey × ℕ) → List Event → List Event
@@ -134,6 +144,7 @@ runEvents o lent calls = budgetSet ∷ eventsFrom ((openingOutcome o lent) .1 .1
 unfoldable pub setsBudget : Event → Bool
 setsBudget budgetSet = true
 setsBudget collected = false
+setsBudget noneMarked = false
 setsBudget (foundEmpty j) = false
 setsBudget (itemTaken j) = false
 setsBudget (wentToBack j) = false
@@ -141,13 +152,23 @@ setsBudget (wentToBack j) = false
 unfoldable pub collects : Event → Bool
 collects budgetSet = false
 collects collected = true
+collects noneMarked = false
 collects (foundEmpty j) = false
 collects (itemTaken j) = false
 collects (wentToBack j) = false
 
+unfoldable pub findsNoneMarked : Event → Bool
+findsNoneMarked budgetSet = false
+findsNoneMarked collected = false
+findsNoneMarked noneMarked = true
+findsNoneMarked (foundEmpty j) = false
+findsNoneMarked (itemTaken j) = false
+findsNoneMarked (wentToBack j) = false
+
 unfoldable pub takesItem : Event → Bool
 takesItem budgetSet = false
 takesItem collected = false
+takesItem noneMarked = false
 takesItem (foundEmpty j) = false
 takesItem (itemTaken j) = true
 takesItem (wentToBack j) = false
@@ -155,6 +176,7 @@ takesItem (wentToBack j) = false
 unfoldable pub takesItemOf : LaneKey → Event → Bool
 takesItemOf k budgetSet = false
 takesItemOf k collected = false
+takesItemOf k noneMarked = false
 takesItemOf k (foundEmpty j) = false
 takesItemOf k (itemTaken j) = sameKey j k
 takesItemOf k (wentToBack j) = false
@@ -169,6 +191,7 @@ unfoldable pub lanesOfItems : List Event → List LaneKey
 lanesOfItems [] = []
 lanesOfItems (budgetSet ∷ es) = lanesOfItems es
 lanesOfItems (collected ∷ es) = lanesOfItems es
+lanesOfItems (noneMarked ∷ es) = lanesOfItems es
 lanesOfItems (foundEmpty k ∷ es) = lanesOfItems es
 lanesOfItems (itemTaken k ∷ es) = k ∷ lanesOfItems es
 lanesOfItems (wentToBack k ∷ es) = lanesOfItems es

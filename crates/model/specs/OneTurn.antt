@@ -10,13 +10,14 @@ use Rattle.model.specs.declared.Call.{Call}
 use Rattle.model.specs.declared.Answer.the-variants.{Done}
 use Rattle.model.specs.Runs.{Lent, sameKey}
 use Rattle.model.specs.Opening.{openingOutcome}
-use Rattle.model.specs.Events.{Event, budgetSet, collected, foundEmpty, itemTaken, wentToBack, runEvents, takesItemOf, countEvents}
+use Rattle.model.specs.Events.{Event, budgetSet, collected, noneMarked, foundEmpty, itemTaken, wentToBack, runEvents, takesItemOf, countEvents}
 
 -- The turn of lane k ends: it goes to the back, or it is found empty.
 -- A pause, a resume or a targeted receive that takes an item does not end it: the lane's burst goes on.
 unfoldable pub endsTurnOf : LaneKey → Event → Bool
 endsTurnOf k budgetSet = false
 endsTurnOf k collected = false
+endsTurnOf k noneMarked = false
 endsTurnOf k (foundEmpty j) = sameKey j k
 endsTurnOf k (itemTaken j) = false
 endsTurnOf k (wentToBack j) = sameKey j k
