@@ -28,10 +28,11 @@ use Rattle.model.specs.Runs.{accepted}
 use Rattle.model.specs.Receive.{retireEmptyPausedLanes, emptyOrDrained, nothingTaken, answerOne, takeFrom, andMore, takeUpTo, releaseAll, answerItems, tryRecv, tryRecvFair, tryRecvFrom, tryRecvBatchInto, receiveOutcome}
 use Rattle.model.specs.Order.{Ordered}
 use Rattle.model.specs.Stretch.{looks}
-use Rattle.model.specs.Disconnected.{itemsOf, answerOf, stateAfter, NoSenderLives, NoLaneRegistered, Looks, Drained, DisconnectedExactly, EmptyOnesRetired, RetiresEmptyPaused, SameLane, EmptyWithPausedItems, LaneDrained, TargetedDisconnectedExactly}
+use Rattle.model.specs.Disconnected.{itemsOf, answerOf, stateAfter, NoSenderLives, NoLaneRegistered, Looks, Drained, DisconnectedExactly, EmptyOnesRetired, RetiresEmptyPaused, SameLane, EmptyWithPausedItems, PausedWithItems, OnlyPausedItemsLeft, LaneDrained, TargetedDisconnectedExactly}
 use Rattle.model.proofs.Counting.{Same, equal, other, same?, self, no, both-3, not-true, not-false, not-intro, keep-in, from-in}
 use Rattle.model.proofs.OrderKept.{release-all-ordered, retire-empty-paused-ordered}
 use Rattle.model.proofs.Quiet.{Quiet, stays, goes, Quietly, trans, calm, poll, poll-quiet, poll-ordered, release-all-quiet, retire-empty-paused-quiet}
+use Rattle.model.proofs.Signals.{Signal, SignalsKept, poll-signals, release-all-signals, run-signals, poll-unmarked}
 use Rattle.model.proofs.Moves.{Pass, unless-law, TakeResult, took-none, took-one, take-one-taken, take-fair-taken}
 
 -- what keeps the living flags, and retires only lanes whose sender is dropped
@@ -246,11 +247,34 @@ nothing p = go (leb 1 (livingSenders p)) refl (leb 1 (registeredLanes (retireEmp
     go false e true f = lane-left (omega (arith, leb-false 1 (livingSenders p) e)) (leb-true 1 (registeredLanes q) f)
     go false e false f = none-left (omega (arith, leb-false 1 (livingSenders p) e)) (omega (arith, leb-false 1 (registeredLanes q) f))
 
+-- what is known of the state p in which nothing was taken
+record Polled (s p : State) : Type 0 where
+  quiet : Quietly s p
+  only-dropped : DroppedOnly s p
+  ordered : Ordered s → Ordered p
+  signals : SignalsKept s p
+  none-queued : p .queue ≡ []
+  none-marked : Ordered s → (y : ℕ) → p .slotOf y .marked ≡ false
+
+poll-none : (f : Bool) (s : State) → (poll f s) .queue ≡ [] → Polled s (poll f s)
+poll-none f s e = record { quiet = poll-quiet f s; only-dropped = poll-dropped f s; ordered = poll-ordered f s; signals = poll-signals f s; none-queued = e; none-marked = λ o. poll-unmarked f s o e }
+
+release-none : (s p : State) → Polled s p → Polled s (releaseAll p)
+unfolding releaseAll
+release-none s p h = record {
+  quiet = trans (h .quiet) (release-all-quiet p);
+  only-dropped = dropped-trans (h .only-dropped) (release-all-dropped p);
+  ordered = λ o. release-all-ordered p (h .ordered o);
+  signals = λ y g. release-all-signals p y (h .signals y g);
+  none-queued = h .none-queued;
+  none-marked = h .none-marked;
+}
+
 -- what comes of a plain, fair or non-zero batch receive
 data Looked (s : State) : Outcome → Type 0 where
   turned-away : (n : Refusal) → Looked s ([], (Refused n, s))
   found : (g : LaneKey × ℕ) (l : List (LaneKey × ℕ)) (a : Answer) (t : State) → a ≢ Disconnected → Looked s (g ∷ l, (a, t))
-  found-nothing : {p : State} {o : Outcome} → Quietly s p → DroppedOnly s p → (Ordered s → Ordered p) → Nothing p o → Looked s o
+  found-nothing : {p : State} {o : Outcome} → Polled s p → Nothing p o → Looked s o
 
 isDisconnected : Answer → Bool
 isDisconnected Disconnected = true
@@ -270,7 +294,7 @@ not-disconnected e p = no (ap isDisconnected p) e
 
 one-looked : (f : Bool) (s : State) (t : Took) → TakeResult f s t → Looked s (answerOne (t .0) (t .1))
 unfolding answerOne isDisconnected
-one-looked f s t (took-none e) = found-nothing (poll-quiet f s) (poll-dropped f s) (poll-ordered f s) (nothing (poll f s))
+one-looked f s t (took-none e) = found-nothing (poll-none f s e) (nothing (poll f s))
 one-looked f s t (took-one y v q vs e g) = found _ _ _ _ (not-disconnected refl)
 
 batch-looked : (m : ℕ) (s : State) → Looked s (answerItems (suc m) ((takeUpTo (suc m) s) .0) (releaseAll ((takeUpTo (suc m) s) .1)))
@@ -278,8 +302,7 @@ unfolding takeUpTo andMore answerItems isDisconnected
 batch-looked m s = go (takeOne s) (take-one-taken s)
   where
     go : (t : Took) → TakeResult false s t → Looked s (answerItems (suc m) ((andMore (t .0) (t .1) (takeUpTo m (t .1))) .0) (releaseAll ((andMore (t .0) (t .1) (takeUpTo m (t .1))) .1)))
-    go t (took-none e) =
-        found-nothing (trans (poll-quiet false s) (release-all-quiet _)) (dropped-trans (poll-dropped false s) (release-all-dropped _)) (λ o. release-all-ordered _ (poll-ordered false s o)) (nothing (releaseAll (poll false s)))
+    go t (took-none e) = found-nothing (release-none s (poll false s) (poll-none false s e)) (nothing (releaseAll (poll false s)))
     go t (took-one y v q vs e g) = found _ _ _ _ (not-disconnected refl)
 
 looked : (s : State) (r : ReceiveCall) → looks (Receive r) ≡ true → Looked s (receiveOutcome s r)
@@ -303,23 +326,23 @@ disconnected-then : {s : State} {o : Outcome} → Ordered s → Looked s o → o
 unfolding isDisconnected
 disconnected-then o (turned-away n) e = absurd (not-disconnected {a = Refused n} refl e)
 disconnected-then o (found g l a t h) e = absurd (h e)
-disconnected-then o (found-nothing q d k (sender-lives z)) e = absurd (not-disconnected {a = Empty} refl e)
-disconnected-then o (found-nothing q d k (lane-left z l)) e = absurd (not-disconnected {a = Empty} refl e)
-disconnected-then o (found-nothing {p} q d k (none-left z l)) e =
-    let n = no-sender-of p (k o) z in
+disconnected-then o (found-nothing k (sender-lives z)) e = absurd (not-disconnected {a = Empty} refl e)
+disconnected-then o (found-nothing k (lane-left z l)) e = absurd (not-disconnected {a = Empty} refl e)
+disconnected-then o (found-nothing {p} k (none-left z l)) e =
+    let n = no-sender-of p (k .ordered o) z in
     record {
       no-item = refl;
       no-sender = no-living (retire-empty-paused-dropped (from 0 (p .issued)) p n) n;
-      no-lane = no-lane-of _ (retire-empty-paused-ordered (from 0 (p .issued)) p (k o)) l;
+      no-lane = no-lane-of _ (retire-empty-paused-ordered (from 0 (p .issued)) p (k .ordered o)) l;
     }
 
 only-then : {s : State} {o : Outcome} → Looked s o → accepted (o .1 .0) ≡ true → DrainedIn o → o .1 .0 ≡ Disconnected
 unfolding accepted
 only-then (turned-away n) a d = absurd (no a refl)
 only-then (found g l b t h) a d = absurd (clash (d .no-item))
-only-then (found-nothing q e k (sender-lives z)) a d = absurd (omega (arith, senders-zero _ (d .no-sender)))
-only-then (found-nothing q e k (lane-left z l)) a d = absurd (omega (arith, lanes-zero _ (d .no-lane)))
-only-then (found-nothing q e k (none-left z l)) a d = refl
+only-then (found-nothing k (sender-lives z)) a d = absurd (omega (arith, senders-zero _ (d .no-sender)))
+only-then (found-nothing k (lane-left z l)) a d = absurd (omega (arith, lanes-zero _ (d .no-lane)))
+only-then (found-nothing k (none-left z l)) a d = refl
 
 pub disconnected-exactly : DisconnectedExactly
 unfolding DisconnectedExactly
@@ -359,9 +382,9 @@ retires : {s : State} {o : Outcome} → Ordered s → Looked s o → accepted (o
 unfolding accepted left
 retires o (turned-away n) a e l = absurd (no a refl)
 retires o (found g k b t h) a e l = absurd (clash e)
-retires o (found-nothing q d k (sender-lives z)) a e l = absurd (omega (arith, senders-zero _ l))
-retires o (found-nothing {p} q d k (lane-left z r)) a e l = empty-ones-retired _ p q d (k o) (no-sender-of p (k o) z)
-retires o (found-nothing {p} q d k (none-left z r)) a e l = empty-ones-retired _ p q d (k o) (no-sender-of p (k o) z)
+retires o (found-nothing k (sender-lives z)) a e l = absurd (omega (arith, senders-zero _ l))
+retires o (found-nothing {p} k (lane-left z r)) a e l = empty-ones-retired _ p (k .quiet) (k .only-dropped) (k .ordered o) (no-sender-of p (k .ordered o) z)
+retires o (found-nothing {p} k (none-left z r)) a e l = empty-ones-retired _ p (k .quiet) (k .only-dropped) (k .ordered o) (no-sender-of p (k .ordered o) z)
 
 pub retires-empty-paused : RetiresEmptyPaused
 unfolding RetiresEmptyPaused
@@ -377,15 +400,52 @@ keeps-paused : {s : State} {o : Outcome} → Ordered s → Looked s o → accept
 unfolding accepted left NoLaneRegistered
 keeps-paused o (turned-away n) a e l x r h i = absurd (no a refl)
 keeps-paused o (found g k b t f) a e l x r h i = absurd (clash e)
-keeps-paused o (found-nothing q d k (sender-lives z)) a e l x r h i = absurd (omega (arith, senders-zero _ l))
-keeps-paused o (found-nothing {p} q d k (lane-left z m)) a e l x r h i = (refl, same-lane (left-quiet _ p q d (k o) (no-sender-of p (k o) z) .each x) r h i)
-keeps-paused o (found-nothing {p} q d k (none-left z m)) a e l x r h i =
-    let j = same-lane (left-quiet _ p q d (k o) (no-sender-of p (k o) z) .each x) r h i in
-    absurd (no (j .still-registered) (no-lane-of _ (retire-empty-paused-ordered (from 0 (p .issued)) p (k o)) m x))
+keeps-paused o (found-nothing k (sender-lives z)) a e l x r h i = absurd (omega (arith, senders-zero _ l))
+keeps-paused o (found-nothing {p} k (lane-left z m)) a e l x r h i = (refl, same-lane (left-quiet _ p (k .quiet) (k .only-dropped) (k .ordered o) (no-sender-of p (k .ordered o) z) .each x) r h i)
+keeps-paused o (found-nothing {p} k (none-left z m)) a e l x r h i =
+    let j = same-lane (left-quiet _ p (k .quiet) (k .only-dropped) (k .ordered o) (no-sender-of p (k .ordered o) z) .each x) r h i in
+    absurd (no (j .still-registered) (no-lane-of _ (retire-empty-paused-ordered (from 0 (p .issued)) p (k .ordered o)) m x))
 
 pub empty-with-paused-items : EmptyWithPausedItems
 unfolding EmptyWithPausedItems
 empty-with-paused-items s r h e l x g p i = keeps-paused (h .in-order .ordered) (looked s r (h .untargeted)) (h .not-refused) e l x g p i
+
+left-paused : (s p : State) → Ordered s → ((y : ℕ) → Signal (s .slotOf y)) → Polled s p → livingSenders p ≡ 0
+    → (x : ℕ) → (retireEmptyPausedLanes (from 0 (p .issued)) p) .slotOf x .registered ≡ true → PausedWithItems ((retireEmptyPausedLanes (from 0 (p .issued)) p) .slotOf x)
+unfolding left NoSenderLives count
+left-paused s p o g k z x r = go (slot-or-retired (from 0 (p .issued)) p x)
+  where
+    u : State
+    u = retireEmptyPausedLanes (from 0 (p .issued)) p
+
+    none-lives : NoSenderLives p
+    none-lives = no-sender-of p (k .ordered o) z
+
+    paused : (b c : Bool) → p .slotOf x .paused ≡ b → p .slotOf x .pending ≡ c → p .slotOf x .registered ≡ true → p .slotOf x .paused ≡ true
+    paused true c e f h = e
+    paused false true e f h = absurd (no (k .ordered o .each-slot x .is-marked h e f (ap (count x) (k .none-queued))) (k .none-marked o x))
+    paused false false e f h = absurd (no (k .signals x (g x) .signal h (none-lives x)) f)
+
+    go : (u .slotOf x ≡ p .slotOf x) ⊎ (u .slotOf x .registered ≡ false) → PausedWithItems (u .slotOf x)
+    go (inr n) = absurd (no r n)
+    go (inl e) =
+        let h = ap (λ (l : Slot). l .paused) e ∙ paused (p .slotOf x .paused) (p .slotOf x .pending) refl refl (ap (λ (l : Slot). l .registered) (sym e) ∙ r) in
+        record { is-paused = h; holds-items = empty-ones-retired s p (k .quiet) (k .only-dropped) (k .ordered o) none-lives .none-left x r h }
+
+-- in a run: an unpaused lane that is left would be pending, and so marked or queued
+paused-left : {s : State} {o : Outcome} → Ordered s → ((y : ℕ) → Signal (s .slotOf y)) → Looked s o → accepted (o .1 .0) ≡ true → o .0 ≡ [] → NoSenderLives (o .1 .1)
+    → (x : ℕ) → (o .1 .1) .slotOf x .registered ≡ true → PausedWithItems ((o .1 .1) .slotOf x)
+unfolding accepted
+paused-left o g (turned-away n) a e l x r = absurd (no a refl)
+paused-left o g (found j k b t f) a e l x r = absurd (clash e)
+paused-left o g (found-nothing k (sender-lives z)) a e l x r = absurd (omega (arith, senders-zero _ l))
+paused-left {s} o g (found-nothing {p} k (lane-left z m)) a e l x r = left-paused s p o g k z x r
+paused-left {s} o g (found-nothing {p} k (none-left z m)) a e l x r = left-paused s p o g k z x r
+
+pub only-paused-items-left : OnlyPausedItemsLeft
+unfolding OnlyPausedItemsLeft
+only-paused-items-left o lent a calls s at r h e l x g =
+    paused-left (h .in-order .ordered) (λ y. rw (← at) (run-signals o lent calls y)) (looked s r (h .untargeted)) (h .not-refused) e l x g
 
 -- targeted
 take-from-empty : (s : State) (x : ℕ) → (takeFrom [] x s) .1 .0 ≡ Disconnected → s .slotOf x .living ≡ false

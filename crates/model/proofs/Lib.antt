@@ -29,3 +29,4 @@ pub mod Budget
 pub mod OneTurn
 pub mod Collections
 pub mod Disconnected
+pub mod Signals

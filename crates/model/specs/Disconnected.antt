@@ -8,14 +8,18 @@ use mathlib.Core.List.{List, []}
 use Prim.Native.Nat.{ℕ}
 use Rattle.model.specs.declared.LaneKey.{LaneKey}
 use Rattle.model.specs.declared.LaneId.{LaneId}
+use Rattle.model.specs.declared.Opening.{Opening}
 use Rattle.model.specs.declared.ReceiveCall.{ReceiveCall}
 use Rattle.model.specs.declared.ReceiveCall.the-variants.{TryRecvFrom}
+use Rattle.model.specs.declared.Call.{Call}
 use Rattle.model.specs.declared.Call.the-variants.{Receive}
 use Rattle.model.specs.declared.Answer.{Answer}
-use Rattle.model.specs.declared.Answer.the-variants.{Empty, Disconnected}
+use Rattle.model.specs.declared.Answer.the-variants.{Done, Empty, Disconnected}
 use Rattle.model.specs.State.{Slot, State, hasLaneId}
-use Rattle.model.specs.Runs.{accepted}
+use Rattle.model.specs.Runs.{Lent, accepted, after}
 use Rattle.model.specs.Receive.{receiveOutcome}
+use Rattle.model.specs.Opening.{openingOutcome}
+use Rattle.model.specs.Rules.{theRules}
 use Rattle.model.specs.Order.{InOrder}
 use Rattle.model.specs.Stretch.{looks}
 
@@ -79,6 +83,20 @@ EmptyWithPausedItems =
     (s : State) (r : ReceiveCall) → Looks s r → itemsOf s r ≡ [] → NoSenderLives (stateAfter s r)
     → (x : ℕ) → s .slotOf x .registered ≡ true → s .slotOf x .paused ≡ true → s .slotOf x .ring ≢ []
     → (answerOf s r ≡ Empty) × SameLane (s .slotOf x) ((stateAfter s r) .slotOf x)
+
+-- A lane that is left when nothing is handed out and no sender lives.
+pub record PausedWithItems (l : Slot) : Type 0 where
+  pub is-paused : l .paused ≡ true
+  pub holds-items : l .ring ≢ []
+
+-- In a run from an accepted opening only such lanes are left: an unpaused lane whose sender is dropped is found and retired.
+-- So with no living sender the answer is Empty only if a paused lane holds items.
+unfoldable pub OnlyPausedItemsLeft : Type 0
+OnlyPausedItemsLeft =
+    (o : Opening) (lent : Lent) → (openingOutcome o lent) .1 .0 ≡ Done
+    → (calls : List Call) (s : State) → after theRules ((openingOutcome o lent) .1 .1) calls ≡ s
+    → (r : ReceiveCall) → Looks s r → itemsOf s r ≡ [] → NoSenderLives (stateAfter s r)
+    → (x : ℕ) → (stateAfter s r) .slotOf x .registered ≡ true → PausedWithItems ((stateAfter s r) .slotOf x)
 
 -- A targeted receive's lane is known, empty, and its sender dropped.
 pub record LaneDrained (s : State) (i : LaneId) : Type 0 where
