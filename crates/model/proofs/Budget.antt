@@ -3,12 +3,11 @@
 use mathlib.Core.Path.{_≡_, refl, ap, sym, _∙_}
 use mathlib.Core.Bool.{Bool, true, false}
 use mathlib.Core.List.{List, [], _∷_, _++_, map}
-use Prim.Native.Nat.{ℕ, zero, suc, _+_, _-_, _≤_}
+use Prim.Native.Nat.{ℕ, zero, suc}
 use native.Mathlib.Omega.{arith}
 use lib.ListN.{length, length-map}
 use lib.Dec.{leb}
 use Rattle.model.specs.declared.LaneKey.{LaneKey}
-use Rattle.model.specs.declared.ReceiveCall.{ReceiveCall}
 use Rattle.model.specs.declared.ReceiveCall.the-variants.{TryRecv, TryRecvFair, TryRecvFrom, TryRecvBatchInto}
 use Rattle.model.specs.declared.Refusal.{Refusal}
 use Rattle.model.specs.declared.Answer.the-variants.{Refused}
@@ -16,16 +15,16 @@ use Rattle.model.specs.Lists.{if, either, nonEmpty}
 use Rattle.model.specs.State.{State, keyOf}
 use Rattle.model.specs.Changes.{withBudget}
 use Rattle.model.specs.Ready.{collectReady}
-use Rattle.model.specs.Turn.{settleEmpty, beforeNextTurn, runDown, giveOldest, giveFront, collectIfDue, polled, takeOne, takeFair}
+use Rattle.model.specs.Turn.{settleEmpty, beforeNextTurn, runDown, giveOldest, giveFront, polled, takeOne, takeFair}
 use Rattle.model.specs.Outcome.{Outcome}
 use Rattle.model.specs.Runs.{accepted}
-use Rattle.model.specs.Receive.{answerOne, takeFrom, andMore, takeUpTo, releaseAll, answerItems, tryRecv, tryRecvFair, tryRecvFrom, tryRecvBatchInto, receiveOutcome}
+use Rattle.model.specs.Receive.{answerOne, andMore, takeUpTo, releaseAll, answerItems, tryRecv, tryRecvFair, tryRecvFrom, tryRecvBatchInto, receiveOutcome}
 use Rattle.model.specs.Rules.{outcome}
 use Rattle.model.specs.Events.{Event, budgetSet, collected, noneMarked, foundEmpty, itemTaken, wentToBack, anyMarked, collectEvent, refillEvents, beforeNextTurnEvents, runDownFromEvents, runDownEvents, backEvents, giveOldestEvents, giveFrontEvents, collectIfDueEvents, collectIfNoneQueuedEvents, polledEvents, takeOneEvents, takeFairEvents, andMoreEvents, takeUpToEvents, takeFromEvents, receiveEvents, callEvents, runEvents, takesItem, countEvents, lanesOfItems}
 use Rattle.model.specs.Budget.{itemsCountedFrom, itemsSinceSet, BudgetCountsItems, isTargeted, ItemsAsHanded, AsManyAsHanded}
 use Rattle.model.proofs.Moves.{unless-law, nothing-taken-gives-none}
 use Rattle.model.proofs.Events.{Tally, next, tally}
-use Rattle.model.proofs.EventsOfRuns.{zeros, run-pass, Answered, answer-one-answered, answer-items-answered}
+use Rattle.model.proofs.EventsOfRuns.{zeros, run-pass, answer-one-answered, answer-items-answered}
 
 counted-from : (k : LaneKey) (T : Tally) (es : List Event) → (tally k T es) .sinceSet ≡ itemsCountedFrom (T .sinceSet) es
 unfolding tally next itemsCountedFrom

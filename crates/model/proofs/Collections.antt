@@ -2,14 +2,14 @@
 -- Assumes nothing.
 use mathlib.Core.Path.{_≡_, refl}
 use mathlib.Core.Bool.{Bool, true, false}
-use mathlib.Core.List.{List, [], _∷_, _++_}
-use Prim.Native.Nat.{ℕ, _+_, _≤_}
+use mathlib.Core.List.{List, [], _∷_}
+use Prim.Native.Nat.{_+_}
 use native.Mathlib.Omega.{arith}
 use Rattle.model.specs.declared.LaneKey.{LaneKey}
 use Rattle.model.specs.Lists.{if, either}
 use Rattle.model.specs.Events.{Event, budgetSet, collected, noneMarked, foundEmpty, itemTaken, wentToBack, collects, findsNoneMarked, takesItem, countEvents}
 use Rattle.model.specs.Collections.{AtMost64BetweenCollections}
-use Rattle.model.proofs.Events.{Tally, next, Small, Below}
+use Rattle.model.proofs.Events.{Tally, next}
 use Rattle.model.proofs.EventsOfRuns.{zeros, run-pass, part-most}
 
 reads : (k : LaneKey) (T : Tally) (e : Event) → (next k T e) .sinceCollected ≡ if (either (collects e) (findsNoneMarked e)) 0 (if (takesItem e) (T .sinceCollected + 1) (T .sinceCollected))

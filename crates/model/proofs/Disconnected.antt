@@ -18,20 +18,20 @@ use Rattle.model.specs.declared.Call.the-variants.{Receive}
 use Rattle.model.specs.declared.Refusal.{Refusal}
 use Rattle.model.specs.declared.Answer.{Answer}
 use Rattle.model.specs.declared.Answer.the-variants.{Done, Registered, Taken, Item, Items, Empty, Disconnected, Held, Refused}
-use Rattle.model.specs.Lists.{if, both, same, count, keep, from, nonEmpty, without}
+use Rattle.model.specs.Lists.{if, both, same, count, keep, from, nonEmpty}
 use Rattle.model.specs.State.{Slot, State, registeredLanes, livingSenders, hasLaneId}
 use Rattle.model.specs.Changes.{withQueue, withBudget, put, settledEmpty, retired, unmarked}
 use Rattle.model.specs.Ready.{groupOf, marks, collectMarks, collectGroup, groupsRound, collectFirst, collectEach, collectReadyGroup, collectReady}
-use Rattle.model.specs.Turn.{retireLane, retireLaneIf, settleEmpty, refill, beforeNextTurn, runDownFrom, runDown, Took, collectIfDue, collectIfNoneQueued, polled, takeOne, takeFair}
+use Rattle.model.specs.Turn.{retireLane, retireLaneIf, settleEmpty, beforeNextTurn, runDownFrom, runDown, Took, collectIfDue, collectIfNoneQueued, polled, takeOne, takeFair}
 use Rattle.model.specs.Outcome.{Outcome, says, unless}
 use Rattle.model.specs.Runs.{accepted}
 use Rattle.model.specs.Receive.{retireEmptyPausedLanes, emptyOrDrained, nothingTaken, answerOne, takeFrom, andMore, takeUpTo, releaseAll, answerItems, tryRecv, tryRecvFair, tryRecvFrom, tryRecvBatchInto, receiveOutcome}
 use Rattle.model.specs.Order.{Ordered}
 use Rattle.model.specs.Stretch.{looks}
-use Rattle.model.specs.Disconnected.{itemsOf, answerOf, stateAfter, NoSenderLives, NoLaneRegistered, Looks, Drained, DisconnectedExactly, EmptyOnesRetired, RetiresEmptyPaused, SameLane, EmptyWithPausedItems, PausedWithItems, OnlyPausedItemsLeft, LaneDrained, TargetedDisconnectedExactly}
-use Rattle.model.proofs.Counting.{Same, equal, other, same?, self, no, both-3, not-true, not-false, not-intro, keep-in, from-in}
+use Rattle.model.specs.Disconnected.{NoSenderLives, NoLaneRegistered, DisconnectedExactly, EmptyOnesRetired, RetiresEmptyPaused, SameLane, EmptyWithPausedItems, PausedWithItems, OnlyPausedItemsLeft, LaneDrained, TargetedDisconnectedExactly}
+use Rattle.model.proofs.Counting.{Same, equal, other, same?, no, not-true, not-false, keep-in, from-in}
 use Rattle.model.proofs.OrderKept.{release-all-ordered, retire-empty-paused-ordered}
-use Rattle.model.proofs.Quiet.{Quiet, stays, goes, Quietly, trans, calm, poll, poll-quiet, poll-ordered, release-all-quiet, retire-empty-paused-quiet}
+use Rattle.model.proofs.Quiet.{Quiet, stays, goes, Quietly, trans, poll, poll-quiet, poll-ordered, release-all-quiet, retire-empty-paused-quiet}
 use Rattle.model.proofs.Signals.{Signal, SignalsKept, poll-signals, release-all-signals, run-signals, poll-unmarked}
 use Rattle.model.proofs.Moves.{Pass, unless-law, TakeResult, took-none, took-one, take-one-taken, take-fair-taken}
 

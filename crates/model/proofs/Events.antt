@@ -10,8 +10,8 @@ use native.Mathlib.Omega.{arith}
 use lib.Dec.{eqb, leb}
 use borrow.Author.Tests.{eq-eqb}
 use Rattle.model.specs.declared.LaneKey.{LaneKey}
-use Rattle.model.specs.Lists.{if, either, nonEmpty, from}
-use Rattle.model.specs.State.{Slot, State, keyOf, livingSenders}
+use Rattle.model.specs.Lists.{if, either, nonEmpty}
+use Rattle.model.specs.State.{Slot, State, keyOf}
 use Rattle.model.specs.Changes.{withQueue, withBudget, put, popped, settledEmpty, retired, unmarked}
 use Rattle.model.specs.Ready.{groupOf, marks, collectMarks, collectGroup, groupsRound, collectFirst, collectEach, collectReadyGroup, collectReady}
 use Rattle.model.specs.Turn.{retireLane, retireLaneIf, settleEmpty, refill, beforeNextTurn, runDownFrom, runDown, unreleasedAfterOne, giveItem, giveOldest, giveFront, collectIfDue, collectIfNoneQueued, polled, takeOne, takeFair}
@@ -19,7 +19,7 @@ use Rattle.model.specs.Receive.{retireEmptyPausedLanes, andMore, takeUpT
 use Rattle.model.specs.Runs.{sameKey}
 use Rattle.model.specs.Order.{Ordered}
 use Rattle.model.specs.Events.{Event, budgetSet, collected, noneMarked, foundEmpty, itemTaken, wentToBack, anyMarked, collectEvent, refillEvents, beforeNextTurnEvents, runDownFromEvents, runDownEvents, backEvents, giveOldestEvents, giveFrontEvents, collectIfDueEvents, collectIfNoneQueuedEvents, polledEvents, takeOneEvents, takeFairEvents, andMoreEvents, takeUpToEvents}
-use Rattle.model.proofs.Counting.{equal, other, same?, self, no}
+use Rattle.model.proofs.Counting.{equal, other, same?, no}
 use Rattle.model.proofs.OrderKept.{front-registered, settle-empty-queue, before-next-turn-queue, polled-ordered, take-one-ordered, run-down-ordered, collect-ready-ordered, budget-ordered, back-room}
 use Rattle.model.proofs.WaitInReceive.{settle-empty-budget}
 use Rattle.model.proofs.LedgerLaws.{alike, unlike, keys?}

@@ -1,14 +1,12 @@
 -- The counts of Events agree with the state after every call, and so after every run from an accepted opening.
 -- Assumes nothing.
-use mathlib.Core.Path.{_≡_, refl, ap, sym, _∙_}
-use mathlib.Core.Bool.{Bool, true, false, not}
+use mathlib.Core.Path.{_≡_, refl, ap}
+use mathlib.Core.Bool.{Bool, true, false}
 use mathlib.Core.List.{List, [], _∷_, _++_}
 use Prim.Native.Nat.{ℕ, zero, suc, _+_, _≤_}
 use native.Mathlib.Omega.{arith}
 use lib.Dec.{leb}
-use borrow.Author.Tests.{eq-eqb, ne-eqb}
 use Rattle.model.specs.declared.LaneKey.{LaneKey}
-use Rattle.model.specs.declared.LaneId.{LaneId}
 use Rattle.model.specs.declared.Opening.{Opening}
 use Rattle.model.specs.declared.SenderCall.{SenderCall}
 use Rattle.model.specs.declared.ReceiveCall.{ReceiveCall}
@@ -17,21 +15,20 @@ use Rattle.model.specs.declared.ControlCall.{ControlCall}
 use Rattle.model.specs.declared.Call.{Call}
 use Rattle.model.specs.declared.Call.the-variants.{Sender, Receive, Control}
 use Rattle.model.specs.declared.Answer.{Answer}
-use Rattle.model.specs.declared.Answer.the-variants.{Done, Item, Items, Empty, Disconnected}
+use Rattle.model.specs.declared.Answer.the-variants.{Done, Empty, Disconnected}
 use Rattle.model.specs.Lists.{if, without, from}
 use Rattle.model.specs.State.{Slot, State, vacant, mayQueue, registeredLanes, livingSenders}
 use Rattle.model.specs.Changes.{withQueue, withFree, withIssued, put, newLane, signalled, pushed, senderDropped, popped, withPaused, credited}
-use Rattle.model.specs.Turn.{unreleasedAfterOne, takeOne, takeFair}
+use Rattle.model.specs.Turn.{unreleasedAfterOne}
 use Rattle.model.specs.Outcome.{Outcome, says}
 use Rattle.model.specs.Runs.{Lent, accepted, ends, after}
-use Rattle.model.specs.Receive.{retireEmptyPausedLanes, emptyOrDrained, nothingTaken, answerOne, queueLaneIf, takeFrom, takeUpTo, releaseAll, answerItems, receiveOutcome, tryRecv, tryRecvFair, tryRecvFrom, tryRecvBatchInto}
+use Rattle.model.specs.Receive.{retireEmptyPausedLanes, emptyOrDrained, nothingTaken, answerOne, queueLaneIf, takeFrom, releaseAll, answerItems, receiveOutcome, tryRecv, tryRecvFair, tryRecvFrom, tryRecvBatchInto}
 use Rattle.model.specs.Opening.{opened, openingOutcome}
 use Rattle.model.specs.Rules.{outcome, theRules}
 use Rattle.model.specs.Order.{Ordered, InOrder}
-use Rattle.model.specs.Events.{Event, budgetSet, takeFromEvents, receiveEvents, callEvents, eventsFrom, runEvents, countEvents}
-use Rattle.model.proofs.Counting.{equal, other, same?, self}
+use Rattle.model.specs.Events.{Event, takeFromEvents, receiveEvents, callEvents, eventsFrom, runEvents, countEvents}
+use Rattle.model.proofs.Counting.{equal, other, same?}
 use Rattle.model.proofs.Moves.{Moves, stays-put, credits, registers-new, registers-old, sends, posts, drops-it, pauses-it, resumes, resumes-not, closes-it, polls-all, shuts-it, unless-law, sender-move, control-move}
-use Rattle.model.proofs.Opened.{opened-ordered}
 use Rattle.model.proofs.InOrder.{call-keeps-order, opening-in-order}
 use Rattle.model.proofs.Demand2.{opens-as}
 use Rattle.model.proofs.Events.{Tally, next, tally, Small, Below, ends-below, goes-below, Pass, bind, Counted, small, no-event, Alike, counted-alike, unchanged, alike-trans, put-generations, put-bursts, retire-lane-alike, retire-empty-paused-alike, release-all-alike, found-empty-counted, take-one-pass, take-fair-pass, take-up-to-pass}

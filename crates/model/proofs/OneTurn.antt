@@ -1,16 +1,12 @@
 -- In every run a lane gives at most 64 items to untargeted receives between two ends of its turn.
 -- Assumes nothing.
-use mathlib.Core.Path.{_≡_, refl, ap}
-use mathlib.Core.Bool.{Bool, true, false}
-use mathlib.Core.List.{List, _++_}
-use Prim.Native.Nat.{ℕ, _+_, _≤_}
-use native.Mathlib.Omega.{arith}
+use mathlib.Core.Path.{_≡_, refl}
+use Prim.Native.Nat.{_+_}
 use Rattle.model.specs.declared.LaneKey.{LaneKey}
 use Rattle.model.specs.Lists.{if}
-use Rattle.model.specs.Runs.{sameKey}
 use Rattle.model.specs.Events.{Event, budgetSet, collected, noneMarked, foundEmpty, itemTaken, wentToBack, takesItemOf}
 use Rattle.model.specs.OneTurn.{endsTurnOf, AtMost64InOneTurn}
-use Rattle.model.proofs.Events.{Tally, next, Small, Below}
+use Rattle.model.proofs.Events.{Tally, next}
 use Rattle.model.proofs.EventsOfRuns.{zeros, run-pass, part-most}
 
 reads : (k : LaneKey) (T : Tally) (e : Event) → (next k T e) .inTurn ≡ if (endsTurnOf k e) 0 (if (takesItemOf k e) (T .inTurn + 1) (T .inTurn))

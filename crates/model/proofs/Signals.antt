@@ -2,7 +2,6 @@
 -- And when a receive has taken nothing, no page bit is set.
 -- Assumes nothing.
 use mathlib.Core.Path.{_≡_, refl, ap, sym, _∙_}
-use mathlib.Core.Logic.{_≢_}
 use mathlib.Core.Bool.{Bool, true, false, not}
 use mathlib.Core.List.{List, [], _∷_, _++_}
 use Prim.Native.Nat.{ℕ, zero, suc, _+_, _-_, _≤_, _<_}
@@ -10,7 +9,6 @@ use native.Mathlib.Omega.{arith}
 use lib.Dec.{eqb, leb, ltb}
 use borrow.Author.Tests.{eq-eqb, ltb-true, ltb-false}
 use Rattle.model.specs.declared.LaneKey.{LaneKey}
-use Rattle.model.specs.declared.LaneId.{LaneId}
 use Rattle.model.specs.declared.Opening.{Opening}
 use Rattle.model.specs.declared.SenderCall.{SenderCall}
 use Rattle.model.specs.declared.ReceiveCall.{ReceiveCall}
@@ -19,19 +17,19 @@ use Rattle.model.specs.declared.ControlCall.{ControlCall}
 use Rattle.model.specs.declared.Call.{Call}
 use Rattle.model.specs.declared.Call.the-variants.{Sender, Receive, Control}
 use Rattle.model.specs.declared.Answer.{Answer}
-use Rattle.model.specs.declared.Answer.the-variants.{Done, Empty}
-use Rattle.model.specs.Lists.{if, either, both, count, keep, from, nonEmpty, without}
+use Rattle.model.specs.declared.Answer.the-variants.{Empty}
+use Rattle.model.specs.Lists.{if, count, from, nonEmpty, without}
 use Rattle.model.specs.State.{Slot, State, vacant, mayQueue, livingSenders}
 use Rattle.model.specs.Changes.{withQueue, withBudget, put, newLane, signalled, unmarked, pushed, popped, settledEmpty, withPaused, credited, senderDropped, retired}
 use Rattle.model.specs.Ready.{groupOf, groupsIn, marks, collectMarks, collectGroup, startGroup, groupsRound, collectFirst, collectEach, collectReadyGroup, collectReady}
 use Rattle.model.specs.Turn.{retireLane, retireLaneIf, settleEmpty, beforeNextTurn, runDownFrom, runDown, unreleasedAfterOne, giveItem, Took, collectIfDue, collectIfNoneQueued, polled, takeOne, takeFair}
-use Rattle.model.specs.Outcome.{Outcome, says}
+use Rattle.model.specs.Outcome.{says}
 use Rattle.model.specs.Runs.{Lent, ends, after}
 use Rattle.model.specs.Receive.{retireEmptyPausedLanes, emptyOrDrained, nothingTaken, answerOne, queueLaneIf, takeFrom, andMore, takeUpTo, releaseAll, answerItems, tryRecv, tryRecvFair, tryRecvFrom, tryRecvBatchInto, receiveOutcome}
 use Rattle.model.specs.Opening.{opened, openingOutcome}
 use Rattle.model.specs.Rules.{outcome, theRules}
 use Rattle.model.specs.Order.{Ordered}
-use Rattle.model.proofs.Counting.{Same, equal, other, same?, self, no, not-true, not-false, keep-in, from-in, count-append}
+use Rattle.model.proofs.Counting.{equal, other, same?, self, no, from-in, count-append}
 use Rattle.model.proofs.OrderKept.{marks-in, collect-group-issued, collect-if-due-ordered, run-down-ordered, start-group-le}
 use Rattle.model.proofs.Quiet.{poll}
 use Rattle.model.proofs.WaitInReceive.{group-low}

@@ -11,7 +11,7 @@ use Rattle.model.specs.declared.ControlCall.the-variants.{Pause}
 use Rattle.model.specs.declared.Call.{Call}
 use Rattle.model.specs.declared.Call.the-variants.{Sender, Receive, Control}
 use Rattle.model.specs.Runs.{Lent, accepted, after}
-use Rattle.model.specs.Events.{Event, budgetSet, collected, noneMarked, foundEmpty, itemTaken, wentToBack, anyMarked, collectEvent, refillEvents, beforeNextTurnEvents, runDownFromEvents, runDownEvents, backEvents, giveOldestEvents, giveFrontEvents, collectIfDueEvents, collectIfNoneQueuedEvents, polledEvents, takeOneEvents, takeFairEvents, andMoreEvents, takeUpToEvents, takeFromEvents, receiveEvents, callEvents, eventsFrom, runEvents}
+use Rattle.model.specs.Events.{budgetSet, collected, noneMarked, foundEmpty, itemTaken, wentToBack, anyMarked, collectEvent, refillEvents, beforeNextTurnEvents, runDownFromEvents, runDownEvents, backEvents, giveOldestEvents, giveFrontEvents, collectIfDueEvents, collectIfNoneQueuedEvents, polledEvents, takeOneEvents, takeFairEvents, andMoreEvents, takeUpToEvents, takeFromEvents, receiveEvents, callEvents, eventsFrom, runEvents}
 use Rattle.model.specs.Budget.{itemsCountedFrom, itemsSinceSet}
 use Rattle.model.specs.Examples.{compute}
 
