@@ -23,76 +23,77 @@ use Rattle.model.specs.Stretch.{endsWait, endsStretch, stretch, looks, f
 use Rattle.model.specs.Demand3.{bound, Promise}
 use Rattle.model.specs.Examples.{compute}
 
-o : Opening
-o = record { capacity = 128; slots = 2; channel = 7; cursor = 0; generation = 0 }
+opening : Opening
+opening = record { capacity = 128; slots = 2; channel = 7; cursor = 0; generation = 0 }
 
 lent : Lent
 lent = record { rings = 256; table = 560 }
 
-accepted-opening : (openingOutcome o lent) .1 .0 ≡ Done
-unfolding compute o lent
+accepted-opening : (openingOutcome opening lent) .1 .0 ≡ Done
+unfolding compute opening lent
 accepted-opening = refl
 
-k : ℕ → LaneKey
-k x = record { slot = x; generation = 0 }
+lane : ℕ → LaneKey
+lane x = record { slot = x; generation = 0 }
 
-i : ℕ → LaneId
-i x = record { channel = 7; key = k x }
+laneId : ℕ → LaneId
+laneId x = record { channel = 7; key = lane x }
 
 times : ℕ → Call → List Call
 times zero c = []
 times (suc n) c = c ∷ times n c
 
+-- lane 0 has 128 items and is alone in the queue, by a pause and a resume; then lane 1 gets its item, and 129 plain receives follow
 calls : List Call
-calls = Sender (RegisterSender 9) ∷ Sender (RegisterSender 9) ∷ times 128 (Sender (TrySend (k 0) 5)) ++ (Control (Pause (i 0)) ∷ Control (Resume (i 0)) ∷ Sender (TrySend (k 1) 6) ∷ times 129 (Receive TryRecv))
+calls = Sender (RegisterSender 9) ∷ Sender (RegisterSender 9) ∷ times 128 (Sender (TrySend (lane 0) 5)) ++ (Control (Pause (laneId 0)) ∷ Control (Resume (laneId 0)) ∷ Sender (TrySend (lane 1) 6) ∷ times 129 (Receive TryRecv))
 
 run : List Tick
-run = trace theRules ((openingOutcome o lent) .1 .1) calls
+run = trace theRules ((openingOutcome opening lent) .1 .1) calls
 
 -- the point lies after the 133rd call, where the two lanes hold their items; lane 1 waits there
-L : Ledger
-L = ledgerAfter atOpening (take 133 run)
+pub ledgerThere : Ledger
+ledgerThere = ledgerAfter atOpening (take 133 run)
 
-st : List Tick
-st = stretch (k 1) (drop 133 run)
+pub stretchThere : List Tick
+stretchThere = stretch (lane 1) (drop 133 run)
 
 -- the definitions of the demand, for computing with them
 seen : Unit {0}
-unfolding compute o lent k i times calls run L st handed ticks trace sameKey accepted atOpening changeLane addItem removeOldest setPaused setClosed setDropped addRegistered applyCall note ledgerAfter waits waitsIn anyOrdinary isLive liveLanes holdsAny endsWait endsStretch stretch looks findsNothing looksInVain untargeted otherReceive notFair countTicks afterCalls mostLive groupsAt bound
+unfolding compute opening lent lane laneId times calls run ledgerThere stretchThere handed ticks trace sameKey accepted atOpening changeLane addItem removeOldest setPaused setClosed setDropped addRegistered applyCall note ledgerAfter waits waitsIn anyOrdinary isLive liveLanes holdsAny endsWait endsStretch stretch looks findsNothing looksInVain untargeted otherReceive notFair countTicks afterCalls mostLive groupsAt bound
 seen = tt
 
-it-waits : waits (k 1) L ≡ true
+it-waits : waits (lane 1) ledgerThere ≡ true
 unfolding seen
 it-waits = refl
 
-one-group : groupsAt (ledgerAfter L st) ≡ 1
+one-group : groupsAt (ledgerAfter ledgerThere stretchThere) ≡ 1
 unfolding seen
 one-group = refl
 
-two-lanes : mostLive L st ≡ 2
+two-lanes : mostLive ledgerThere stretchThere ≡ 2
 unfolding seen
 two-lanes = refl
 
 -- 128 items of lane 0 come first, and that is the bound
-items-given : countTicks untargeted st ≡ 128
+items-given : countTicks untargeted stretchThere ≡ 128
 unfolding seen
 items-given = refl
 
-the-bound : bound (groupsAt (ledgerAfter L st)) (mostLive L st) ≡ 128
+the-bound : bound (groupsAt (ledgerAfter ledgerThere stretchThere)) (mostLive ledgerThere stretchThere) ≡ 128
 unfolding seen
 the-bound = refl
 
-bound-met : countTicks untargeted st ≡ bound (groupsAt (ledgerAfter L st)) (mostLive L st)
+pub bound-met : countTicks untargeted stretchThere ≡ bound (groupsAt (ledgerAfter ledgerThere stretchThere)) (mostLive ledgerThere stretchThere)
 bound-met = items-given ∙ sym the-bound
 
 -- what the demand promises of this stretch, by computing alone
-computed : Promise L st
+computed : Promise ledgerThere stretchThere
 unfolding seen
 computed = record { sees = none-in-vain; bounded = omega (arith, bound-met); fair-once = λ z j. absurd (omega (arith, z, plain-only)) }
   where
-    none-in-vain : countTicks looksInVain st ≡ 0
+    none-in-vain : countTicks looksInVain stretchThere ≡ 0
     none-in-vain = refl
 
     -- 128 plain receives, each with its item and its answer
-    plain-only : countTicks notFair st ≡ 256
+    plain-only : countTicks notFair stretchThere ≡ 256
     plain-only = refl

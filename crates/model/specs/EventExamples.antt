@@ -1,4 +1,4 @@
--- The events of two runs, computed. In the first both limits of 64 are met: one turn, and one collection, of 64 items.
+-- The events of three runs, computed. In the first both limits of 64 are met: one turn, and one time between two collections, of 64 items.
 -- Assumes nothing.
 use mathlib.Core.Path.{_≡_, refl}
 use mathlib.Core.List.{List, [], _∷_, _++_}
@@ -42,19 +42,26 @@ computeEvents : Unit {0}
 unfolding compute twoSlots lent lane repeat registers sends plain accepted after anyMarked collectEvent refillEvents beforeNextTurnEvents runDownFromEvents runDownEvents backEvents giveOldestEvents giveFrontEvents collectIfDueEvents collectIfNoneQueuedEvents polledEvents takeOneEvents takeFairEvents andMoreEvents takeUpToEvents takeFromEvents receiveEvents callEvents eventsFrom runEvents
 computeEvents = tt
 
--- lane 0 has 65 items: its first 64 are one turn, and a collection is due before its last, but there is nothing to collect
+-- lane 0 has 65 items, and lane 1 gets one after the first of them is taken: lane 0 gives 64 in one turn, all between two collections
 limits-met :
-    runEvents twoSlots lent (registers ∷ repeat 65 (sends 0) ++ repeat 65 plain)
-    ≡ budgetSet ∷ collected ∷ repeat 64 (itemTaken (lane 0)) ++ (wentToBack (lane 0) ∷ noneMarked ∷ budgetSet ∷ itemTaken (lane 0) ∷ [])
+    runEvents twoSlots lent (registers ∷ registers ∷ repeat 65 (sends 0) ++ (plain ∷ sends 1 ∷ repeat 64 plain))
+    ≡ budgetSet ∷ collected ∷ repeat 64 (itemTaken (lane 0)) ++ (wentToBack (lane 0) ∷ collected ∷ budgetSet ∷ itemTaken (lane 0) ∷ [])
 unfolding computeEvents
 limits-met = refl
 
--- and the budget is 64 less the one item since its last setting
+-- with nothing sent to lane 1 no page bit is set when a collection is due, and the items go on
+nothing-to-collect :
+    runEvents twoSlots lent (registers ∷ repeat 65 (sends 0) ++ repeat 65 plain)
+    ≡ budgetSet ∷ collected ∷ repeat 64 (itemTaken (lane 0)) ++ (wentToBack (lane 0) ∷ noneMarked ∷ budgetSet ∷ itemTaken (lane 0) ∷ [])
+unfolding computeEvents
+nothing-to-collect = refl
+
+-- the budget is then 64 less one item
 budget-then : itemsSinceSet (runEvents twoSlots lent (registers ∷ repeat 65 (sends 0) ++ repeat 65 plain)) ≡ 1
 unfolding computeEvents itemsSinceSet itemsCountedFrom
 budget-then = refl
 
--- 64 items of lane 0 in a batch, "pause it, send one to lane 1": nothing is queued and the budget is 0, so it is set when the item is
+-- every kind of event: 64 items of lane 0 in a batch, "pause it, send one to lane 1": nothing is queued and the budget is 0, so it is set when the item is
 -- taken; then a fair receive, which finds lane 1 empty, a batch of the two items sent next, and a targeted receive of nothing
 each-event :
     runEvents twoSlots lent

@@ -12,7 +12,7 @@ use Rattle.model.specs.Runs.{Lent, sameKey}
 use Rattle.model.specs.Opening.{openingOutcome}
 use Rattle.model.specs.Events.{Event, budgetSet, collected, noneMarked, foundEmpty, itemTaken, wentToBack, runEvents, takesItemOf, countEvents}
 
--- The turn of lane k ends: it goes to the back, or it is found empty.
+-- The turn of lane k ends: it goes to the back, or it is found empty, by a targeted receive too.
 -- A pause, a resume or a targeted receive that takes an item does not end it: the lane's burst goes on.
 unfoldable pub endsTurnOf : LaneKey → Event → Bool
 endsTurnOf k budgetSet = false
