@@ -198,16 +198,13 @@ unfolding retireEmptyPausedLanes retireLaneIf retireLane
 slot-or-retired [] s y = inl refl
 slot-or-retired (x ∷ xs) s y = go (both (s .slotOf x .registered) (both (s .slotOf x .paused) (not (nonEmpty (s .slotOf x .ring))))) (slot-or-retired xs)
   where
-    retire : (u : State) → u ≡ retireLane x s → ((v : State) → v ≡ retireEmptyPausedLanes xs u → (v .slotOf y ≡ u .slotOf y) ⊎ (v .slotOf y .registered ≡ false) → (v .slotOf y ≡ s .slotOf y) ⊎ (v .slotOf y .registered ≡ false))
-    retire u e v f (inr r) = inr r
-    retire u e v f (inl r) = elim (same? x y) [
-      | equal p g i ↦ inr (ap (λ (l : Slot). l .registered) r ∙ ap (λ (t : State). t .slotOf y .registered) e ∙ rw g)
-      | other d g i ↦ inl (r ∙ ap (λ (t : State). t .slotOf y) e ∙ rw g)
-    ]
+    retire : (u : State) → (u .slotOf y ≡ (retireLane x s) .slotOf y) ⊎ (u .slotOf y .registered ≡ false) → (u .slotOf y ≡ s .slotOf y) ⊎ (u .slotOf y .registered ≡ false)
+    retire u (inr r) = inr r
+    retire u (inl r) = elim (same? x y) [ equal p g i ↦ inr (ap (λ (l : Slot). l .registered) r ∙ rw g) | other d g i ↦ inl (r ∙ rw g) ]
 
     go : (b : Bool) → ((u : State) (y : ℕ) → ((retireEmptyPausedLanes xs u) .slotOf y ≡ u .slotOf y) ⊎ ((retireEmptyPausedLanes xs u) .slotOf y .registered ≡ false))
         → ((retireEmptyPausedLanes xs (retireLaneIf b x s)) .slotOf y ≡ s .slotOf y) ⊎ ((retireEmptyPausedLanes xs (retireLaneIf b x s)) .slotOf y .registered ≡ false)
-    go true ih = retire (retireLane x s) refl (retireEmptyPausedLanes xs (retireLane x s)) refl (ih (retireLane x s) y)
+    go true ih = retire (retireEmptyPausedLanes xs (retireLane x s)) (ih (retireLane x s) y)
     go false ih = ih s y
 
 none-left-of : (xs : List ℕ) (s : State) (y : ℕ) → 1 ≤ count y xs → (retireEmptyPausedLanes xs s) .slotOf y .registered ≡ true → emptyPaused ((retireEmptyPausedLanes xs s) .slotOf y) ≡ false

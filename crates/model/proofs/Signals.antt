@@ -291,7 +291,7 @@ collect-each-clears (g ∷ gs) s y low h = elim (same? (groupOf y) g) [
   | other d e i ↦ collect-each-clears gs (collectGroup s g) y (omega (arith, collect-group-issued s g)) (omega arith)
 ]
 
-groups-round-covers : (s : State) (g : ℕ) → g < groupsIn (s .issued) → 1 ≤ count g (groupsRound s)
+pub groups-round-covers : (s : State) (g : ℕ) → g < groupsIn (s .issued) → 1 ≤ count g (groupsRound s)
 unfolding groupsRound
 groups-round-covers s g h = go (ltb g (startGroup s)) refl
   where
@@ -308,7 +308,7 @@ groups-round-covers s g h = go (ltb g (startGroup s)) refl
     go true e = omega (arith, both-parts, from-in g 0 a (omega arith) (omega (arith, ltb-true g a e)))
     go false e = omega (arith, both-parts, from-in g a (n - a) (omega (arith, ltb-false g a e)) (omega (arith, start-group-le s)))
 
-collect-ready-unmarked : (s : State) → Ordered s → (y : ℕ) → (collectReady s) .slotOf y .marked ≡ false
+pub collect-ready-unmarked : (s : State) → Ordered s → (y : ℕ) → (collectReady s) .slotOf y .marked ≡ false
 unfolding collectReady
 collect-ready-unmarked s o y = go (s .slotOf y .marked) refl
   where
