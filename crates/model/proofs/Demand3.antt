@@ -9,6 +9,8 @@ use native.Mathlib.Omega.{arith}
 use lib.ListN.{length}
 use Rattle.model.specs.declared.LaneKey.{LaneKey}
 use Rattle.model.specs.declared.Opening.{Opening}
+-- not used here: so the computed run that meets the bound is checked first
+use Rattle.model.specs.BoundMet.{bound-met}
 use Rattle.model.specs.Lists.{if}
 use Rattle.model.specs.State.{State, vacant, keyOf}
 use Rattle.model.specs.Ready.{groupsIn}
@@ -18,7 +20,7 @@ use Rattle.model.specs.Rules.{theRules}
 use Rattle.model.specs.Order.{Ordered}
 use Rattle.model.specs.Ledger.{Lane, Ledger, atOpening, note, ledgerAfter, anyOrdinary, waitsIn, waits}
 use Rattle.model.specs.Stretch.{endsStretch, stretch, looks, looksInVain, untargeted, notFair, mostLive, groupsAt}
-use Rattle.model.specs.Demand3.{Promise, Demand3}
+use Rattle.model.specs.Demand3.{bound, Promise, Demand3}
 use Rattle.model.proofs.Counting.{no, both-true, both-3, not-true}
 use Rattle.model.proofs.Quiet.{Hold, poll}
 use Rattle.model.proofs.WaitInReceive.{Wait, On, Polled, polled-to, poll-on, wait-start}
@@ -165,6 +167,11 @@ falls-single E R K i k L s u t st w m f b =
     let o = move-once E R K i (w .most) k (on (t ∷ st) (b .bounds) (w .waits-so)) m f (first-fair t st (b .all-fair) .0) (w .once-so) in
     (o .rest, o .pays, record { most = r .0; waits-so = r .2; once-so = o .once })
 
+-- what a lane waits for at the start is within the demand's bound
+start-within-bound : (G R : ℕ) → 64 * (G + R - 1) ≤ bound G R
+unfolding bound
+start-within-bound G R = omega arith
+
 le-zero : {a : ℕ} → a ≤ 0 → a ≡ 0
 le-zero h = omega arith
 
@@ -185,7 +192,7 @@ promise L s e rest K o a c w =
       sees = le-zero (bounded-by K looksInVain (Bounds E R) (λ k M u. (i : ℕ) × Waits E R K i M u) (passes-on E R)
           (λ k M u v t ts q m f z. let r = falls-waits E R K (q .0) M u v t ts (q .1) m f z in (k, seen-none (move-sees {K = K} (on (t ∷ ts) z (q .1)) m), (r .0, r .2)))
           0 L s e rest (64 * (E + R - 1), x) c b);
-      bounded = bounded-by K untargeted (Bounds E R) (Waits E R K) (passes-on E R) (falls-waits E R K) (64 * (E + R - 1)) L s e rest x c b;
+      bounded = omega (arith, bounded-by K untargeted (Bounds E R) (Waits E R K) (passes-on E R) (falls-waits E R K) (64 * (E + R - 1)) L s e rest x c b, start-within-bound E R);
       fair-once = λ z j. bounded-by K (ofLane j) (Fairly E R) (Single E R K j) (λ M t ts g. record { bounds = passes-on E R M t ts (g .bounds); all-fair = first-fair t ts (g .all-fair) .1 }) (falls-single E R K j)
           1 L s e rest (record { most = 64 * (E + R - 1); waits-so = x; once-so = fresh (omega arith) }) c (record { bounds = b; all-fair = z });
     }

@@ -23,5 +23,10 @@ pub mod Pages
 pub mod Capacity
 pub mod InOrder
 pub mod Chunks
-pub mod Examples
-pub mod BoundMet
+pub mod Events
+pub mod EventsOfRuns
+pub mod Budget
+pub mod OneTurn
+pub mod Collections
+pub mod Disconnected
+pub mod Signals

@@ -124,7 +124,7 @@ unfolding hasLaneId
 has-lane-of-id s i e = both-true (eqb (i .channel) (s .channel)) (hasLane s (i .key)) e .1
 
 -- calls that are no receives: one move
-sender-move : (s : State) (c : SenderCall) → Moves s (ends (Sender c) ((senderOutcome s c) .1 .0)) ((senderOutcome s c) .1 .1)
+pub sender-move : (s : State) (c : SenderCall) → Moves s (ends (Sender c) ((senderOutcome s c) .1 .0)) ((senderOutcome s c) .1 .1)
 unfolding senderOutcome registerSender trySend trySendUnsignaled dropSender issueSlot olderLives
 sender-move s (RegisterSender m) =
     unless-law (λ o. Moves s (ends (Sender (RegisterSender m)) (o .1 .0)) (o .1 .1)) _ s _ (λ n. stays-put s _ _ (turned-away _ n)) (λ p. go (s .free) refl (p .1 .1 .0))
@@ -145,7 +145,7 @@ quiet-control : (c : ControlCall) (a : Answer) → ((L : Ledger) → note L (end
 unfolding looksInVain looks into
 quiet-control c a h = record { noted = h; sees = refl; sends-none = λ k. refl }
 
-control-move : (s : State) (c : ControlCall) → Moves s (ends (Control c) ((controlOutcome s c) .1 .0)) ((controlOutcome s c) .1 .1)
+pub control-move : (s : State) (c : ControlCall) → Moves s (ends (Control c) ((controlOutcome s c) .1 .0)) ((controlOutcome s c) .1 .1)
 unfolding controlOutcome pause resume closeLane releaseConsumed pollAllLanes closeReceiver countHeld resumeIf note applyCall addRegistered accepted
 control-move s (Pause i) =
     unless-law (λ o. Moves s (ends (Control (Pause i)) (o .1 .0)) (o .1 .1)) _ s _ (λ n. stays-put s _ _ (turned-away _ n)) (λ p. pauses-it s i (has-lane-of-id s i (not-false (p .1 .0))))
@@ -194,7 +194,7 @@ gave-items r n = record { noted = λ L. refl; sees = never (looks (Receive r)); 
     never false = refl
 
 -- a take: nothing, or one item
-data TakeResult (f : Bool) (s : State) : Took → Type 0 where
+pub data TakeResult (f : Bool) (s : State) : Took → Type 0 where
   took-none : (poll f s) .queue ≡ [] → TakeResult f s ([], poll f s)
   took-one : (y v : ℕ) (q vs : List ℕ) → (poll f s) .queue ≡ y ∷ q → (poll f s) .slotOf y .ring ≡ v ∷ vs
       → TakeResult f s ((keyOf (poll f s) y, v) ∷ [], giveItem (poll f s) y q vs (either f (leb 63 ((poll f s) .slotOf y .burst))))
@@ -209,11 +209,11 @@ give-front-taken f s (y ∷ q) e h = go ((poll f s) .slotOf y .ring) refl h
     go [] g (nothing-queued n) = let z : _≡_ {A = ℕ} 0 1 = cc in absurd (omega arith)
     go [] g (front z v p vs n m) = let w : z ≡ y = cc in absurd (omega (arith, ap length g, ap length m, ap (λ (a : ℕ). length ((poll f s) .slotOf a .ring)) w))
 
-take-one-taken : (s : State) → TakeResult false s (takeOne s)
+pub take-one-taken : (s : State) → TakeResult false s (takeOne s)
 unfolding takeOne poll
 take-one-taken s = give-front-taken false s (polled s .queue) refl (poll-settled false s)
 
-take-fair-taken : (s : State) → TakeResult true s (takeFair s)
+pub take-fair-taken : (s : State) → TakeResult true s (takeFair s)
 unfolding takeFair poll
 take-fair-taken s = give-front-taken true s ((runDown (withBudget 64 (collectReady s))) .queue) refl (poll-settled true s)
 

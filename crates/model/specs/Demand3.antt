@@ -3,7 +3,7 @@
 use mathlib.Core.Path.{_≡_}
 use mathlib.Core.Bool.{true}
 use mathlib.Core.List.{List, _++_}
-use Prim.Native.Nat.{_+_, _-_, _*_, _≤_}
+use Prim.Native.Nat.{ℕ, _+_, _-_, _*_, _≤_}
 use Rattle.model.specs.declared.LaneKey.{LaneKey}
 use Rattle.model.specs.declared.Opening.{Opening}
 use Rattle.model.specs.declared.Call.{Call}
@@ -12,12 +12,16 @@ use Rattle.model.specs.Runs.{Lent, Rules, Tick, trace, countTicks, ofLan
 use Rattle.model.specs.Ledger.{Ledger, atOpening, ledgerAfter, waits}
 use Rattle.model.specs.Stretch.{stretch, looksInVain, untargeted, notFair, mostLive, groupsAt}
 
+-- "64 × (G + R - 1)"
+unfoldable pub bound : ℕ → ℕ → ℕ
+bound G R = 64 * (G + R - 1)
+
 -- What is promised of a stretch `st` that begins where the ledger is L.
 pub record Promise (L : Ledger) (st : List Tick) : Type 0 where
   -- "In it no plain, fair or non-zero batch receive answers Empty or Disconnected"
   pub sees : countTicks looksInVain st ≡ 0
-  -- "untargeted receives hand out at most 64 × (G + R - 1) items of other lanes"; the stretch ends where the lane gives its own
-  pub bounded : countTicks untargeted st ≤ 64 * (groupsAt (ledgerAfter L st) + mostLive L st - 1)
+  -- "untargeted receives hand out at most 64 × (G + R - 1) items of other lanes", with G and R as the demand says; the stretch ends where the lane gives its own
+  pub bounded : countTicks untargeted st ≤ bound (groupsAt (ledgerAfter L st)) (mostLive L st)
   -- "If the stretch's receives, refused ones aside, are all fair, each other lane gives at most one."
   pub fair-once : countTicks notFair st ≡ 0 → (j : LaneKey) → countTicks (ofLane j) st ≤ 1
 

@@ -19,3 +19,11 @@ pub mod Demand2
 pub mod Demand3
 pub mod Closed
 pub mod Words
+pub mod Events
+pub mod Budget
+pub mod OneTurn
+pub mod Collections
+pub mod Disconnected
+pub mod Examples
+pub mod EventExamples
+pub mod BoundMet

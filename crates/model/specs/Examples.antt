@@ -34,12 +34,12 @@ unfolding same count keep without from total vacant mayQueue registeredLanes liv
 compute = tt
 
 -- An example: an opening, calls, and what document 01 says comes of them: the answers, and the poll budget at the end.
-record Example : Type 0 where
-  capacity : ℕ
-  slots : ℕ
-  calls : List Call
-  answers : List Answer
-  budget : ℕ
+pub record Example : Type 0 where
+  pub capacity : ℕ
+  pub slots : ℕ
+  pub calls : List Call
+  pub answers : List Answer
+  pub budget : ℕ
 
 answersFrom : State → List Call → List Answer
 answersFrom s [] = []
@@ -50,10 +50,10 @@ start : Example → State
 start e = opened record { capacity = e .capacity; slots = e .slots; channel = 7; cursor = 0; generation = 0 }
 
 -- what does come of it
-found : Example → List Answer × ℕ
+pub found : Example → List Answer × ℕ
 found e = (answersFrom (start e) (e .calls), (after theRules (start e) (e .calls)) .budget)
 
-expected : Example → List Answer × ℕ
+pub expected : Example → List Answer × ℕ
 expected e = (e .answers, e .budget)
 
 keyAt : ℕ → ℕ → LaneKey
@@ -88,7 +88,7 @@ repeat : {A : Type 0} → ℕ → A → List A
 repeat zero a = []
 repeat (suc n) a = a ∷ repeat n a
 
-table : List Example
+pub table : List Example
 table =
     -- "P C 4, sends 1 to 4: taken; 5: refusal 11. After one to three plain receives still 11; after the fourth, taken."
     record {
@@ -199,7 +199,7 @@ table =
     ∷ []
 
 -- the computed test, over the whole table
-table-computed : map found table ≡ map expected table
+pub table-computed : map found table ≡ map expected table
 unfolding compute after found expected answersFrom start keyAt idAt registers sends drops plain fair lane gave repeat table
 table-computed = refl
 

@@ -1,0 +1,39 @@
+-- No more than 64 items go out between two collections, and what a collection does.
+-- Assumes nothing.
+use mathlib.Core.Path.{_≡_}
+use mathlib.Core.Bool.{true, false}
+use mathlib.Core.List.{List, _++_}
+use Prim.Native.Nat.{ℕ, _≤_}
+use Rattle.model.specs.declared.Opening.{Opening}
+use Rattle.model.specs.declared.Call.{Call}
+use Rattle.model.specs.declared.Answer.the-variants.{Done}
+use Rattle.model.specs.Lists.{nonEmpty}
+use Rattle.model.specs.State.{State}
+use Rattle.model.specs.Ready.{marks, collectGroup, collectReadyGroup, collectReady}
+use Rattle.model.specs.Runs.{Lent}
+use Rattle.model.specs.Order.{InOrder}
+use Rattle.model.specs.Opening.{openingOutcome}
+use Rattle.model.specs.Events.{Event, anyMarked, runEvents, collects, findsNoneMarked, takesItem, countEvents}
+
+-- "while a page bit is set no more than 64 go out between two collections, however plain receives and batches mix"
+-- `part` is any part of a run's events without a collection, and in which no look for one finds that no page bit is set.
+-- Without that it is false: see `nothing-to-collect` in EventExamples, where 65 items go out after the only collection.
+unfoldable pub AtMost64BetweenCollections : Type 0
+AtMost64BetweenCollections =
+    (o : Opening) (lent : Lent) → (openingOutcome o lent) .1 .0 ≡ Done
+    → (calls : List Call) (before part rest : List Event) → runEvents o lent calls ≡ before ++ (part ++ rest)
+    → countEvents collects part ≡ 0 → countEvents findsNoneMarked part ≡ 0 → countEvents takesItem part ≤ 64
+
+-- What a collection does while a page bit is set. "Collecting one group stops after the first that had any":
+unfoldable pub TakesOneGroup : Type 0
+TakesOneGroup =
+    (s : State) → InOrder s → anyMarked s ≡ true
+    → (g : ℕ) × (nonEmpty (marks s g) ≡ true) × (collectReadyGroup s ≡ collectGroup s g)
+
+-- and collecting all groups leaves no page bit.
+unfoldable pub TakesAllGroups : Type 0
+TakesAllGroups = (s : State) → InOrder s → anyMarked (collectReady s) ≡ false
+
+-- With no page bit set neither changes anything.
+unfoldable pub NothingToCollect : Type 0
+NothingToCollect = (s : State) → anyMarked s ≡ false → (collectReadyGroup s ≡ s) × (collectReady s ≡ s)
