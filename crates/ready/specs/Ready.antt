@@ -1,0 +1,105 @@
+-- "Ready marks": page and group words, marking a lane, collecting the marked ones.
+-- Assumes nothing.
+use mathlib.Core.Bool.{Bool, true, false, cond, _&&_}
+use mathlib.Core.List.{List, [], _∷_, foldl}
+use Prim.Native.Nat.{ℕ, zero, suc, _+_, _*_, _/_, _%_}
+use lib.Dec.{eqb, ltb}
+use Rattle.lane.specs.Table.{laneWords, cell, setCell, laneAt, putLane}
+use Rattle.lane.specs.declared.lane.Lane.{Lane}
+use Rattle.ready.specs.Header.{issued, groupCursor, setGroupCursor}
+use Rattle.ready.specs.Queue.{pushedBack}
+use Rattle.ready.specs.Bits.{bit, withBit, bitsFrom}
+
+-- the columns of the rows that hold the page words and the group words: page p in row p, group g in row g
+abbrev pub pageColumn : ℕ
+pageColumn = laneWords + 2
+
+abbrev pub groupColumn : ℕ
+groupColumn = laneWords + 3
+
+abbrev pub pageWord : List ℕ → ℕ → ℕ
+pageWord t page = cell t pageColumn page
+
+abbrev pub groupWord : List ℕ → ℕ → ℕ
+groupWord t group = cell t groupColumn group
+
+-- "64 lanes to a page, 64 pages to a group": a slot's bit in its page, a page's bit in its group
+abbrev pub pageBit : List ℕ → ℕ → ℕ
+pageBit t slot = bit (pageWord t (slot / 64)) (slot % 64)
+
+abbrev pub groupBit : List ℕ → ℕ → ℕ
+groupBit t page = bit (groupWord t (page / 64)) (page % 64)
+
+abbrev pub setPageBit : List ℕ → ℕ → List ℕ
+setPageBit t slot = setCell t pageColumn (slot / 64) (withBit (pageWord t (slot / 64)) (slot % 64))
+
+abbrev pub setGroupBit : List ℕ → ℕ → List ℕ
+setGroupBit t page = setCell t groupColumn (page / 64) (withBit (groupWord t (page / 64)) (page % 64))
+
+-- "sets the page bit; a page that was 0 sets its group bit"
+unfoldable pub marked : List ℕ → ℕ → List ℕ
+marked t slot = cond (eqb (pageWord t (slot / 64)) 0) (setGroupBit (setPageBit t slot) (slot / 64)) (setPageBit t slot)
+
+-- "a lane that is pending, unpaused and unqueued"
+unfoldable pub wantedLane : Lane → Bool
+wantedLane l = eqb (l .registered) 1 && (eqb (l .pending) 1 && (eqb (l .paused) 0 && eqb (l .queued) 0))
+
+-- of an issued slot
+unfoldable pub wanted : List ℕ → ℕ → Bool
+wanted t slot = ltb slot (issued t) && wantedLane (laneAt t slot)
+
+-- a lane that is in the queue
+abbrev pub queuedLane : Lane → Lane
+queuedLane l =
+    record {
+      key = l .key;
+      tail = l .tail;
+      released = l .released;
+      head = l .head;
+      known = l .known;
+      cached = l .cached;
+      unreleased = l .unreleased;
+      burst = l .burst;
+      window = l .window;
+      pending = l .pending;
+      queued = 1;
+      paused = l .paused;
+      registered = l .registered;
+      living = l .living;
+    }
+
+-- the lane of a slot goes to the back of the queue
+unfoldable pub enqueued : List ℕ → ℕ → List ℕ
+enqueued t slot = pushedBack (putLane t (queuedLane (laneAt t slot))) slot
+
+unfoldable pub offered : List ℕ → ℕ → List ℕ
+offered t slot = cond (wanted t slot) (enqueued t slot) t
+
+-- "Taking a page or group reads it and leaves 0." Its slots are offered, "lowest bit first".
+unfoldable pub collectedPage : List ℕ → ℕ → List ℕ
+collectedPage t page = foldl offered (setCell t pageColumn page 0) (bitsFrom 64 (64 * page) (pageWord t page))
+
+unfoldable pub collectedGroup : List ℕ → ℕ → List ℕ
+collectedGroup t group = foldl collectedPage (setCell t groupColumn group 0) (bitsFrom 64 (64 * group) (groupWord t group))
+
+-- "A page or group exists once a slot of it has been issued."
+abbrev pub groupsOf : ℕ → ℕ
+groupsOf n = (n + 4095) / 4096
+
+-- "from the group cursor round": the group that `next` stands at, of n groups
+unfoldable pub groupAt : ℕ → ℕ → ℕ
+groupAt n next = cond (ltb next n) next 0
+
+-- at most k of n groups, from `next` on. "The cursor then stands just after the last group that had bits.
+-- Collecting one group stops after the first that had any."
+unfoldable pub collectedFrom : ℕ → ℕ → Bool → List ℕ → ℕ → List ℕ
+collectedFrom n zero all t next = t
+collectedFrom n (suc k) all t next =
+    let g = groupAt n next in
+    let after = setGroupCursor (collectedGroup t g) (g + 1) in
+    cond (eqb (groupWord t g) 0)
+    (collectedFrom n k all t (g + 1))
+    (cond all (collectedFrom n k all after (g + 1)) after)
+
+unfoldable pub collectReady : Bool → List ℕ → List ℕ
+collectReady all t = collectedFrom (groupsOf (issued t)) (groupsOf (issued t)) all t (groupCursor t)
