@@ -114,7 +114,7 @@ module _ (t : List ℕ) (x : ℕ) (s : Shaped t) where
         heads = head-enqueued t x;
         cells = cell-enqueued t x;
         lanes = λ y. elim (same? y x) [
-            equal e p i ↦ rw e (ap queuedLane (lane-enqueued t x (row-of w)))
+          | equal e p i ↦ rw e (ap queuedLane (lane-enqueued t x (row-of w)))
           | other d p i ↦ ap queuedLane (other-enqueued t x y p)
         ];
       }
@@ -144,18 +144,18 @@ module _ (t : List ℕ) (x : ℕ) (s : Shaped t) where
       names-enqueued =
           record {
             once = λ y. elim (same? y x) [
-                equal e p i ↦ rw e (omega (arith, count-enqueued x, none-before, same-self x))
+              | equal e p i ↦ rw e (omega (arith, count-enqueued x, none-before, same-self x))
               | other d p i ↦ omega (arith, count-enqueued y, q .once y)
             ];
             issued-only = λ y h. elim (same? y x) [
-                equal e p i ↦ rw (e, head-enqueued t x 0 refl refl) (w .is-issued)
+              | equal e p i ↦ rw (e, head-enqueued t x 0 refl refl) (w .is-issued)
               | other d p i ↦ rw (head-enqueued t x 0 refl refl) (q .issued-only y (omega (arith, count-enqueued y)))
             ];
             flagged = λ y h r. elim (same? y x) [
-                equal e p i ↦ rw (e, lane-enqueued t x (row-of w)) (omega (arith, count-enqueued x, none-before, same-self x))
+              | equal e p i ↦ rw (e, lane-enqueued t x (row-of w)) (omega (arith, count-enqueued x, none-before, same-self x))
               | other d p i ↦
-                rw (other-enqueued t x y p)
-                (q .flagged y (rw (head-enqueued t x 0 refl refl) at h) (rw (other-enqueued t x y p) at r) ∙ omega (arith, count-enqueued y))
+                  rw (other-enqueued t x y p)
+                  (q .flagged y (rw (head-enqueued t x 0 refl refl) at h) (rw (other-enqueued t x y p) at r) ∙ omega (arith, count-enqueued y))
             ];
           }
 
