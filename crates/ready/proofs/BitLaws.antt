@@ -232,3 +232,9 @@ bits-ascend (suc k) p w = go (w % 2) (bits-ascend k (p + 1) (w / 2))
     go : (d : ℕ) → Ascends (p + 1) (bitsFrom k (p + 1) (w / 2)) → Ascends p (keepIf d p (bitsFrom k (p + 1) (w / 2)))
     go zero r = ascends-below (omega arith) r
     go (suc d) r = next (le-refl p) (subst (λ (a : ℕ). Ascends a (bitsFrom k (p + 1) (w / 2))) (add-one p) r)
+
+-- ---- an example: 40 has its bits 3 and 5 set
+
+lowest-first : bitsFrom 6 64 40 ≡ 67 ∷ 69 ∷ []
+unfolding bitsFrom
+lowest-first = refl

@@ -17,17 +17,9 @@ use Rattle.ready.specs.Queue.{queueColumn, queueOf, QueueNames}
 use Rattle.ready.specs.Bits.{bit, bitsFrom}
 use Rattle.ready.specs.Ready.{pageColumn, groupColumn, pageWord, groupWord, pageBit, groupBit, nonZero, Linked, queuedLane, offered, collectedPage, collectedGroup}
 use Rattle.ready.proofs.BitLaws.{In, here, there, bits-in, Each, none, both, bits-each, bit-zero}
+use Rattle.ready.proofs.NamesLaws.{names-same}
 use Rattle.ready.proofs.QueueLaws.{queue-frames, shaped-setCell}
 use Rattle.ready.proofs.OfferLaws.{Rest, rest-self, rest-then, rest-offered, shaped-offered, names-offered}
-
--- the queue names the same lanes
-pub names-by : (t u : List ℕ) → queueOf u ≡ queueOf t → issued u ≡ issued t → ((y : ℕ) → laneAt u y ≡ laneAt t y) → QueueNames t → QueueNames u
-names-by t u a b c q =
-    record {
-      once = λ y. rw a (q .once y);
-      issued-only = λ y h. rw b (q .issued-only y (rw a at h));
-      flagged = λ y h r. rw (c y, a) (q .flagged y (rw b at h) (rw (c y) at r));
-    }
 
 -- ---- what every step keeps
 
@@ -56,7 +48,7 @@ pub kept-setCell : (t : List ℕ) (c row v : ℕ) → leb laneWords c ≡ true �
 kept-setCell t c row v a p n s q =
     record {
       shaped = shaped-setCell t s c row v;
-      names = names-by t (setCell t c row v) (simp (queue-frames, p, n)) (simp frames) (λ y. simp (frames, a, p)) q;
+      names = names-same t (setCell t c row v) q (simp frames) (λ y. simp (frames, a, p)) (λ y. simp (queue-frames, p, n));
       same-issued = simp frames;
       long = simp frames;
     }

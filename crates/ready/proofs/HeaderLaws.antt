@@ -1,6 +1,6 @@
 -- The header stored: its words are read back, the rows are as they were; and a channel that was just opened.
 -- Assumes nothing.
-use mathlib.Core.Path.{_≡_}
+use mathlib.Core.Path.{_≡_, refl}
 use mathlib.Core.Bool.{true}
 use mathlib.Core.List.{List, []}
 use Prim.Native.Nat.{ℕ, _≤_}
@@ -8,12 +8,13 @@ use native.Mathlib.Omega.{arith}
 use borrow.Author.Tests.{leb-true, le-leb, ltb-true}
 use lib.Dec.{ltb, leb}
 use lib.ListN.{length, getD}
+use Rattle.model.specs.Lists.{count}
 use Rattle.model.specs.declared.Opening.{Opening}
 use Rattle.lane.specs.Table.{headerWords, head, cellAt, cell, laneAt}
 use Rattle.lane.proofs.ListLaws.{length-scatter, scatter-in, scatter-out}
 use Rattle.ready.specs.declared.header.Header.{Header}
 use Rattle.ready.specs.Header.{Shaped, openedHeader, headerList, putHeader}
-use Rattle.ready.specs.Queue.{queueOf}
+use Rattle.ready.specs.Queue.{queueOf, QueueNames}
 use Rattle.ready.specs.Registry.{freeOf}
 
 module _ (t : List ℕ) (h : Header) where
@@ -72,3 +73,12 @@ module _ (t : List ℕ) (o : Opening) (C : ℕ) (some : 1 ≤ o .slots) (most : 
   pub head-opened : (k : ℕ) → ltb k (length (headerList (openedHeader o C))) ≡ true
       → head (putHeader t (openedHeader o C)) k ≡ getD (headerList (openedHeader o C)) k 0
   head-opened k p = head-put-header t (openedHeader o C) k header-fits p
+
+  pub names-opened : QueueNames (putHeader t (openedHeader o C))
+  unfolding count
+  names-opened =
+      record {
+        once = λ x. rw queue-opened (omega arith);
+        issued-only = λ x. rw queue-opened (λ h. absurd (omega arith));
+        flagged = λ x h. absurd (omega (arith, head-opened 0 refl));
+      }

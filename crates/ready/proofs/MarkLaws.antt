@@ -8,6 +8,7 @@ use native.Mathlib.Omega.{arith}
 use borrow.Author.Tests.{eqb-true, eqb-false, ne-eqb}
 use lib.Dec.{ltb, leb, eqb}
 use lib.ListN.{length}
+use Rattle.model.specs.Lists.{count}
 use Rattle.model.proofs.Counting.{Same, equal, other, same?}
 use Rattle.lane.specs.Table.{headerWords, rowWords, laneWords, HasRow, head, cellAt, cell, laneAt}
 use Rattle.lane.proofs.TableLaws.{frames, has-row}
@@ -17,9 +18,10 @@ use Rattle.ready.specs.Registry.{freeOf}
 use Rattle.ready.specs.Bits.{bit, withBit}
 use Rattle.ready.specs.Ready.{pageColumn, groupColumn, pageWord, groupWord, pageBit, groupBit, setPageBit, setGroupBit, marked, nonZero, Linked}
 use Rattle.ready.proofs.BitLaws.{bit-set-same, bit-set-other, set-not-zero}
+use Rattle.ready.proofs.NamesLaws.{names-same}
 use Rattle.ready.proofs.QueueLaws.{queue-frames}
 use Rattle.ready.proofs.RegistryLaws.{registry-frames}
-use Rattle.ready.proofs.CollectLaws.{Kept, names-by}
+use Rattle.ready.proofs.CollectLaws.{Kept}
 
 module _ (t : List ℕ) (x : ℕ) where
   -- a mark does one of two things
@@ -133,7 +135,7 @@ pub kept-marked : (t : List ℕ) (x : ℕ) → Shaped t → QueueNames t → Kep
 kept-marked t x s q =
     record {
       shaped = marked-case t x Shaped (λ e. simp frames s) (λ n. simp frames s);
-      names = names-by t (marked t x) (queue-marked t x) (head-marked t x 0 refl) (lane-marked t x) q;
+      names = names-same t (marked t x) q (head-marked t x 0 refl) (lane-marked t x) (λ y. ap (count y) (queue-marked t x));
       same-issued = head-marked t x 0 refl;
       long = length-marked t x;
     }

@@ -17,6 +17,7 @@ use Rattle.ready.specs.Header.{Shaped, issued, queueCount, slots}
 use Rattle.ready.specs.Queue.{queueColumn, queueOf, pushedBack, QueueNames}
 use Rattle.ready.specs.Registry.{freeOf}
 use Rattle.ready.specs.Ready.{wantedLane, wanted, queuedLane, enqueued, offered}
+use Rattle.ready.proofs.NamesLaws.{names-pushed-back}
 use Rattle.ready.proofs.QueueLaws.{queue-frames, queue-pushed-back, queue-has-room, shaped-pushed-back, shaped-putLane}
 
 -- ---- a wanted slot
@@ -133,31 +134,11 @@ module _ (t : List ℕ) (x : ℕ) (s : Shaped t) where
       queue-enqueued =
           queue-pushed-back (putLane t (queuedLane (laneAt t x))) (shaped-putLane t s _) x (simp frames (wants-room t x s q w)) ∙ simp queue-frames
 
-      none-before : rules.count x (queueOf t) ≡ 0
-      none-before = sym (q .flagged x (w .is-issued) (w .registered)) ∙ w .unqueued
-
-      count-enqueued : (y : ℕ) → rules.count y (queueOf (enqueued t x)) ≡ rules.count y (queueOf t) + rules.same y x
-      unfolding rules.count
-      count-enqueued y = ap (rules.count y) queue-enqueued ∙ count-append y (queueOf t) (x ∷ []) ∙ omega arith
-
       names-enqueued : QueueNames (enqueued t x)
+      unfolding enqueued laneAt
       names-enqueued =
-          record {
-            once = λ y. elim (same? y x) [
-              | equal e p i ↦ rw e (omega (arith, count-enqueued x, none-before, same-self x))
-              | other d p i ↦ omega (arith, count-enqueued y, q .once y)
-            ];
-            issued-only = λ y h. elim (same? y x) [
-              | equal e p i ↦ rw (e, head-enqueued t x 0 refl refl) (w .is-issued)
-              | other d p i ↦ rw (head-enqueued t x 0 refl refl) (q .issued-only y (omega (arith, count-enqueued y)))
-            ];
-            flagged = λ y h r. elim (same? y x) [
-              | equal e p i ↦ rw (e, lane-enqueued t x (row-of w)) (omega (arith, count-enqueued x, none-before, same-self x))
-              | other d p i ↦
-                  rw (other-enqueued t x y p)
-                  (q .flagged y (rw (head-enqueued t x 0 refl refl) at h) (rw (other-enqueued t x y p) at r) ∙ omega (arith, count-enqueued y))
-            ];
-          }
+          names-pushed-back t s q (queuedLane (laneAt t x)) (w .is-issued)
+          (sym (q .flagged x (w .is-issued) (w .registered)) ∙ w .unqueued) refl
 
     pub shaped-offered : Shaped (offered t x)
     shaped-offered = offered-case Shaped t x (λ e. shaped-enqueued (wants t x e)) (λ e. s)

@@ -84,6 +84,10 @@ module _ (t : List ℕ) where
   unfolding poppedFront
   count-popped-front r = simp (frames, r)
 
+  pub front-popped-front : leb headerWords (length t) ≡ true → queueFront (poppedFront t) ≡ queueRow t 1
+  unfolding poppedFront
+  front-popped-front r = simp (frames, r)
+
   pub cell-popped-front : (c row : ℕ) → cell (poppedFront t) c row ≡ cell t c row
   unfolding poppedFront
   cell-popped-front c row = simp frames
@@ -99,6 +103,10 @@ module _ (t : List ℕ) where
   pub head-rotated : (k : ℕ) → ltb k headerWords ≡ true → eqb 1 k ≡ false → head (rotated t) k ≡ head t k
   unfolding rotated
   head-rotated k p n = simp (frames, p, n)
+
+  pub front-rotated : leb headerWords (length t) ≡ true → queueFront (rotated t) ≡ queueRow t 1
+  unfolding rotated
+  front-rotated r = simp (frames, r)
 
   pub cell-rotated : (c row : ℕ) → ltb c rowWords ≡ true → eqb queueColumn c ≡ false → cell (rotated t) c row ≡ cell t c row
   unfolding rotated
@@ -169,10 +177,12 @@ pub ruleset queue-frames = (
   length-popped-front,
   head-popped-front,
   count-popped-front,
+  front-popped-front,
   cell-popped-front,
   lane-popped-front,
   length-rotated,
   head-rotated,
+  front-rotated,
   cell-rotated,
   lane-rotated,
   length-removed,
@@ -280,12 +290,10 @@ module _ (t : List ℕ) (s : Shaped t) where
   shaped-pushed-back x h = simp (queue-frames, header-in) (omega (arith, s))
 
   pub shaped-popped-front : Shaped (poppedFront t)
-  unfolding poppedFront
-  shaped-popped-front = simp (frames, header-in) (omega (arith, s, row-in 1))
+  shaped-popped-front = simp (queue-frames, header-in) (omega (arith, s, row-in 1))
 
   pub shaped-rotated : Shaped (rotated t)
-  unfolding rotated
-  shaped-rotated = simp (frames, header-in) (omega (arith, s, row-in 1))
+  shaped-rotated = simp (queue-frames, header-in) (omega (arith, s, row-in 1))
 
   pub shaped-removed : (x : ℕ) → Shaped (removed t x)
   shaped-removed x = simp (queue-frames, header-in) (omega (arith, s, removed-most x))

@@ -13,9 +13,10 @@ use Rattle.lane.specs.declared.lane.Lane.{Lane}
 use Rattle.lane.proofs.ListLaws.{length-tab, tab-pop}
 use Rattle.lane.proofs.TableLaws.{frames}
 use Rattle.ready.specs.Header.{Shaped, freeCount, slots}
-use Rattle.ready.specs.Queue.{queueOf, pushedBack, poppedFront, rotated, removed}
+use Rattle.ready.specs.Queue.{queueOf, pushedBack, poppedFront, rotated, removed, QueueNames}
 use Rattle.ready.specs.Registry.{freeColumn, freeOf, freed, lastFreed, reissued}
 use Rattle.ready.proofs.QueueLaws.{queue-frames, header-in}
+use Rattle.ready.proofs.NamesLaws.{names-same}
 
 pub length-free : (t : List ℕ) → length (freeOf t) ≡ freeCount t
 unfolding freeOf
@@ -161,3 +162,11 @@ module _ (t : List ℕ) (s : Shaped t) where
 
   pub shaped-reissued : Shaped (reissued t)
   shaped-reissued = simp (registry-frames, header-in t s) (omega (arith, s))
+
+-- ---- the queue names what it named
+
+pub names-freed : (t : List ℕ) (x : ℕ) → QueueNames t → QueueNames (freed t x)
+names-freed t x q = names-same t (freed t x) q (simp registry-frames) (λ y. simp registry-frames) (λ y. simp registry-frames)
+
+pub names-reissued : (t : List ℕ) → QueueNames t → QueueNames (reissued t)
+names-reissued t q = names-same t (reissued t) q (simp registry-frames) (λ y. simp registry-frames) (λ y. simp registry-frames)

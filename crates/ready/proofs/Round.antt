@@ -13,8 +13,9 @@ use Rattle.lane.proofs.TableLaws.{frames}
 use Rattle.ready.specs.Header.{Shaped, issued, groupCursor, setGroupCursor}
 use Rattle.ready.specs.Queue.{QueueNames}
 use Rattle.ready.specs.Ready.{groupWord, Linked, collectedGroup, groupsOf, groupAt, collectedFrom, collectReady}
+use Rattle.ready.proofs.NamesLaws.{names-same}
 use Rattle.ready.proofs.QueueLaws.{queue-frames, header-in}
-use Rattle.ready.proofs.CollectLaws.{Kept, kept-self, kept-then, names-by, kept-group, linked-group}
+use Rattle.ready.proofs.CollectLaws.{Kept, kept-self, kept-then, kept-group, linked-group}
 
 -- ---- the cursor stored
 
@@ -23,7 +24,7 @@ module _ (t : List ℕ) (v : ℕ) where
   kept-cursor h s q =
       record {
         shaped = simp (frames, header-in t s) (omega (arith, s));
-        names = names-by t (setGroupCursor t v) (simp queue-frames) (simp frames) (λ y. simp frames) q;
+        names = names-same t (setGroupCursor t v) q (simp frames) (λ y. simp frames) (λ y. simp queue-frames);
         same-issued = simp frames;
         long = simp frames;
       }

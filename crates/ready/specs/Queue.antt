@@ -50,7 +50,8 @@ requeued t ws = setQueueCount (scatter t (λ i. cellAt queueColumn (queueRow t i
 unfoldable pub removed : List ℕ → ℕ → List ℕ
 removed t slot = requeued t (without slot (queueOf t))
 
--- "The queue names each queued lane once": its entries are exactly the registered lanes with the queued flag, each once
+-- "The queue names each queued lane once": what it names are issued slots, each once, and the queued flag of a registered lane
+-- says whether it is among them. That every slot named holds a registered lane is seen in the rules' state, and is said there.
 pub record QueueNames (t : List ℕ) : Type 0 where
   pub once : (x : ℕ) → count x (queueOf t) ≤ 1
   pub issued-only : (x : ℕ) → 1 ≤ count x (queueOf t) → x < issued t

@@ -51,9 +51,9 @@ pub fn rotate(t: &mut [u64])
     ensures { λ _. ⌜ now (t .exit) ≡ rotated (now (t .entry)) ⌝ }
 {
     let slot = front(t);
-    let row = row_of(t[Header::FRONT], t[Header::QUEUED], t[Header::SLOTS]);
+    let back = row_of(t[Header::FRONT], t[Header::QUEUED], t[Header::SLOTS]);
     let next = row_of(t[Header::FRONT], 1, t[Header::SLOTS]);
-    table::set_cell(t, PLACE, row, slot);
+    table::set_cell(t, PLACE, back, slot);
     t[Header::FRONT] = next as u64;
 }
 

@@ -24,7 +24,8 @@ pub fn last_freed(t: &[u64]) -> u64
     requires { ⌜ Shaped (now t) × (0 < freeCount (now t)) ⌝ }
     ensures { λ r. ⌜ r ≡ lastFreed (now (t .entry)) ⌝ }
 {
-    table::cell(t, PLACE, (t[Header::FREE] - 1) as usize)
+    let n = t[Header::FREE];
+    table::cell(t, PLACE, (n - 1) as usize)
 }
 
 // Takes the slot that was freed last off the list.

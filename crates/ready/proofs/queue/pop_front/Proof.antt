@@ -9,7 +9,7 @@ use Rattle.ready.proofs.queue.pop_front.Tie as tie
 
 returns : tie.Need-returns
 unfolding poppedFront
-returns c = cc
+returns c = simp (c .row-of .ensures .0)
 
 pub pop-front-spec : {M : Type 1} → statement M
 pop-front-spec =

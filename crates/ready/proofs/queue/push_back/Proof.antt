@@ -7,7 +7,7 @@ use Rattle.ready.proofs.queue.push_back.Tie as tie
 
 returns : tie.Need-returns
 unfolding pushedBack
-returns c = cc
+returns c = simp (c .before .before .set-cell .ensures, c .before .before .before .before .row-of .ensures .0)
 
 pub push-back-spec : {M : Type 1} → statement M
 push-back-spec =

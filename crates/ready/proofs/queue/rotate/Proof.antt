@@ -7,7 +7,10 @@ use Rattle.ready.proofs.queue.rotate.Tie as tie
 
 returns : tie.Need-returns
 unfolding rotated
-returns c = cc
+returns c =
+    let next = c .before .before .before .before in
+    let back = next .before .before .before in
+    simp (c .before .before .set-cell .ensures, back .row-of .ensures .0, next .row-of2 .ensures .0, back .before .before .before .before .front .ensures)
 
 pub rotate-spec : {M : Type 1} → statement M
 rotate-spec =

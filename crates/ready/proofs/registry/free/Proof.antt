@@ -7,7 +7,7 @@ use Rattle.ready.proofs.registry.free.Tie as tie
 
 returns : tie.Need-returns
 unfolding freed
-returns c = cc
+returns c = simp (c .before .before .set-cell .ensures)
 
 pub free-spec : {M : Type 1} → statement M
 free-spec =
