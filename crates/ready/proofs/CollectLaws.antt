@@ -14,6 +14,7 @@ use Rattle.lane.specs.Table.{headerWords, rowWords, laneWords, HasRow, head, ce
 use Rattle.lane.proofs.TableLaws.{frames, has-row}
 use Rattle.ready.specs.Header.{Shaped, issued}
 use Rattle.ready.specs.Queue.{queueColumn, queueOf, QueueNames}
+use Rattle.ready.specs.Registry.{freeOf}
 use Rattle.ready.specs.Bits.{bit, bitsFrom}
 use Rattle.ready.specs.Ready.{pageColumn, groupColumn, pageWord, groupWord, pageBit, groupBit, nonZero, Linked, queuedLane, offered, collectedPage, collectedGroup}
 use Rattle.ready.proofs.BitLaws.{In, here, there, bits-in, Each, none, both, bits-each, bit-zero}
@@ -208,3 +209,52 @@ module _ (t : List ℕ) (group : ℕ) (s : Shaped t) (q : QueueNames t) where
     where
       absent : {w : ℕ} (b : ℕ) → w ≡ 0 → bit w b ≡ 1 → ⊥
       absent b z e = let o : _≡_ {A = ℕ} 1 0 = sym e ∙ ap (λ (x : ℕ). bit x b) z ∙ bit-zero b in omega arith
+
+-- ---- what collecting leaves: all but the lanes' queued words, the queue, and the page and group words
+
+pub record Beside (t u : List ℕ) : Type 0 where
+  pub heads : (k : ℕ) → ltb k headerWords ≡ true → eqb 2 k ≡ false → head u k ≡ head t k
+  pub cells : (c row : ℕ) → leb laneWords c ≡ true → ltb c rowWords ≡ true → eqb queueColumn c ≡ false → eqb pageColumn c ≡ false
+      → eqb groupColumn c ≡ false → cell u c row ≡ cell t c row
+  pub lanes : (y : ℕ) → queuedLane (laneAt u y) ≡ queuedLane (laneAt t y)
+
+beside-self : (t : List ℕ) → Beside t t
+beside-self t = record { heads = λ k p n. refl; cells = λ c row a p n m g. refl; lanes = λ y. refl }
+
+beside-then : {t u v : List ℕ} → Beside t u → Beside u v → Beside t v
+beside-then a b =
+    record {
+      heads = λ k p n. b .heads k p n ∙ a .heads k p n;
+      cells = λ c row l p n m g. b .cells c row l p n m g ∙ a .cells c row l p n m g;
+      lanes = λ y. b .lanes y ∙ a .lanes y;
+    }
+
+beside-page : (t : List ℕ) (page : ℕ) → Shaped t → QueueNames t → Beside t (collectedPage t page)
+beside-page t page s q =
+    let r = rest-page t page s q in
+    record {
+      heads = λ k p n. r .heads k p n ∙ simp (frames, p);
+      cells = λ c row a p n m g. r .cells c row a p n ∙ simp (frames, p, m);
+      lanes = λ y. let same : laneAt (setCell t pageColumn page 0) y ≡ laneAt t y = simp frames in r .lanes y ∙ ap queuedLane same;
+    }
+
+beside-pages : (l t : List ℕ) → Shaped t → QueueNames t → Beside t (foldl collectedPage t l)
+beside-pages [] t s q = beside-self t
+beside-pages (x ∷ l) t s q =
+    let k = kept-page t x s q in
+    beside-then (beside-page t x s q) (beside-pages l (collectedPage t x) (k .shaped) (k .names))
+
+pub beside-group : (t : List ℕ) (group : ℕ) → Shaped t → QueueNames t → Beside t (collectedGroup t group)
+unfolding collectedGroup
+beside-group t group s q =
+    let k = begun t group s q in
+    let b = beside-pages (bitsFrom 64 (64 * group) (groupWord t group)) (setCell t groupColumn group 0) (k .shaped) (k .names) in
+    record {
+      heads = λ c p n. b .heads c p n ∙ simp (frames, p);
+      cells = λ c row a p n m g. b .cells c row a p n m g ∙ simp (frames, p, g);
+      lanes = λ y. let same : laneAt (setCell t groupColumn group 0) y ≡ laneAt t y = simp frames in b .lanes y ∙ ap queuedLane same;
+    }
+
+pub free-beside : (t u : List ℕ) → Beside t u → freeOf u ≡ freeOf t
+unfolding freeOf
+free-beside t u b = simp (b .heads, b .cells)

@@ -22,7 +22,7 @@ use Rattle.ready.proofs.CollectLaws.{Kept, kept-setCell, kept-page, pag
 -- ---- lists
 
 -- the same test on every number of a list
-keep-each : (p q : ℕ → Bool) (l : List ℕ) → Each (λ x. p x ≡ q x) l → keep p l ≡ keep q l
+pub keep-each : (p q : ℕ → Bool) (l : List ℕ) → Each (λ x. p x ≡ q x) l → keep p l ≡ keep q l
 unfolding keep
 keep-each p q [] none = refl
 keep-each p q (x ∷ l) (both e r) = rw (e, keep-each p q l r)
@@ -41,7 +41,7 @@ keep-append p (x ∷ a) b = go (p x) (keep-append p a b)
     go true e = ap (λ (l : List ℕ). x ∷ l) e
     go false e = e
 
-each-map : {P Q : ℕ → Type 0} (l : List ℕ) → ((x : ℕ) → P x → Q x) → Each P l → Each Q l
+pub each-map : {P Q : ℕ → Type 0} (l : List ℕ) → ((x : ℕ) → P x → Q x) → Each P l → Each Q l
 each-map [] f none = none
 each-map (x ∷ l) f (both p r) = both (f x p) (each-map l f r)
 
