@@ -210,21 +210,21 @@ module _ (t : List ℕ) (group : ℕ) (s : Shaped t) (q : QueueNames t) where
       absent : {w : ℕ} (b : ℕ) → w ≡ 0 → bit w b ≡ 1 → ⊥
       absent b z e = let o : _≡_ {A = ℕ} 1 0 = sym e ∙ ap (λ (x : ℕ). bit x b) z ∙ bit-zero b in omega arith
 
--- ---- what collecting leaves: all but the lanes' queued words, the queue, and the page and group words
+-- ---- what collecting leaves: all but the lanes' queued words, the queue, the group cursor, and the page and group words
 
 pub record Beside (t u : List ℕ) : Type 0 where
-  pub heads : (k : ℕ) → ltb k headerWords ≡ true → eqb 2 k ≡ false → head u k ≡ head t k
+  pub heads : (k : ℕ) → ltb k headerWords ≡ true → eqb 2 k ≡ false → eqb 6 k ≡ false → head u k ≡ head t k
   pub cells : (c row : ℕ) → leb laneWords c ≡ true → ltb c rowWords ≡ true → eqb queueColumn c ≡ false → eqb pageColumn c ≡ false
       → eqb groupColumn c ≡ false → cell u c row ≡ cell t c row
   pub lanes : (y : ℕ) → queuedLane (laneAt u y) ≡ queuedLane (laneAt t y)
 
-beside-self : (t : List ℕ) → Beside t t
-beside-self t = record { heads = λ k p n. refl; cells = λ c row a p n m g. refl; lanes = λ y. refl }
+pub beside-self : (t : List ℕ) → Beside t t
+beside-self t = record { heads = λ k p n c. refl; cells = λ c row a p n m g. refl; lanes = λ y. refl }
 
-beside-then : {t u v : List ℕ} → Beside t u → Beside u v → Beside t v
+pub beside-then : {t u v : List ℕ} → Beside t u → Beside u v → Beside t v
 beside-then a b =
     record {
-      heads = λ k p n. b .heads k p n ∙ a .heads k p n;
+      heads = λ k p n c. b .heads k p n c ∙ a .heads k p n c;
       cells = λ c row l p n m g. b .cells c row l p n m g ∙ a .cells c row l p n m g;
       lanes = λ y. b .lanes y ∙ a .lanes y;
     }
@@ -233,7 +233,7 @@ beside-page : (t : List ℕ) (page : ℕ) → Shaped t → QueueNames t → Besi
 beside-page t page s q =
     let r = rest-page t page s q in
     record {
-      heads = λ k p n. r .heads k p n ∙ simp (frames, p);
+      heads = λ k p n c. r .heads k p n ∙ simp (frames, p);
       cells = λ c row a p n m g. r .cells c row a p n ∙ simp (frames, p, m);
       lanes = λ y. let same : laneAt (setCell t pageColumn page 0) y ≡ laneAt t y = simp frames in r .lanes y ∙ ap queuedLane same;
     }
@@ -250,7 +250,7 @@ beside-group t group s q =
     let k = begun t group s q in
     let b = beside-pages (bitsFrom 64 (64 * group) (groupWord t group)) (setCell t groupColumn group 0) (k .shaped) (k .names) in
     record {
-      heads = λ c p n. b .heads c p n ∙ simp (frames, p);
+      heads = λ c p n m. b .heads c p n m ∙ simp (frames, p);
       cells = λ c row a p n m g. b .cells c row a p n m g ∙ simp (frames, p, g);
       lanes = λ y. let same : laneAt (setCell t groupColumn group 0) y ≡ laneAt t y = simp frames in b .lanes y ∙ ap queuedLane same;
     }
