@@ -6,20 +6,20 @@ use mathlib.Core.List.{List, [], _∷_, _++_, foldl}
 use Prim.Native.Nat.{ℕ, zero, suc, _+_, _*_, _/_, _%_, _^_, _≤_, _<_}
 use native.Mathlib.Nat.{mod-lt, zero-lt-suc}
 use native.Mathlib.Omega.{arith}
-use borrow.Author.Tests.{le-leb, ne-eqb}
+use borrow.Author.Tests.{ltb-true, ne-eqb}
 use lib.Dec.{ltb, leb, eqb}
 use lib.ListN.{length}
 use Rattle.model.proofs.Counting.{Same, equal, other, same?}
 use Rattle.lane.specs.Table.{headerWords, rowWords, laneWords, HasRow, head, cellAt, cell, setCell, laneAt}
 use Rattle.lane.proofs.TableLaws.{frames, has-row}
-use Rattle.ready.specs.Header.{Shaped, issued}
+use Rattle.ready.specs.Header.{Shaped, issued, groupCursor, setGroupCursor}
 use Rattle.ready.specs.Queue.{queueColumn, queueOf, QueueNames}
 use Rattle.ready.specs.Registry.{freeOf}
 use Rattle.ready.specs.Bits.{bit, bitsFrom}
-use Rattle.ready.specs.Ready.{pageColumn, groupColumn, pageWord, groupWord, pageBit, groupBit, nonZero, Linked, queuedLane, offered, collectedPage, collectedGroup}
+use Rattle.ready.specs.Ready.{pageColumn, groupColumn, pageWord, groupWord, pageBit, groupBit, nonZero, Linked, queuedLane, offered, collectedPage, collectedGroup, groupsOf, groupAt, collectedFrom, collectReady}
 use Rattle.ready.proofs.BitLaws.{In, here, there, bits-in, Each, none, both, bits-each, bit-zero}
 use Rattle.ready.proofs.NamesLaws.{names-same}
-use Rattle.ready.proofs.QueueLaws.{queue-frames, shaped-setCell}
+use Rattle.ready.proofs.QueueLaws.{queue-frames, header-in, shaped-setCell}
 use Rattle.ready.proofs.OfferLaws.{Rest, rest-self, rest-then, rest-offered, shaped-offered, names-offered}
 
 -- ---- what every step keeps
@@ -258,3 +258,77 @@ beside-group t group s q =
 pub free-beside : (t u : List ℕ) → Beside t u → freeOf u ≡ freeOf t
 unfolding freeOf
 free-beside t u b = simp (b .heads, b .cells)
+
+-- ---- the cursor stored
+
+module _ (t : List ℕ) (v : ℕ) where
+  pub kept-cursor : v ≤ 2 → Shaped t → QueueNames t → Kept t (setGroupCursor t v)
+  kept-cursor h s q =
+      record {
+        shaped = simp (frames, header-in t s) (omega (arith, s));
+        names = names-same t (setGroupCursor t v) q (simp frames) (λ y. simp frames) (λ y. simp queue-frames);
+        same-issued = simp frames;
+        long = simp frames;
+      }
+
+  pub linked-cursor : Linked t → Linked (setGroupCursor t v)
+  linked-cursor k =
+      record {
+        of-issued = simp frames (k .of-issued);
+        linked = simp frames (k .linked);
+        of-pages = simp frames (k .of-pages);
+      }
+
+-- ---- from the group cursor round
+
+-- what collecting keeps of a table in order, and what it leaves
+pub record Keeps (t u : List ℕ) : Type 0 where
+  pub kept : Kept t u
+  pub linked : Linked u
+  pub beside : Beside t u
+
+keeps-then : {t u v : List ℕ} → Keeps t u → Keeps u v → Keeps t v
+keeps-then a b = record { kept = kept-then (a .kept) (b .kept); linked = b .linked; beside = beside-then (a .beside) (b .beside) }
+
+-- a group, and the cursor after it
+pub keeps-group : (t : List ℕ) (g : ℕ) → Shaped t → QueueNames t → Linked t → g < groupsOf (issued t) → Keeps t (setGroupCursor (collectedGroup t g) (g + 1))
+keeps-group t g s q k low =
+    let a = kept-group t g s q in
+    let two : g + 1 ≤ 2 = omega (arith, s .issued-most, s .slots-most) in
+    record {
+      kept = kept-then a (kept-cursor (collectedGroup t g) (g + 1) two (a .shaped) (a .names));
+      linked = linked-cursor (collectedGroup t g) (g + 1) (linked-group t g s q k (omega arith));
+      beside =
+          beside-then (beside-group t g s q)
+          (record { heads = λ i p m c. simp (frames, c); cells = λ c row a p m d e. simp frames; lanes = λ y. simp frames });
+    }
+
+pub group-lt : (n next : ℕ) → 0 < n → groupAt n next < n
+unfolding groupAt
+group-lt n next h = go (ltb next n) refl
+  where
+    go : (b : Bool) → ltb next n ≡ b → cond b next 0 < n
+    go true e = ltb-true next n e
+    go false e = h
+
+keeps-from : (n k : ℕ) (all : Bool) (t : List ℕ) (next : ℕ) → n ≡ groupsOf (issued t) → k ≤ n → Shaped t → QueueNames t → Linked t
+    → Keeps t (collectedFrom n k all t next)
+unfolding collectedFrom
+keeps-from n zero all t next e h s q k = record { kept = kept-self t s q; linked = k; beside = beside-self t }
+keeps-from n (suc m) all t next e h s q k =
+    let g = groupAt n next in
+    let one = keeps-group t g s q k (subst (λ (i : ℕ). g < i) e (group-lt n next (omega arith))) in
+    go (eqb (groupWord t g) 0) all
+    (keeps-from n m all t (g + 1) e (omega arith) s q k)
+    one
+    (keeps-from n m all (setGroupCursor (collectedGroup t g) (g + 1)) (g + 1) (e ∙ sym (ap groupsOf (one .kept .same-issued))) (omega arith)
+    (one .kept .shaped) (one .kept .names) (one .linked))
+  where
+    go : {u v w : List ℕ} (b c : Bool) → Keeps t u → Keeps t v → Keeps v w → Keeps t (cond b u (cond c w v))
+    go true c x y z = x
+    go false true x y z = keeps-then y z
+    go false false x y z = y
+
+pub keeps-ready : (t : List ℕ) (all : Bool) → Shaped t → QueueNames t → Linked t → Keeps t (collectReady all t)
+unfolding collectReady
+keeps-ready t all s q k = keeps-from (groupsOf (issued t)) (groupsOf (issued t)) all t (groupCursor t) refl (omega arith) s q k

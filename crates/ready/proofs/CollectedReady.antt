@@ -5,7 +5,7 @@ use mathlib.Core.Bool.{Bool, true, false, cond}
 use mathlib.Core.List.{List, [], _∷_, _++_}
 use Prim.Native.Nat.{ℕ, zero, suc, _+_, _-_, _*_, _/_, _^_, _≤_, _<_}
 use native.Mathlib.Omega.{arith}
-use borrow.Author.Tests.{ltb-true, eqb-true, eqb-false}
+use borrow.Author.Tests.{eqb-true, eqb-false}
 use lib.Dec.{ltb, eqb}
 use Rattle.model.specs.Lists.{if, from, nonEmpty}
 use Rattle.model.specs.State.{State}
@@ -15,8 +15,7 @@ use Rattle.lane.proofs.TableLaws.{frames}
 use Rattle.ready.specs.Header.{Shaped, issued, groupCursor, setGroupCursor}
 use Rattle.ready.specs.Queue.{QueueNames}
 use Rattle.ready.specs.Ready.{groupWord, Linked, collectedGroup, groupsOf, groupAt, collectedFrom, collectReady}
-use Rattle.ready.proofs.CollectLaws.{Kept, kept-then, kept-group, linked-group, Beside, beside-self, beside-then, beside-group}
-use Rattle.ready.proofs.Round.{kept-cursor, linked-cursor}
+use Rattle.ready.proofs.CollectLaws.{Kept, Keeps, keeps-group, group-lt}
 use Rattle.ready.proofs.CollectedState.{WordsFit, fit-collected, no-marks, some-marks, Sees, sees-group, sees-none}
 
 -- ---- the groups that are looked at: k of n, from `next` round
@@ -42,14 +41,6 @@ rounds (suc (suc zero)) (suc (suc zero)) h g = refl
 rounds (suc (suc zero)) (suc (suc (suc c))) h g = absurd (omega arith)
 rounds (suc (suc (suc n))) c h g = absurd (omega arith)
 
-group-lt : (n next : ℕ) → 0 < n → groupAt n next < n
-unfolding groupAt
-group-lt n next h = go (ltb next n) refl
-  where
-    go : (b : Bool) → ltb next n ≡ b → cond b next 0 < n
-    go true e = ltb-true next n e
-    go false e = h
-
 -- ---- one group and the cursor after it
 
 -- what every step needs
@@ -67,23 +58,16 @@ module _ {n : ℕ} {t : List ℕ} {s : State} (r : Ready n t s) (g : ℕ) (low :
 
   ready-group : (groupWord t g ≡ 0 → ⊥) → Ready n (setGroupCursor (collectedGroup t g) (g + 1)) (collectGroup s g)
   ready-group some =
-      let a = kept-group t g (r .shaped) (r .names) in
-      let two : g + 1 ≤ 2 = omega (arith, r .groups, r .shaped .issued-most, r .shaped .slots-most) in
-      let b = kept-cursor (collectedGroup t g) (g + 1) two (a .shaped) (a .names) in
+      let a = keeps-group t g (r .shaped) (r .names) (r .linked) (omega (arith, r .groups)) in
       let f = fit-collected t g (r .shaped) (r .names) (r .linked) (r .fit) exists in
       record {
-        shaped = b .shaped;
-        names = b .names;
-        linked = linked-cursor (collectedGroup t g) (g + 1) (linked-group t g (r .shaped) (r .names) (r .linked) exists);
+        shaped = a .kept .shaped;
+        names = a .kept .names;
+        linked = a .linked;
         fit = record { pages-fit = simp frames (f .pages-fit); groups-fit = simp frames (f .groups-fit) };
-        groups = ap groupsOf (b .same-issued ∙ a .same-issued) ∙ r .groups;
+        groups = ap groupsOf (a .kept .same-issued) ∙ r .groups;
         sees = sees-group t s g (r .shaped) (r .names) (r .linked) (r .sees) exists (r .fit) some;
       }
-
-  beside-step : Beside t (setGroupCursor (collectedGroup t g) (g + 1))
-  beside-step =
-      beside-then (beside-group t g (r .shaped) (r .names))
-      (record { heads = λ k p m c. simp (frames, c); cells = λ c row a p m d e. simp frames; lanes = λ y. simp frames })
 
 -- ---- all groups, and the first that has bits
 

@@ -8,34 +8,10 @@ use Prim.Native.Nat.{ℕ, zero, suc, _+_, _-_, _*_, _/_, _≤_, _<_}
 use native.Mathlib.Nat.{le-refl}
 use native.Mathlib.Omega.{arith}
 use borrow.Author.Tests.{eq-eqb, ne-eqb}
-use lib.ListN.{length}
-use Rattle.lane.proofs.TableLaws.{frames}
 use Rattle.ready.specs.Header.{Shaped, issued, groupCursor, setGroupCursor}
 use Rattle.ready.specs.Queue.{QueueNames}
 use Rattle.ready.specs.Ready.{groupWord, Linked, collectedGroup, groupsOf, groupAt, collectedFrom, collectReady}
-use Rattle.ready.proofs.NamesLaws.{names-same}
-use Rattle.ready.proofs.QueueLaws.{queue-frames, header-in}
-use Rattle.ready.proofs.CollectLaws.{Kept, kept-self, kept-then, kept-group, linked-group}
-
--- ---- the cursor stored
-
-module _ (t : List ℕ) (v : ℕ) where
-  pub kept-cursor : v ≤ 2 → Shaped t → QueueNames t → Kept t (setGroupCursor t v)
-  kept-cursor h s q =
-      record {
-        shaped = simp (frames, header-in t s) (omega (arith, s));
-        names = names-same t (setGroupCursor t v) q (simp frames) (λ y. simp frames) (λ y. simp queue-frames);
-        same-issued = simp frames;
-        long = simp frames;
-      }
-
-  pub linked-cursor : Linked t → Linked (setGroupCursor t v)
-  linked-cursor k =
-      record {
-        of-issued = simp frames (k .of-issued);
-        linked = simp frames (k .linked);
-        of-pages = simp frames (k .of-pages);
-      }
+use Rattle.ready.proofs.CollectLaws.{Kept, kept-self, kept-then, Keeps, keeps-group}
 
 -- ---- one turn of the definition, at the code's `left - 1` and at what the code has for the group and for the table
 
@@ -93,19 +69,17 @@ module _ {n : ℕ} {all : Bool} {t₀ t : List ℕ} {left next : ℕ} (k : Round
         record { kept = k .kept; linked = k .linked; groups = k .groups; most = omega (arith, k .most); same = sym (from-none n all t next g at left h e) ∙ k .same }
 
     module _ (u : List ℕ) (did : u ≡ collectedGroup t g) (low : g < n) where
-      pub kept-round : Kept t₀ (setGroupCursor u (g + 1))
-      kept-round =
-          let a : Kept t₀ u = kept-then (k .kept) (subst (Kept t) (sym did) (kept-group t g (k .kept .shaped) (k .kept .names))) in
-          kept-then a (kept-cursor u (g + 1) (omega (arith, groups-most)) (a .shaped) (a .names))
+      keeps-round : Keeps t (setGroupCursor u (g + 1))
+      keeps-round =
+          subst (λ (w : List ℕ). Keeps t (setGroupCursor w (g + 1))) (sym did)
+          (keeps-group t g (k .kept .shaped) (k .kept .names) (k .linked) (omega (arith, k .groups, k .kept .same-issued)))
 
-      pub linked-round : Linked (setGroupCursor u (g + 1))
-      linked-round =
-          linked-cursor u (g + 1)
-          (subst Linked (sym did) (linked-group t g (k .kept .shaped) (k .kept .names) (k .linked) (group-exists g low)))
+      pub kept-round : Kept t₀ (setGroupCursor u (g + 1))
+      kept-round = kept-then (k .kept) (keeps-round .kept)
 
       pub round-all : (groupWord t g ≡ 0 → ⊥) → all ≡ true → Round n all t₀ (setGroupCursor u (g + 1)) (left - 1) (g + 1)
       round-all some e =
-          record { kept = kept-round; linked = linked-round; groups = k .groups; most = omega (arith, k .most); same = sym (from-all n all t next g at u did some left h e) ∙ k .same }
+          record { kept = kept-round; linked = keeps-round .linked; groups = k .groups; most = omega (arith, k .most); same = sym (from-all n all t next g at u did some left h e) ∙ k .same }
 
       pub round-first : (groupWord t g ≡ 0 → ⊥) → all ≡ false → setGroupCursor u (g + 1) ≡ collectReady all t₀
       round-first some e = sym (from-first n all t next g at u did some left h e) ∙ k .same
