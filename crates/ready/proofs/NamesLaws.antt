@@ -13,7 +13,7 @@ use Rattle.model.specs.Lists as rules
 use Rattle.model.proofs.Counting.{Same, equal, other, same?, same-self, count-append, without-own, without-other}
 use Rattle.lane.specs.Table.{laneAt, putLane}
 use Rattle.lane.specs.declared.lane.Lane.{Lane}
-use Rattle.lane.proofs.TableLaws.{frames, lane-stored, other-lane-kept}
+use Rattle.lane.proofs.TableLaws.{frames, has-row, lane-own, other-lane-kept}
 use Rattle.ready.specs.Header.{Shaped, issued, queueCount, slots}
 use Rattle.ready.specs.Queue.{queueOf, pushedBack, poppedFront, rotated, without, removed, QueueNames}
 use Rattle.ready.proofs.QueueLaws.{queue-frames, queue-pushed-back, queue-popped-front, queue-rotated, queue-removed, queue-has-room, shaped-putLane}
@@ -56,8 +56,8 @@ count-turned x y l = omega (arith, count-append y l (x ∷ []))
 module _ (t u : List ℕ) (x : ℕ) (q : QueueNames t) where
   pub names-changed : issued t ≤ issued u → ((y : ℕ) → (y ≡ x → ⊥) → y < issued u → y < issued t)
       → ((y : ℕ) → (y ≡ x → ⊥) → laneAt u y ≡ laneAt t y) → ((y : ℕ) → (y ≡ x → ⊥) → count y (queueOf u) ≡ count y (queueOf t))
-      → count x (queueOf u) ≤ 1 → (1 ≤ count x (queueOf u) → x < issued u) → (laneAt u x .registered ≡ 1 → laneAt u x .queued ≡ count x (queueOf u))
-      → QueueNames u
+      → count x (queueOf u) ≤ 1 → (1 ≤ count x (queueOf u) → x < issued u)
+      → (laneAt u x .registered ≡ 1 → laneAt u x .queued ≡ count x (queueOf u)) → QueueNames u
   names-changed i j lanes counts most inside flag =
       record { once = λ y. one y (ℕ-discrete y x); issued-only = λ y. known y (ℕ-discrete y x); flagged = λ y. flags y (ℕ-discrete y x) }
     where
@@ -74,8 +74,8 @@ module _ (t u : List ℕ) (x : ℕ) (q : QueueNames t) where
       flags y (no d) = rw (lanes y d, counts y d) (λ h r. q .flagged y (j y d h) r)
 
 -- the same lanes and the same queue, or one that names the same
-pub names-same : (t u : List ℕ) → QueueNames t → issued u ≡ issued t → ((y : ℕ) → laneAt u y ≡ laneAt t y) → ((y : ℕ) → count y (queueOf u) ≡ count y (queueOf t))
-    → QueueNames u
+pub names-same : (t u : List ℕ) → QueueNames t → issued u ≡ issued t → ((y : ℕ) → laneAt u y ≡ laneAt t y)
+    → ((y : ℕ) → count y (queueOf u) ≡ count y (queueOf t)) → QueueNames u
 names-same t u q i lanes counts =
     record {
       once = λ y. rw (counts y) (q .once y);
@@ -89,48 +89,46 @@ module _ (t : List ℕ) (s : Shaped t) (q : QueueNames t) where
   names-rotated x rest e =
       names-same t (rotated t) q (simp queue-frames) (λ y. simp queue-frames) (λ y. rw (queue-rotated t s x rest e, e) (count-turned x y rest))
 
-  -- a lane of an issued slot is stored, and its slot then stands k times in the queue
-  module _ (l : Lane) (h : l .key .slot < issued t) where
-    own : laneAt (putLane t l) (l .key .slot) ≡ l
-    own = lane-stored t l (omega (arith, s .room, s .issued-most))
+  -- the lane of an issued slot x is stored, and x then stands k times in the queue
+  module _ (x : ℕ) (l : Lane) (is : l .key .slot ≡ x) (h : x < issued t) where
+    own : laneAt (putLane t l) x ≡ l
+    own = lane-own t l x is (has-row t x (omega (arith, s .room, s .issued-most)))
 
     pub names-stored : (u : List ℕ) (k : ℕ) → issued u ≡ issued t → ((y : ℕ) → laneAt u y ≡ laneAt (putLane t l) y)
-        → ((y : ℕ) → (y ≡ l .key .slot → ⊥) → count y (queueOf u) ≡ count y (queueOf t)) → count (l .key .slot) (queueOf u) ≡ k → k ≤ 1
+        → ((y : ℕ) → (y ≡ x → ⊥) → count y (queueOf u) ≡ count y (queueOf t)) → count x (queueOf u) ≡ k → k ≤ 1
         → (l .registered ≡ 1 → l .queued ≡ k) → QueueNames u
     names-stored u k i lanes counts n most f =
-        names-changed t u (l .key .slot) q (omega arith) (λ y d b. omega arith) (λ y d. lanes y ∙ other-lane-kept t l y d) counts (omega arith) (λ b. omega arith)
-        (rw (lanes (l .key .slot), own, n) f)
+        names-changed t u x q (omega arith) (λ y d b. omega arith) (λ y d. lanes y ∙ other-lane-kept t l y (λ p. d (p ∙ is))) counts (omega arith)
+        (λ b. omega arith) (rw (lanes x, own, n) f)
 
     -- the queue stays
-    pub names-putLane : (l .registered ≡ 1 → l .queued ≡ count (l .key .slot) (queueOf t)) → QueueNames (putLane t l)
+    pub names-putLane : (l .registered ≡ 1 → l .queued ≡ count x (queueOf t)) → QueueNames (putLane t l)
     names-putLane =
-        names-stored (putLane t l) (count (l .key .slot) (queueOf t)) (simp frames) (λ y. refl) (λ y d. simp queue-frames) (simp queue-frames) (q .once (l .key .slot))
+        names-stored (putLane t l) (count x (queueOf t)) (simp frames) (λ y. refl) (λ y d. simp queue-frames) (simp queue-frames) (q .once x)
 
-    -- it goes to the back of the queue
-    pub names-pushed-back : count (l .key .slot) (queueOf t) ≡ 0 → l .queued ≡ 1 → QueueNames (pushedBack (putLane t l) (l .key .slot))
+    -- x goes to the back of the queue
+    pub names-pushed-back : count x (queueOf t) ≡ 0 → l .queued ≡ 1 → QueueNames (pushedBack (putLane t l) x)
     names-pushed-back z f =
         let u : List ℕ = putLane t l in
-        let r : queueCount u < slots u = simp frames (queue-has-room t s q (l .key .slot) h z) in
-        let e : queueOf (pushedBack u (l .key .slot)) ≡ queueOf t ++ (l .key .slot ∷ []) =
-        queue-pushed-back u (shaped-putLane t s l) (l .key .slot) r ∙ simp queue-frames in
-        names-stored (pushedBack u (l .key .slot)) 1 (simp (queue-frames, frames)) (λ y. simp queue-frames)
-        (λ y d. rw e (count-at-back-other (l .key .slot) y (queueOf t) d)) (rw e (omega (arith, count-at-back-own (l .key .slot) (queueOf t)))) (omega arith)
-        (λ b. f)
+        let r : queueCount u < slots u = simp frames (queue-has-room t s q x h z) in
+        let e : queueOf (pushedBack u x) ≡ queueOf t ++ (x ∷ []) = queue-pushed-back u (shaped-putLane t s l) x r ∙ simp queue-frames in
+        names-stored (pushedBack u x) 1 (simp (queue-frames, frames)) (λ y. simp queue-frames) (λ y d. rw e (count-at-back-other x y (queueOf t) d))
+        (rw e (omega (arith, count-at-back-own x (queueOf t)))) (omega arith) (λ b. f)
 
-    -- it leaves the queue, wherever it stands
-    pub names-removed : (l .registered ≡ 1 → l .queued ≡ 0) → QueueNames (removed (putLane t l) (l .key .slot))
+    -- x leaves the queue, wherever it stands
+    pub names-removed : (l .registered ≡ 1 → l .queued ≡ 0) → QueueNames (removed (putLane t l) x)
     names-removed =
         let u : List ℕ = putLane t l in
-        let e : queueOf (removed u (l .key .slot)) ≡ rules.without (l .key .slot) (queueOf t) =
-        queue-removed u (shaped-putLane t s l) (l .key .slot) ∙ without-is-the-rules (l .key .slot) (queueOf u) ∙ simp queue-frames in
-        names-stored (removed u (l .key .slot)) 0 (simp (queue-frames, frames)) (λ y. simp queue-frames)
-        (λ y d. rw e (without-other (l .key .slot) y (queueOf t) (λ p. d (sym p)))) (rw e (without-own (l .key .slot) (queueOf t))) (omega arith)
+        let e : queueOf (removed u x) ≡ rules.without x (queueOf t) =
+        queue-removed u (shaped-putLane t s l) x ∙ without-is-the-rules x (queueOf u) ∙ simp queue-frames in
+        names-stored (removed u x) 0 (simp (queue-frames, frames)) (λ y. simp queue-frames)
+        (λ y d. rw e (without-other x y (queueOf t) (λ p. d (sym p)))) (rw e (without-own x (queueOf t))) (omega arith)
 
-    -- it leaves the queue, whose front it was
-    pub names-popped-front : (rest : List ℕ) → queueOf t ≡ l .key .slot ∷ rest → (l .registered ≡ 1 → l .queued ≡ 0) → QueueNames (poppedFront (putLane t l))
+    -- x leaves the queue, whose front it was
+    pub names-popped-front : (rest : List ℕ) → queueOf t ≡ x ∷ rest → (l .registered ≡ 1 → l .queued ≡ 0) → QueueNames (poppedFront (putLane t l))
     names-popped-front rest g =
         let u : List ℕ = putLane t l in
-        let e : queueOf (poppedFront u) ≡ rest = queue-popped-front u (shaped-putLane t s l) (l .key .slot) rest (simp queue-frames g) in
-        let m : count (l .key .slot) (l .key .slot ∷ rest) ≤ 1 = rw g at (q .once (l .key .slot)) in
-        names-stored (poppedFront u) 0 (simp (queue-frames, frames)) (λ y. simp queue-frames)
-        (λ y d. rw (e, g) (sym (count-front-other (l .key .slot) y rest d))) (rw e (omega (arith, count-front-own (l .key .slot) rest))) (omega arith)
+        let e : queueOf (poppedFront u) ≡ rest = queue-popped-front u (shaped-putLane t s l) x rest (simp queue-frames g) in
+        let m : count x (x ∷ rest) ≤ 1 = rw g at (q .once x) in
+        names-stored (poppedFront u) 0 (simp (queue-frames, frames)) (λ y. simp queue-frames) (λ y d. rw (e, g) (sym (count-front-other x y rest d)))
+        (rw e (omega (arith, count-front-own x rest))) (omega arith)

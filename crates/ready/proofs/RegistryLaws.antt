@@ -3,18 +3,20 @@
 use mathlib.Core.Path.{_≡_, refl, ap, _∙_}
 use mathlib.Core.Bool.{true, false}
 use mathlib.Core.List.{List, _∷_}
-use Prim.Native.Nat.{ℕ, suc, _+_, _-_, _<_}
+use Prim.Native.Nat.{ℕ, suc, _+_, _-_, _≤_, _<_}
 use native.Mathlib.Omega.{arith}
 use lib.Dec.{eqb, ltb, leb}
 use lib.ListN.{length}
 use lib.Seq.{getD-set-same, getD-set-other}
+use Rattle.model.specs.Lists.{count}
 use Rattle.lane.specs.Table.{headerWords, rowWords, head, setHead, cell, setCell, laneAt, putLane}
 use Rattle.lane.specs.declared.lane.Lane.{Lane}
 use Rattle.lane.proofs.ListLaws.{length-tab, tab-pop}
 use Rattle.lane.proofs.TableLaws.{frames}
-use Rattle.ready.specs.Header.{Shaped, freeCount, slots}
+use Rattle.ready.specs.Header.{Shaped, issued, freeCount, slots}
 use Rattle.ready.specs.Queue.{queueOf, pushedBack, poppedFront, rotated, removed, QueueNames}
 use Rattle.ready.specs.Registry.{freeColumn, freeOf, freed, lastFreed, reissued}
+use Rattle.ready.proofs.Pigeonhole.{pigeonhole-less}
 use Rattle.ready.proofs.QueueLaws.{queue-frames, header-in}
 use Rattle.ready.proofs.NamesLaws.{names-same}
 
@@ -154,6 +156,12 @@ module _ (t : List ℕ) (s : Shaped t) where
       (λ i l.
       let e : freeCount t - suc (suc i) ≡ freeCount t - 1 - suc i = omega arith in
       ap (cell t freeColumn) e))
+
+  -- where the free slots are issued ones, each once, another issued slot finds room
+  pub free-has-room : ((y : ℕ) → count y (freeOf t) ≤ 1) → ((y : ℕ) → 1 ≤ count y (freeOf t) → y < issued t)
+      → (x : ℕ) → x < issued t → count x (freeOf t) ≡ 0 → freeCount t < slots t
+  free-has-room once issued-only x h z =
+      omega (arith, s .issued-most, length-free t, pigeonhole-less (issued t) (freeOf t) x once issued-only h z)
 
   -- ---- the shape is kept
 
