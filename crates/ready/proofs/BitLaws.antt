@@ -11,7 +11,7 @@ use lib.Bits.{bitAnd, bitOr, and-step, and-self, and-le-r, or-step, or-shr}
 use lib.Pow.{shl-exact, pow-pos}
 use lib.Dec.{lit<}
 use lib.Count.{trailingZeros, under}
-use Rattle.ready.specs.Bits.{bit, withBit, keepIf, bitsFrom}
+use Rattle.ready.specs.Bits.{bit, keepIf, bitsFrom}
 
 -- ---- the next set bit
 

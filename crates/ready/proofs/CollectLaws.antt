@@ -1,22 +1,22 @@
 -- Collecting: what every step keeps of a table, and what becomes of page and group words.
 -- Assumes nothing.
-use mathlib.Core.Path.{_≡_, refl, sym, ap, ap₂, _∙_, subst}
+use mathlib.Core.Path.{_≡_, refl, sym, ap, _∙_, subst}
 use mathlib.Core.Bool.{Bool, true, false, cond}
-use mathlib.Core.List.{List, [], _∷_, _++_, foldl}
+use mathlib.Core.List.{List, [], _∷_, foldl}
 use Prim.Native.Nat.{ℕ, zero, suc, _+_, _*_, _/_, _%_, _^_, _≤_, _<_}
 use native.Mathlib.Nat.{mod-lt, zero-lt-suc}
 use native.Mathlib.Omega.{arith}
 use borrow.Author.Tests.{ltb-true, ne-eqb}
 use lib.Dec.{ltb, leb, eqb}
 use lib.ListN.{length}
-use Rattle.model.proofs.Counting.{Same, equal, other, same?}
-use Rattle.lane.specs.Table.{headerWords, rowWords, laneWords, HasRow, head, cellAt, cell, setCell, laneAt}
+use Rattle.model.proofs.Counting.{equal, other, same?}
+use Rattle.lane.specs.Table.{headerWords, rowWords, laneWords, HasRow, head, cell, setCell, laneAt}
 use Rattle.lane.proofs.TableLaws.{frames, has-row}
 use Rattle.ready.specs.Header.{Shaped, issued, groupCursor, setGroupCursor}
-use Rattle.ready.specs.Queue.{queueColumn, queueOf, QueueNames}
+use Rattle.ready.specs.Queue.{queueColumn, QueueNames}
 use Rattle.ready.specs.Registry.{freeOf}
 use Rattle.ready.specs.Bits.{bit, bitsFrom}
-use Rattle.ready.specs.Ready.{pageColumn, groupColumn, pageWord, groupWord, pageBit, groupBit, nonZero, Linked, queuedLane, offered, collectedPage, collectedGroup, groupsOf, groupAt, collectedFrom, collectReady}
+use Rattle.ready.specs.Ready.{pageColumn, groupColumn, pageWord, groupWord, nonZero, Linked, queuedLane, offered, collectedPage, collectedGroup, groupsOf, groupAt, collectedFrom, collectReady}
 use Rattle.ready.proofs.BitLaws.{In, here, there, bits-in, Each, none, both, bits-each, bit-zero}
 use Rattle.ready.proofs.NamesLaws.{names-same}
 use Rattle.ready.proofs.QueueLaws.{queue-frames, header-in, shaped-setCell}

@@ -1,22 +1,22 @@
 -- What collecting makes of the queue: at its back come the wanted ones of the slots that the taken bits name, in their order.
 -- Assumes nothing.
 use mathlib.Core.Path.{_≡_, refl, sym, ap, ap₂, _∙_}
-use mathlib.Core.Bool.{Bool, true, false, cond, _&&_}
+use mathlib.Core.Bool.{Bool, true, false}
 use mathlib.Core.List.{List, [], _∷_, _++_, foldl, append-nil, append-assoc}
-use Prim.Native.Nat.{ℕ, zero, suc, _+_, _*_, _/_, _%_, _≤_, _<_}
+use Prim.Native.Nat.{ℕ, _*_, _/_, _≤_}
 use native.Mathlib.Omega.{arith}
 use borrow.Author.Tests.{ne-eqb}
-use lib.Dec.{ltb, leb, eqb}
+use lib.Dec.{ltb, leb}
 use Rattle.model.specs.Lists.{if, keep}
 use Rattle.lane.specs.Table.{rowWords, laneWords, setCell, laneAt}
 use Rattle.lane.proofs.TableLaws.{frames}
 use Rattle.ready.specs.Header.{Shaped, issued}
-use Rattle.ready.specs.Queue.{queueColumn, queueOf, QueueNames}
+use Rattle.ready.specs.Queue.{queueOf, QueueNames}
 use Rattle.ready.specs.Bits.{bitsFrom}
-use Rattle.ready.specs.Ready.{pageColumn, groupColumn, pageWord, groupWord, wantedLane, wanted, enqueued, offered, collectedPage, collectedGroup}
+use Rattle.ready.specs.Ready.{pageColumn, groupColumn, pageWord, groupWord, wanted, offered, collectedPage, collectedGroup}
 use Rattle.ready.proofs.BitLaws.{Each, none, both, bits-each, Ascends, end, next, bits-ascend}
 use Rattle.ready.proofs.QueueLaws.{queue-frames}
-use Rattle.ready.proofs.OfferLaws.{Wants, wants, offered-case, rest-offered, shaped-offered, names-offered, queue-enqueued, other-enqueued}
+use Rattle.ready.proofs.OfferLaws.{wants, offered-case, rest-offered, shaped-offered, names-offered, queue-enqueued, other-enqueued}
 use Rattle.ready.proofs.CollectLaws.{Kept, kept-setCell, kept-page, page-left}
 
 -- ---- lists

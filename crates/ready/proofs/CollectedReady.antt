@@ -3,7 +3,7 @@
 use mathlib.Core.Path.{_≡_, refl, sym, ap, _∙_, subst}
 use mathlib.Core.Bool.{Bool, true, false, cond}
 use mathlib.Core.List.{List, [], _∷_, _++_}
-use Prim.Native.Nat.{ℕ, zero, suc, _+_, _-_, _*_, _/_, _^_, _≤_, _<_}
+use Prim.Native.Nat.{ℕ, zero, suc, _+_, _-_, _*_, _≤_, _<_}
 use native.Mathlib.Omega.{arith}
 use borrow.Author.Tests.{eqb-true, eqb-false}
 use lib.Dec.{ltb, eqb}
@@ -15,7 +15,7 @@ use Rattle.lane.proofs.TableLaws.{frames}
 use Rattle.ready.specs.Header.{Shaped, issued, groupCursor, setGroupCursor}
 use Rattle.ready.specs.Queue.{QueueNames}
 use Rattle.ready.specs.Ready.{groupWord, Linked, collectedGroup, groupsOf, groupAt, collectedFrom, collectReady}
-use Rattle.ready.proofs.CollectLaws.{Kept, Keeps, keeps-group, group-lt}
+use Rattle.ready.proofs.CollectLaws.{keeps-group, group-lt}
 use Rattle.ready.proofs.CollectedState.{WordsFit, fit-collected, no-marks, some-marks, Sees, sees-group, sees-none}
 
 -- ---- the groups that are looked at: k of n, from `next` round

@@ -3,13 +3,12 @@
 -- Assumes nothing.
 use mathlib.Core.Path.{_≡_, refl, sym, ap, ap₂, _∙_, subst}
 use mathlib.Core.Bool.{Bool, true, false, not, cond, _&&_}
-use mathlib.Core.List.{List, [], _∷_, _++_, foldl}
+use mathlib.Core.List.{List, [], _∷_, _++_}
 use Prim.Native.Nat.{ℕ, zero, suc, _+_, _-_, _*_, _/_, _%_, _^_, _≤_, _<_}
 use native.Mathlib.Nat.{pos-of-ne-zero}
 use native.Mathlib.Omega.{arith}
-use borrow.Author.Tests.{lt-ltb, le-leb, eq-eqb, ne-eqb, eqb-true, eqb-false}
-use lib.Dec.{lit<, ltb, leb, eqb}
-use lib.ListN.{length}
+use borrow.Author.Tests.{lt-ltb, le-leb, ne-eqb, eqb-true}
+use lib.Dec.{lit<, leb, eqb}
 use lib.Bits.{bitAnd}
 use lib.Count.{trailingZeros}
 use Rattle.model.specs.Lists.{if, keep, from, count}
@@ -17,20 +16,18 @@ use Rattle.model.specs.Lists as rules
 use Rattle.model.specs.State.{State, mayQueue}
 use Rattle.model.specs.Changes.{withSlots, withQueue, withCursor, unmarked}
 use Rattle.model.specs.Ready.{groupOf, marks, isReady, collectMarks, collectGroup}
-use Rattle.model.proofs.Counting.{Same, equal, other, same?}
+use Rattle.model.proofs.Counting.{equal, other, same?}
 use Rattle.lane.specs.declared.lane.Lane.{Lane}
-use Rattle.lane.specs.Table.{headerWords, rowWords, laneWords, head, cell, setCell, laneAt}
+use Rattle.lane.specs.Table.{laneAt}
 use Rattle.lane.proofs.TableLaws.{frames}
 use Rattle.ready.specs.Header.{Shaped, issued, groupCursor, setGroupCursor}
-use Rattle.ready.specs.Queue.{queueColumn, queueOf, QueueNames}
-use Rattle.ready.specs.Registry.{freeOf}
-use Rattle.ready.specs.Bits.{bit, bitsFrom}
-use Rattle.ready.specs.Ready.{pageColumn, groupColumn, pageWord, groupWord, pageBit, groupBit, nonZero, Linked, wantedLane, wanted, queuedLane, collectedPage, collectedGroup}
+use Rattle.ready.specs.Queue.{queueOf, QueueNames}
+use Rattle.ready.specs.Bits.{bitsFrom}
+use Rattle.ready.specs.Ready.{pageWord, groupWord, pageBit, groupBit, nonZero, Linked, wantedLane, wanted, collectedGroup}
 use Rattle.ready.proofs.BitLaws.{bits-next, bits-zero, tz-lt, tz-set, bit-zero, Each, none, both}
 use Rattle.ready.proofs.QueueLaws.{queue-frames, header-in}
-use Rattle.ready.proofs.OfferLaws.{Rest}
-use Rattle.ready.proofs.CollectLaws.{Kept, kept-setCell, kept-page, kept-group, Beside, beside-group, group-taken, other-group-left, pages-taken, other-pages-left}
-use Rattle.ready.proofs.CollectedQueue.{slotsOfPage, slotsOfPages, slotsOfGroup, keep-each, each-map}
+use Rattle.ready.proofs.CollectLaws.{kept-group, beside-group, group-taken, other-group-left, pages-taken, other-pages-left}
+use Rattle.ready.proofs.CollectedQueue.{slotsOfPages, keep-each, each-map}
 use Rattle.ready.proofs.CollectedMarks.{SameMarks, group-marks, queue-collected}
 
 -- ---- a group has bits exactly if it has a marked slot

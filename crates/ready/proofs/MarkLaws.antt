@@ -3,14 +3,14 @@
 use mathlib.Core.Path.{_≡_, refl, sym, ap, _∙_}
 use mathlib.Core.Bool.{Bool, true, false, cond}
 use mathlib.Core.List.{List}
-use Prim.Native.Nat.{ℕ, zero, suc, _+_, _*_, _/_, _%_, _≤_, _<_}
+use Prim.Native.Nat.{ℕ, zero, suc, _*_, _/_, _%_, _<_}
 use native.Mathlib.Omega.{arith}
-use borrow.Author.Tests.{eqb-true, eqb-false, ne-eqb}
-use lib.Dec.{ltb, leb, eqb}
+use borrow.Author.Tests.{eqb-true, eqb-false}
+use lib.Dec.{ltb, eqb}
 use lib.ListN.{length}
 use Rattle.model.specs.Lists.{count}
-use Rattle.model.proofs.Counting.{Same, equal, other, same?}
-use Rattle.lane.specs.Table.{headerWords, rowWords, laneWords, HasRow, head, cellAt, cell, laneAt}
+use Rattle.model.proofs.Counting.{equal, other, same?}
+use Rattle.lane.specs.Table.{headerWords, rowWords, HasRow, head, cell, laneAt}
 use Rattle.lane.proofs.TableLaws.{frames, has-row}
 use Rattle.ready.specs.Header.{Shaped, issued}
 use Rattle.ready.specs.Queue.{queueOf, QueueNames}
@@ -106,6 +106,16 @@ module _ (t : List ℕ) (x : ℕ) where
           marked-case (λ u. groupBit u (x / 64) ≡ 1)
           (λ z. simp (frames, has-row t (x / 64 / 64) row-of-group) (bit-set-same (groupWord t (x / 64 / 64)) (x / 64 % 64)))
           (λ d. simp frames (k .linked (x / 64) h ∙ not-zero (pageWord t (x / 64)) d))
+
+pub ruleset mark-frames = (
+  length-marked,
+  head-marked,
+  lane-marked,
+  queue-marked,
+  free-marked,
+  cell-marked,
+  other-page-marked,
+)
 
 -- pages and groups stay linked
 pub linked-marked : (t : List ℕ) (x : ℕ) → Shaped t → x < issued t → Linked t → Linked (marked t x)

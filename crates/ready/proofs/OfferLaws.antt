@@ -1,26 +1,26 @@
 -- A lane offered to the queue: what that leaves as it was, what it makes of the queue, and that the queue still names each lane once.
 -- Assumes nothing.
-use mathlib.Core.Path.{_≡_, refl, sym, ap, ap₂, _∙_, subst}
+use mathlib.Core.Path.{_≡_, refl, sym, ap, _∙_}
 use mathlib.Core.Bool.{Bool, true, false, cond, _&&_}
-use mathlib.Core.List.{List, [], _∷_, _++_, foldl, append-nil}
-use Prim.Native.Nat.{ℕ, zero, suc, _+_, _*_, _≤_, _<_}
+use mathlib.Core.List.{List, [], _∷_, _++_}
+use Prim.Native.Nat.{ℕ, _<_}
 use native.Mathlib.Omega.{arith}
-use borrow.Author.Tests.{ltb-true, lt-ltb, le-leb, eqb-true, ne-eqb}
+use borrow.Author.Tests.{ltb-true, le-leb, eqb-true}
 use lib.Dec.{ltb, leb, eqb}
 use lib.ListN.{length}
 use Rattle.model.specs.Lists as rules
-use Rattle.model.proofs.Counting.{Same, equal, other, same?, same-self, count-append}
-use Rattle.lane.specs.declared.lane.Lane.{Lane}
-use Rattle.lane.specs.Table.{headerWords, rowWords, laneWords, head, cellAt, cell, setCell, laneAt, putLane}
-use Rattle.lane.proofs.TableLaws.{frames}
+use Rattle.model.proofs.Counting.{equal, other, same?}
+use Rattle.lane.specs.Table.{headerWords, rowWords, laneWords, head, cellAt, cell, laneAt, putLane}
+use Rattle.lane.proofs.TableLaws.{frames, slot-of-lane}
 use Rattle.ready.specs.Header.{Shaped, issued, queueCount, slots}
-use Rattle.ready.specs.Queue.{queueColumn, queueOf, pushedBack, QueueNames}
+use Rattle.ready.specs.Queue.{queueColumn, queueOf, QueueNames}
 use Rattle.ready.specs.Registry.{freeOf}
 use Rattle.ready.specs.Ready.{wantedLane, wanted, queuedLane, enqueued, offered}
 use Rattle.ready.proofs.NamesLaws.{names-pushed-back}
+use Rattle.ready.proofs.RegistryLaws.{registry-frames}
 use Rattle.ready.proofs.QueueLaws.{queue-frames, queue-pushed-back, queue-has-room, shaped-pushed-back, shaped-putLane}
 
--- ---- a wanted slot
+-- ---- a slot whose lane may be queued
 
 and-both : (a b : Bool) → (a && b) ≡ true → (a ≡ true) × (b ≡ true)
 and-both true b e = (refl, e)
@@ -31,6 +31,7 @@ pub record Wants (t : List ℕ) (x : ℕ) : Type 0 where
   pub registered : laneAt t x .registered ≡ 1
   pub unqueued : laneAt t x .queued ≡ 0
 
+-- a wanted one is of these
 pub wants : (t : List ℕ) (x : ℕ) → wanted t x ≡ true → Wants t x
 unfolding wanted wantedLane
 wants t x e =
@@ -48,20 +49,20 @@ wants t x e =
 -- ---- a lane that goes to the back of the queue
 
 module _ (t : List ℕ) (x : ℕ) where
-  length-enqueued : length (enqueued t x) ≡ length t
+  pub length-enqueued : length (enqueued t x) ≡ length t
   unfolding enqueued
   length-enqueued = simp (queue-frames, frames)
 
-  head-enqueued : (k : ℕ) → ltb k headerWords ≡ true → eqb 2 k ≡ false → head (enqueued t x) k ≡ head t k
+  pub head-enqueued : (k : ℕ) → ltb k headerWords ≡ true → eqb 2 k ≡ false → head (enqueued t x) k ≡ head t k
   unfolding enqueued
   head-enqueued k p n = simp (queue-frames, frames, p, n)
 
   -- the columns past the queue's
-  cell-enqueued : (c row : ℕ) → leb laneWords c ≡ true → ltb c rowWords ≡ true → eqb queueColumn c ≡ false → cell (enqueued t x) c row ≡ cell t c row
+  pub cell-enqueued : (c row : ℕ) → leb laneWords c ≡ true → ltb c rowWords ≡ true → eqb queueColumn c ≡ false → cell (enqueued t x) c row ≡ cell t c row
   unfolding enqueued
   cell-enqueued c row a p n = simp (queue-frames, frames, a, p, n)
 
-  lane-enqueued : leb (cellAt rowWords x) (length t) ≡ true → laneAt (enqueued t x) x ≡ queuedLane (laneAt t x)
+  pub lane-enqueued : leb (cellAt rowWords x) (length t) ≡ true → laneAt (enqueued t x) x ≡ queuedLane (laneAt t x)
   unfolding enqueued
   lane-enqueued r = simp (queue-frames, frames, r)
 
@@ -69,7 +70,20 @@ module _ (t : List ℕ) (x : ℕ) where
   unfolding enqueued
   other-enqueued y n = simp (queue-frames, frames, n)
 
--- the queue has room for a wanted slot
+  pub free-enqueued : freeOf (enqueued t x) ≡ freeOf t
+  unfolding enqueued
+  free-enqueued = simp registry-frames
+
+pub ruleset enqueue-frames = (
+  length-enqueued,
+  head-enqueued,
+  cell-enqueued,
+  lane-enqueued,
+  other-enqueued,
+  free-enqueued,
+)
+
+-- the queue has room for such a slot
 pub wants-room : (t : List ℕ) (x : ℕ) → Shaped t → QueueNames t → Wants t x → queueCount t < slots t
 wants-room t x s q w =
     queue-has-room t s q x (w .is-issued) (sym (q .flagged x (w .is-issued) (w .registered)) ∙ w .unqueued)
@@ -108,7 +122,7 @@ module _ (t : List ℕ) (x : ℕ) (s : Shaped t) where
   row-of : Wants t x → leb (cellAt rowWords x) (length t) ≡ true
   row-of w = le-leb (cellAt rowWords x) (length t) (omega (arith, s .issued-most, s .room, w .is-issued))
 
-  rest-enqueued : Wants t x → Rest t (enqueued t x)
+  pub rest-enqueued : Wants t x → Rest t (enqueued t x)
   rest-enqueued w =
       record {
         long = length-enqueued t x;
@@ -125,7 +139,7 @@ module _ (t : List ℕ) (x : ℕ) (s : Shaped t) where
 
   module _ (q : QueueNames t) where
     module _ (w : Wants t x) where
-      shaped-enqueued : Shaped (enqueued t x)
+      pub shaped-enqueued : Shaped (enqueued t x)
       unfolding enqueued
       shaped-enqueued = shaped-pushed-back (putLane t (queuedLane (laneAt t x))) (shaped-putLane t s _) x (simp frames (wants-room t x s q w))
 
@@ -134,10 +148,10 @@ module _ (t : List ℕ) (x : ℕ) (s : Shaped t) where
       queue-enqueued =
           queue-pushed-back (putLane t (queuedLane (laneAt t x))) (shaped-putLane t s _) x (simp frames (wants-room t x s q w)) ∙ simp queue-frames
 
-      names-enqueued : QueueNames (enqueued t x)
-      unfolding enqueued laneAt
+      pub names-enqueued : QueueNames (enqueued t x)
+      unfolding enqueued
       names-enqueued =
-          names-pushed-back t s q (queuedLane (laneAt t x)) (w .is-issued)
+          names-pushed-back t s q x (queuedLane (laneAt t x)) (slot-of-lane t x) (w .is-issued)
           (sym (q .flagged x (w .is-issued) (w .registered)) ∙ w .unqueued) refl
 
     pub shaped-offered : Shaped (offered t x)

@@ -4,15 +4,14 @@
 use mathlib.Core.Path.{_≡_, refl, sym, ap, _∙_}
 use mathlib.Core.Bool.{Bool, true, false, cond}
 use mathlib.Core.List.{List}
-use Prim.Native.Nat.{ℕ, zero, suc, _+_, _*_, _/_, _%_, _^_, _≤_, _<_}
+use Prim.Native.Nat.{ℕ, _+_, _*_, _/_, _%_, _^_, _<_}
 use native.Mathlib.Nat.{mod-lt, zero-lt-suc}
 use native.Mathlib.Decide.{decLt}
 use native.Mathlib.Omega.{arith}
 use borrow.Author.Tests.{eqb-true, eqb-false, ne-eqb}
 use lib.Dec.{ltb, leb, eqb}
 use lib.ListN.{length}
-use Rattle.model.proofs.Counting.{Same, equal, other, same?}
-use Rattle.lane.specs.Table.{headerWords, rowWords, HasRow, head, cell, setCell, setHead, laneAt}
+use Rattle.lane.specs.Table.{headerWords, HasRow, head, setCell, setHead, laneAt}
 use Rattle.lane.proofs.TableLaws.{frames, has-row}
 use Rattle.ready.specs.Header.{Shaped, issued, slots}
 use Rattle.ready.specs.Queue.{queueOf}
@@ -76,6 +75,14 @@ module _ (t : List ℕ) (x : ℕ) where
   group-not-opened group n =
       opened-case (λ u. groupWord u group ≡ groupWord t group) (λ a. refl) (λ a b. simp frames)
       (λ a b. simp (frames, ne-eqb group (x / 64 / 64) (λ e. n e (omega arith))))
+
+pub ruleset open-frames = (
+  length-opened,
+  head-opened,
+  lane-opened,
+  queue-opened,
+  free-opened,
+)
 
 -- the next unused slot is issued
 module _ (t : List ℕ) (s : Shaped t) (room : issued t < slots t) (k : Linked t) where

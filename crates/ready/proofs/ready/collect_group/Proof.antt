@@ -1,19 +1,18 @@
 -- `ready::ready::collect_group` meets its contract.
 -- Assumes nothing.
-use mathlib.Core.Path.{_≡_, _∙_, ap, ap₂, sym, refl, subst}
+use mathlib.Core.Path.{_∙_, ap, ap₂, sym, refl, subst}
 use mathlib.Core.List.{List, foldl}
-use Prim.Native.Nat.{ℕ, _*_, _/_, _≤_, _<_}
+use Prim.Native.Nat.{ℕ, _*_, _<_}
 use native.Mathlib.Nat.{pos-of-ne-zero}
 use native.Mathlib.Omega.{arith}
 use lib.ListN.{length, length-set}
 use lib.Count.{trailing-le}
 use borrow.Author.Needs.{needs}
-use Rattle.lane.specs.Table.{setCell}
 use Rattle.ready.specs.declared.ready.Group.{Group}
 use Rattle.ready.specs.Header.{issued}
 use Rattle.ready.specs.Bits.{bitsFrom}
 use Rattle.ready.specs.Ready.{groupColumn, putGroup, collectedPage, collectedGroup}
-use Rattle.ready.proofs.BitLaws.{clear-less, Each}
+use Rattle.ready.proofs.BitLaws.{clear-less}
 use Rattle.ready.proofs.CollectLaws.{Kept, kept-setCell, kept-page, pages-of-group}
 use Rattle.ready.proofs.Walk.{Walk, walk-start, walk-next, walk-end, walk-place}
 use Rattle.ready.proofs.ready.collect_group.Statement.{statement}

@@ -1,14 +1,13 @@
 -- `ready::ready::collect_page` meets its contract.
 -- Assumes nothing.
-use mathlib.Core.Path.{_≡_, _∙_, ap, ap₂, sym, refl, subst}
+use mathlib.Core.Path.{_∙_, ap, ap₂, sym, refl, subst}
 use mathlib.Core.List.{List, foldl}
-use Prim.Native.Nat.{ℕ, _*_, _/_, _≤_, _<_}
+use Prim.Native.Nat.{ℕ, _*_, _≤_}
 use native.Mathlib.Nat.{pos-of-ne-zero}
 use native.Mathlib.Omega.{arith}
 use lib.ListN.{length, length-set}
 use lib.Count.{trailing-le}
 use borrow.Author.Needs.{needs}
-use Rattle.lane.specs.Table.{setCell}
 use Rattle.ready.specs.declared.ready.Page.{Page}
 use Rattle.ready.specs.Bits.{bitsFrom}
 use Rattle.ready.specs.Ready.{pageColumn, putPage, offered, collectedPage}

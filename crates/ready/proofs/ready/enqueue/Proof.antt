@@ -1,7 +1,6 @@
 -- `ready::ready::enqueue` meets its contract.
 -- Assumes nothing.
 use native.Mathlib.Omega.{arith}
-use lib.ListN.{length-set}
 use Rattle.lane.proofs.TableLaws.{frames}
 use Rattle.ready.specs.Ready.{enqueued}
 use borrow.Author.Needs.{needs}

@@ -4,7 +4,6 @@ use borrow.Author.Tests.{eq-eqb, ne-eqb}
 use mathlib.Core.Path.{_≡_}
 use mathlib.Core.Bool.{Bool, true, _&&_}
 use Rattle.ready.specs.Ready.{wantedLane}
-use borrow.Author.Needs.{needs}
 use Rattle.ready.proofs.ready.is_ready.Statement.{statement}
 use Rattle.ready.proofs.ready.is_ready.Tie as tie
 

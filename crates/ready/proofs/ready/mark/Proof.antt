@@ -2,7 +2,7 @@
 -- Assumes nothing.
 use borrow.Author.Tests.{eq-eqb, ne-eqb}
 use native.Mathlib.Omega.{arith}
-use mathlib.Core.Path.{_≡_, _∙_, ap, sym}
+use mathlib.Core.Path.{_∙_, ap, sym}
 use lib.ListN.{length-set}
 use Rattle.ready.specs.declared.ready.Page.{Page}
 use Rattle.ready.specs.Ready.{marked}

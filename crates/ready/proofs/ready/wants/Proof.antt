@@ -1,7 +1,6 @@
 -- `ready::ready::wants` meets its contract.
 -- Assumes nothing.
 use borrow.Author.Tests.{lt-ltb, le-ltb}
-use native.Mathlib.Omega.{arith}
 use Rattle.ready.specs.Ready.{wanted}
 use borrow.Author.Needs.{needs}
 use Rattle.ready.proofs.ready.wants.Statement.{statement}
