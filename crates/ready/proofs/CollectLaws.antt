@@ -22,6 +22,23 @@ use Rattle.ready.proofs.NamesLaws.{names-same}
 use Rattle.ready.proofs.QueueLaws.{queue-frames, header-in, shaped-setCell}
 use Rattle.ready.proofs.OfferLaws.{Rest, rest-self, rest-then, rest-offered, shaped-offered, names-offered}
 
+-- pages and groups stay linked where their words stay
+pub linked-by : (t u : List ℕ) → issued u ≡ issued t → ((page : ℕ) → pageWord u page ≡ pageWord t page) → ((group : ℕ) → groupWord u group ≡ groupWord t group)
+    → Linked t → Linked u
+linked-by t u e p g k =
+    record {
+      of-issued = λ slot l b. rw e (k .of-issued slot (rw e at l) (rw (p (slot / 64)) at b));
+      linked = λ page l. rw (p page, g (page / 64)) (k .linked page (rw e at l));
+      of-pages = λ page l b. rw e (k .of-pages page (rw e at l) (rw (g (page / 64)) at b));
+    }
+
+pub linked-rest : (t u : List ℕ) → Rest t u → Linked t → Linked u
+linked-rest t u r =
+    linked-by t u (r .heads 0 refl refl) (λ page. r .cells pageColumn page refl refl refl) (λ group. r .cells groupColumn group refl refl refl)
+
+pub linked-offered : (t : List ℕ) (x : ℕ) → Shaped t → Linked t → Linked (offered t x)
+linked-offered t x s = linked-rest t (offered t x) (rest-offered t x s)
+
 -- ---- what every step keeps
 
 pub record Kept (t u : List ℕ) : Type 0 where
@@ -272,12 +289,7 @@ module _ (t : List ℕ) (v : ℕ) where
       }
 
   pub linked-cursor : Linked t → Linked (setGroupCursor t v)
-  linked-cursor k =
-      record {
-        of-issued = simp frames (k .of-issued);
-        linked = simp frames (k .linked);
-        of-pages = simp frames (k .of-pages);
-      }
+  linked-cursor = linked-by t (setGroupCursor t v) (simp frames) (λ page. simp frames) (λ group. simp frames)
 
 -- ---- from the group cursor round
 

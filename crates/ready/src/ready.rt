@@ -1,6 +1,6 @@
 // The ready index: src/ready.rs, and `collect_ready` of receiver/registry.rs.
 ghost use mathlib.Core.Path.{_≡_};
-ghost use Prim.Native.Nat.{_+_, _*_, _/_, _^_, _≤_, _<_};
+ghost use Prim.Native.Nat.{_*_, _≤_, _<_};
 ghost use lib.ListN.{length};
 ghost use Rattle.lane.specs.Table.{HasRow};
 ghost use Rattle.ready.specs.Header.{Shaped, slots, queueCount, issued};
@@ -97,7 +97,7 @@ pub struct Group {
 impl Group {
     pub const PAGES_PER_GROUP: usize = 64;
 
-    pub const LANES_PER_GROUP: u64 = 4096;
+    pub const LANES_PER_GROUP: usize = Page::LANES_PER_PAGE * Group::PAGES_PER_GROUP;
 
     // The column of the rows that holds the group words.
     pub const COLUMN: usize = Lane::LANE_WORDS + 3;
@@ -218,6 +218,7 @@ pub fn enqueue(t: &mut [u64], slot: u64)
     queue::push_back(t, slot);
 }
 
+// Queues the lane of a slot if it is to be queued.
 fn offer(t: &mut [u64], slot: u64)
     requires { ⌜ Shaped (now t) × QueueNames (now t) ⌝ }
     ensures { λ _. ⌜ now (t .exit) ≡ offered (now (t .entry)) slot ⌝ }
@@ -260,7 +261,7 @@ fn group_count(issued: u64) -> u64
     requires { ⌜ issued ≤ 8192 ⌝ }
     ensures { λ r. ⌜ r ≡ groupsOf issued ⌝ }
 {
-    (issued + (Group::LANES_PER_GROUP - 1)) / Group::LANES_PER_GROUP
+    (issued + (Group::LANES_PER_GROUP - 1) as u64) / Group::LANES_PER_GROUP as u64
 }
 
 // The group that `next` stands at, of `n`: past the last it starts again.
