@@ -24,10 +24,7 @@ Inv-loop t₀ id bits₀ t bits = Walk collectedPage (λ x. 64 * x < issued t₀
 abbrev μ-loop : tie.MeasureT-loop
 μ-loop t₀ id bits₀ t bits = bits
 
-store-requires : tie.Need-store-requires Inv-loop μ-loop
-store-requires c κs = simp (c .before .new .ensures) (omega arith)
-
--- the table without the group's bits
+-- the walk starts at the table without the group's bits
 loop-holds : tie.Need-loop-holds Inv-loop μ-loop
 loop-holds c =
     let t = c .before .before .before .before .before .before .before .before .args .t .now in
@@ -71,11 +68,10 @@ collect-group-spec =
     μ-loop
     (λ c κs. search needs)
     (λ c κs. search needs)
-    store-requires
+    (λ c κs. simp (c .before .new .ensures) (omega arith))
     loop-holds
     (λ c. omega (arith, trailing-le 64 (c .before .loop .bits)))
-    (λ c. search needs)
-    (λ c. search needs)
+    (λ c. search needs) (λ c. search needs)
     (λ c. omega (arith, trailing-le 64 (c .before .before .loop .bits)))
     collect-page-requires
     loop-less

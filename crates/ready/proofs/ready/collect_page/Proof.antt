@@ -23,10 +23,7 @@ Inv-loop t₀ id bits₀ t bits = Walk offered (λ x. 64 * id ≤ x) (64 * id) t
 abbrev μ-loop : tie.MeasureT-loop
 μ-loop t₀ id bits₀ t bits = bits
 
-store-requires : tie.Need-store-requires Inv-loop μ-loop
-store-requires c κs = simp (c .before .new .ensures) (omega arith)
-
--- the table without the page's bits
+-- the walk starts at the table without the page's bits
 loop-holds : tie.Need-loop-holds Inv-loop μ-loop
 loop-holds c =
     let t = c .before .before .before .before .before .before .before .before .args .t .now in
@@ -63,11 +60,10 @@ collect-page-spec =
     μ-loop
     (λ c κs. search needs)
     (λ c κs. search needs)
-    store-requires
+    (λ c κs. simp (c .before .new .ensures) (omega arith))
     loop-holds
     (λ c. omega (arith, trailing-le 64 (c .before .loop .bits)))
-    (λ c. search needs)
-    (λ c. search needs)
+    (λ c. search needs) (λ c. search needs)
     (λ c. omega (arith, trailing-le 64 (c .before .before .loop .bits)))
     (λ c κs. search needs)
     loop-less

@@ -54,9 +54,6 @@ loop-again-2 c =
     round-none (c .before .before .before .before .before .before .loop .inv) (c .before .before .before .before .before .loop-test .taken) _ (c .before .before .before .before .group-at .ensures .0)
     (sym (ap (λ (g : Group). g .bits) (c .before .before .load .ensures)) ∙ c .if1 .left)
 
-returns-2 : tie.Need-returns-2 Inv-loop μ-loop
-returns-2 c = round-end (c .before .loop .inv) (c .loop-test .left)
-
 pub collect-ready-spec : {M : Type 1} → statement M
 collect-ready-spec =
     tie.close
@@ -80,4 +77,4 @@ collect-ready-spec =
     (λ c. search needs)
     loop-again-2
     (λ c. c .before .loop .inv .kept .long)
-    returns-2)
+    (λ c. round-end (c .before .loop .inv) (c .loop-test .left)))

@@ -7,9 +7,6 @@ use borrow.Author.Needs.{needs}
 use Rattle.ready.proofs.ready.open_group.Statement.{statement}
 use Rattle.ready.proofs.ready.open_group.Tie as tie
 
-store-requires : tie.Need-store-requires
-store-requires c κs = simp (c .before .new .ensures) (omega arith)
-
 returns : tie.Need-returns
 unfolding openedGroup
 returns c = simp (eq-eqb _ _ (c .before .before .before .before .before .if1 .taken), c .before .before .store .ensures, c .before .before .before .before .new .ensures)
@@ -22,7 +19,7 @@ pub open-group-spec : {M : Type 1} → statement M
 open-group-spec =
     tie.close (tie.spec
     (λ c κs. search needs)
-    store-requires
+    (λ c κs. simp (c .before .new .ensures) (omega arith))
     (λ c. search needs)
     returns
     returns-2)

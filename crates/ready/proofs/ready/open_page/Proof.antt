@@ -8,9 +8,6 @@ use borrow.Author.Needs.{needs}
 use Rattle.ready.proofs.ready.open_page.Statement.{statement}
 use Rattle.ready.proofs.ready.open_page.Tie as tie
 
-store-requires : tie.Need-store-requires
-store-requires c κs = simp (c .before .new .ensures) (omega arith)
-
 open-group-requires : tie.Need-open-group-requires
 open-group-requires c κs = simp (c .before .before .before .store .ensures, length-set) (omega arith)
 
@@ -26,7 +23,7 @@ pub open-page-spec : {M : Type 1} → statement M
 open-page-spec =
     tie.close (tie.spec
     (λ c κs. search needs)
-    store-requires
+    (λ c κs. simp (c .before .new .ensures) (omega arith))
     open-group-requires
     (λ c. search needs)
     returns
