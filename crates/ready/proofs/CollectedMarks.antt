@@ -2,7 +2,7 @@
 -- rules put there.
 -- Assumes nothing.
 use mathlib.Core.Path.{_≡_, refl, sym, ap, ap₂, _∙_}
-use mathlib.Core.Bool.{Bool, true, false}
+use mathlib.Core.Bool.{Bool, true, false, cond}
 use mathlib.Core.List.{List, [], _∷_, _++_}
 use Prim.Native.Nat.{ℕ, zero, suc, _+_, _*_, _/_, _%_, _≤_, _<_, suc-le-suc}
 use native.Mathlib.Nat.{add-zero, div-one, zero-lt-suc}
@@ -11,15 +11,18 @@ use native.Mathlib.Decide.{decLt}
 use native.Mathlib.Omega.{arith}
 use borrow.Author.Tests.{eqb-true, eqb-false, ne-eqb}
 use lib.Dec.{eqb}
+use lib.ListN.{length}
 use Rattle.model.specs.Lists.{if, keep, from}
 use Rattle.model.specs.State.{State}
 use Rattle.model.specs.Ready.{marks}
 use Rattle.model.proofs.Pages.{marks-range, byPages, pages}
+use Rattle.lane.specs.Table.{HasRow}
 use Rattle.ready.specs.Header.{Shaped, issued}
 use Rattle.ready.specs.Queue.{queueOf, QueueNames}
 use Rattle.ready.specs.Bits.{bit, keepIf, bitsFrom}
-use Rattle.ready.specs.Ready.{pageWord, groupWord, pageBit, groupBit, nonZero, Linked, wanted, collectedGroup}
+use Rattle.ready.specs.Ready.{pageWord, groupWord, pageBit, groupBit, marked, nonZero, Linked, wanted, collectedGroup}
 use Rattle.ready.proofs.BitLaws.{bit-suc, bit-zero}
+use Rattle.ready.proofs.MarkLaws.{head-marked, bits-marked}
 use Rattle.ready.proofs.CollectedQueue.{slotsOfPage, slotsOfPages, slotsOfGroup, queue-group}
 
 -- ---- set bits as a test on a range
@@ -141,3 +144,25 @@ module _ (t : List ℕ) (s : State) (k : Linked t) (m : SameMarks t s) where
   pub queue-collected : Shaped t → QueueNames t → (group : ℕ) → 4096 * group < issued t
       → queueOf (collectedGroup t group) ≡ queueOf t ++ keep (wanted t) (marks s group)
   queue-collected sh q group h = queue-group t group sh q ∙ ap (λ (l : List ℕ). queueOf t ++ keep (wanted t) l) (group-marks group h)
+
+-- ---- a mark
+
+-- marking a slot of the table is marking it in the rules' state
+pub same-marks-marked : (t : List ℕ) (s u : State) (x : ℕ) → Shaped t → x < issued t → SameMarks t s → u .issued ≡ s .issued
+    → ((y : ℕ) → u .slotOf y .marked ≡ if (eqb x y) true (s .slotOf y .marked)) → SameMarks (marked t x) u
+same-marks-marked t s u x sh h m i f =
+    let row : HasRow (x / 64) (length t) = omega (arith, sh .room, sh .issued-most) in
+    let same : issued (marked t x) ≡ issued t = head-marked t x 0 refl in
+    record {
+      slots-issued = i ∙ m .slots-issued ∙ sym same;
+      marked-issued = λ y l.
+          f y ∙ slot y (eqb x y) (m .marked-issued y (rw same at l)) ∙ ap (λ (n : ℕ). eqb n 1) (sym (bits-marked t x row y));
+      unmarked-past = λ y l. f y ∙ past y (rw same at l) (m .unmarked-past y (rw same at l));
+    }
+  where
+    slot : (y : ℕ) (b : Bool) → s .slotOf y .marked ≡ eqb (pageBit t y) 1 → if b true (s .slotOf y .marked) ≡ eqb (cond b 1 (pageBit t y)) 1
+    slot y true e = refl
+    slot y false e = e
+
+    past : (y : ℕ) → issued t ≤ y → s .slotOf y .marked ≡ false → if (eqb x y) true (s .slotOf y .marked) ≡ false
+    past y l e = rw (ne-eqb x y (λ p. omega arith)) e

@@ -44,13 +44,13 @@ rounds (suc (suc (suc n))) c h g = absurd (omega arith)
 -- ---- one group and the cursor after it
 
 -- what every step needs
-pub record Ready (n : ℕ) (t : List ℕ) (s : State) : Type 0 where
-  pub shaped : Shaped t
-  pub names : QueueNames t
-  pub linked : Linked t
-  pub fit : WordsFit t
-  pub groups : groupsOf (issued t) ≡ n
-  pub sees : Sees t s
+record Ready (n : ℕ) (t : List ℕ) (s : State) : Type 0 where
+  shaped : Shaped t
+  names : QueueNames t
+  linked : Linked t
+  fit : WordsFit t
+  groups : groupsOf (issued t) ≡ n
+  sees : Sees t s
 
 module _ {n : ℕ} {t : List ℕ} {s : State} (r : Ready n t s) (g : ℕ) (low : g < n) where
   exists : 4096 * g < issued t

@@ -87,7 +87,7 @@ module _ (t : List ℕ) (group : ℕ) (sh : Shaped t) (q : QueueNames t) (k : Li
 -- ---- what the rules' state has of the table
 
 -- a lane that is registered, pending and unpaused
-abbrev calling : Lane → Bool
+abbrev pub calling : Lane → Bool
 calling l = eqb (l .registered) 1 && (eqb (l .pending) 1 && eqb (l .paused) 0)
 
 pub record Sees (t : List ℕ) (s : State) : Type 0 where

@@ -84,6 +84,15 @@ pub ruleset open-frames = (
   free-opened,
 )
 
+-- before any slot is issued no word is of a page that exists
+pub linked-none : (t : List ℕ) → issued t ≡ 0 → Linked t
+linked-none t e =
+    record {
+      of-issued = λ y h b. absurd (omega arith);
+      linked = λ page h. absurd (omega arith);
+      of-pages = λ page h b. absurd (omega arith);
+    }
+
 -- the next unused slot is issued
 module _ (t : List ℕ) (s : Shaped t) (room : issued t < slots t) (k : Linked t) where
   absent : {w : ℕ} (b : ℕ) → w ≡ 0 → bit w b ≡ 1 → ⊥
