@@ -1,0 +1,11 @@
+-- `ready::ready::Group::mark` meets its contract.
+-- Assumes nothing.
+use borrow.Author.Needs.{needs}
+use Rattle.ready.proofs.ready.Group.mark.Statement.{statement}
+use Rattle.ready.proofs.ready.Group.mark.Tie as tie
+
+pub mark-spec : {M : Type 1} → statement M
+mark-spec =
+    tie.close (tie.spec
+    (λ c κs. search needs)
+    (λ c. simp (c .with-bit .ensures)))

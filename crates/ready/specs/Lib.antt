@@ -1,0 +1,6 @@
+pub mod Header
+pub mod Queue
+pub mod Registry
+pub mod Bits
+pub mod Ready
+pub mod View

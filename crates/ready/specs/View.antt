@@ -1,0 +1,2 @@
+-- The rules' state, read off the words of the two stores.
+-- Assumes nothing.
