@@ -3,4 +3,3 @@ pub mod Queue
 pub mod Registry
 pub mod Bits
 pub mod Ready
-pub mod View

@@ -1,2 +1,0 @@
--- The rules' state, read off the words of the two stores.
--- Assumes nothing.
