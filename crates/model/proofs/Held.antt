@@ -6,7 +6,7 @@ use mathlib.Core.Option.{some}
 use mathlib.Core.List.{List, [], _∷_, _++_, map, tail}
 use Prim.Native.Nat.{ℕ, zero, suc, _+_, _≤_, _<_}
 use native.Mathlib.Omega.{arith}
-use lib.ListN.{length}
+use lib.ListN.{length, length-map}
 use lib.Dec.{eqb, leb}
 use Rattle.model.specs.declared.LaneKey.{LaneKey}
 use Rattle.model.specs.declared.Opening.{Opening}
@@ -26,7 +26,7 @@ use Rattle.model.specs.Control.{controlOutcome, countHeld}
 use Rattle.model.specs.Opening.{opened, openingOutcome}
 use Rattle.model.specs.Rules.{outcome, theRules}
 use Rattle.model.specs.Order.{Ordered}
-use Rattle.model.specs.Ledger.{HeldItem, Lane, Ledger, atOpening, changeLane, removeOldest, setPaused, setClosed, setDropped, addRegistered, applyCall, note, ledgerAfter}
+use Rattle.model.specs.Ledger.{Lane, Ledger, atOpening, changeLane, removeOldest, setPaused, setClosed, setDropped, addRegistered, applyCall, note, ledgerAfter}
 use Rattle.model.specs.Held.{heldBy, heldByLanes, HeldAsCounted}
 use Rattle.model.proofs.Counting.{Same, equal, other, same?, self, from-in}
 use Rattle.model.proofs.OrderKept.{first-own, front-registered}
@@ -140,10 +140,6 @@ module _ (s u : State) (x : ℕ) (m : Slot) (at : (y : ℕ) → u .slotOf y ≡ 
       go y (other d b j) = rw b
 
 -- an entry of the ledger holds what the ring of its lane does
-length-values : (h : List HeldItem) → length (map (λ v. v .value) h) ≡ length h
-length-values [] = refl
-length-values (v ∷ h) = omega (arith, length-values h)
-
 some-path : {a b : Lane} → some a ≡ some b → a ≡ b
 some-path e = cc
 
@@ -152,7 +148,7 @@ unfolding heldBy ringCount
 entry-count L s y l h r e =
     let f = h .lane-of y r in
     let q : l ≡ f .entry = some-path (sym e ∙ f .looked) in
-    ap heldBy q ∙ rw (f .matches .unclosed, r) (sym (length-values (f .entry .holds)) ∙ ap length (f .matches .values-same))
+    ap heldBy q ∙ rw (f .matches .unclosed, r) (sym (length-map (f .entry .holds) (λ v. v .value)) ∙ ap length (f .matches .values-same))
 
 -- a key stands once in the ledger; its slot is issued, and the slot's generation has reached the key's
 record KeysOnce (L : Ledger) (s : State) : Type 0 where

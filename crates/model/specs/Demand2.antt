@@ -2,13 +2,14 @@
 -- Assumes nothing.
 use mathlib.Core.Path.{_≡_}
 use mathlib.Core.Bool.{Bool, false}
-use mathlib.Core.List.{List, [], _∷_, _++_}
+use mathlib.Core.List.{List, [], _∷_, _++_, map}
 use Prim.Native.Nat.{ℕ}
-use lib.ListN.{length}
+use lib.ListN.{length, take, drop}
 use Rattle.model.specs.declared.LaneKey.{LaneKey}
 use Rattle.model.specs.declared.Opening.{Opening}
 use Rattle.model.specs.declared.SenderCall.the-variants.{RegisterSender, TrySend, TrySendUnsignaled, DropSender}
 use Rattle.model.specs.declared.ReceiveCall.{ReceiveCall}
+use Rattle.model.specs.declared.ReceiveCall.the-variants.{TryRecv, TryRecvFair, TryRecvFrom, TryRecvBatchInto}
 use Rattle.model.specs.declared.ControlCall.the-variants.{Pause, Resume, CloseLane, ReleaseConsumed, PollAllLanes, CloseReceiver, CountHeld}
 use Rattle.model.specs.declared.Call.{Call}
 use Rattle.model.specs.declared.Call.the-variants.{Sender, Receive, Control}
@@ -63,7 +64,7 @@ Demand2 R ring =
     ≡ values (into k) (trace R ((R .opens o lent) .1) calls)
 
 -- What ties the items handed out to the answers: a single receive hands out the item that it answers, of the lane that it answers;
--- a batch as many as it answers. "A batch hands out its output in order": that the output holds them is shown of the code.
+-- a batch as many as it answers.
 unfoldable pub Tells : Answer → List (LaneKey × ℕ) → Type 0
 Tells (Item v i) l = l ≡ (i .key, v) ∷ []
 Tells (Items n) l = length l ≡ n
@@ -75,5 +76,36 @@ Tells Disconnected l = l ≡ []
 Tells (Held n) l = l ≡ []
 Tells (Refused r) l = l ≡ []
 
+-- "A batch hands out its output in order": an output `out` that becomes `now` begins with the items handed out, and the rest is as it was.
+pub record OutputInOrder (n : ℕ) (l : List (LaneKey × ℕ)) (out now : List ℕ) : Type 0 where
+  pub first-words : take n now ≡ map (λ g. g .1) l
+  pub other-words : drop n now ≡ drop n out
+  pub same-length : length now ≡ length out
+
+-- Every answer but that of a batch with items leaves the output: "a refusal leaves state, both stores and the output unchanged".
+unfoldable pub Writes : Answer → List (LaneKey × ℕ) → List ℕ → List ℕ → Type 0
+Writes (Items n) l out now = OutputInOrder n l out now
+Writes (Item v i) l out now = now ≡ out
+Writes Done l out now = now ≡ out
+Writes (Registered k) l out now = now ≡ out
+Writes (Taken w) l out now = now ≡ out
+Writes Empty l out now = now ≡ out
+Writes Disconnected l out now = now ≡ out
+Writes (Held n) l out now = now ≡ out
+Writes (Refused r) l out now = now ≡ out
+
+pub record AsAnswered (a : Answer) (l : List (LaneKey × ℕ)) (out now : List ℕ) : Type 0 where
+  pub tells : Tells a l
+  pub writes : Writes a l out now
+
+-- The output that a batch is lent has the length that the call gives as its room.
+unfoldable pub HasRoom : ReceiveCall → List ℕ → Type 0
+HasRoom (TryRecvBatchInto limit room) out = length out ≡ room
+HasRoom TryRecv out = Unit {0}
+HasRoom TryRecvFair out = Unit {0}
+HasRoom (TryRecvFrom i) out = Unit {0}
+
 unfoldable pub HandsAsAnswered : Rules → Type 0
-HandsAsAnswered R = (s : R .State) (r : ReceiveCall) → Tells ((R .step s (Receive r)) .0) (R .hands s r)
+HandsAsAnswered R =
+    (s : R .State) (r : ReceiveCall) (out : List ℕ) → HasRoom r out
+    → AsAnswered ((R .step s (Receive r)) .0) (R .hands s r) out (R .output s r out)

@@ -23,7 +23,7 @@ use Rattle.model.specs.Turn.{retireLane, retireLaneIf, settleEmpty, refi
 use Rattle.model.specs.Outcome.{unless}
 use Rattle.model.specs.Runs.{after}
 use Rattle.model.specs.Sender.{issueSlot, olderLives, registerSender, trySend, trySendUnsignaled, dropSender, senderOutcome}
-use Rattle.model.specs.Receive.{retireEmptyPausedLanes, emptyOrDrained, nothingTaken, answerOne, tryRecv, tryRecvFair, queueLaneIf, takeFrom, tryRecvFrom, andMore, takeUpTo, releaseAll, answerItems, tryRecvBatchInto, receiveOutcome}
+use Rattle.model.specs.Receive.{retireEmptyPausedLanes, emptyOrDrained, nothingTaken, answerOne, tryRecv, tryRecvFair, queueLaneIf, takeFrom, tryRecvFrom, andMore, takeUpTo, releaseAll, answerItems, tryRecvBatchInto, written, receiveOutcome, outputAfter}
 use Rattle.model.specs.Control.{pause, resumeIf, resume, closeLane, releaseConsumed, pollAllLanes, closeReceiver, countHeld, controlOutcome}
 use Rattle.model.specs.Opening.{doubledUntil, opened, openingOutcome}
 use Rattle.model.specs.Rules.{outcome, theRules}
@@ -459,6 +459,19 @@ at-each (x ∷ l) e (suc k) d h = at-each l (ap tail e) k d (omega arith)
 examples-hold : (k : ℕ) → k < length table → found (row k) ≡ expected (row k)
 unfolding row
 examples-hold k h = at-each table table-computed k _ h
+
+-- "A batch hands out its output in order": the output of 5 words after batches of limit 0, 2, 4 and 6, the last of which is refused, where lanes 0 and 1 hold three items
+outputOf : ℕ → List ℕ
+outputOf limit =
+    outputAfter
+    (after theRules (opened record { capacity = 4; slots = 2; channel = 7; cursor = 0; generation = 0 }) (registers ∷ registers ∷ sends 1 3 ∷ sends 0 1 ∷ sends 0 2 ∷ []))
+    (TryRecvBatchInto limit 5) (90 ∷ 91 ∷ 92 ∷ 93 ∷ 94 ∷ [])
+
+outputs-computed :
+    map outputOf (0 ∷ 2 ∷ 4 ∷ 6 ∷ [])
+    ≡ (90 ∷ 91 ∷ 92 ∷ 93 ∷ 94 ∷ []) ∷ (1 ∷ 2 ∷ 92 ∷ 93 ∷ 94 ∷ []) ∷ (1 ∷ 2 ∷ 3 ∷ 93 ∷ 94 ∷ []) ∷ (90 ∷ 91 ∷ 92 ∷ 93 ∷ 94 ∷ []) ∷ []
+unfolding compute written outputAfter after keyAt registers sends outputOf
+outputs-computed = refl
 
 -- openings at the edge of each refusal: capacity, slots, words of the ring store and of the table store
 opens : ℕ × ℕ × ℕ × ℕ → Answer

@@ -6,7 +6,7 @@ use Rattle.model.specs.State.{State}
 use Rattle.model.specs.Outcome.{Outcome}
 use Rattle.model.specs.Runs.{Rules}
 use Rattle.model.specs.Sender.{senderOutcome}
-use Rattle.model.specs.Receive.{receiveOutcome}
+use Rattle.model.specs.Receive.{receiveOutcome, outputAfter}
 use Rattle.model.specs.Control.{controlOutcome}
 use Rattle.model.specs.Opening.{openingOutcome}
 
@@ -22,4 +22,5 @@ theRules = record {
   opens = λ o lent. (openingOutcome o lent) .1;
   step = λ s c. (outcome s c) .1;
   hands = λ s r. (receiveOutcome s r) .0;
+  output = λ s r out. outputAfter s r out;
 }

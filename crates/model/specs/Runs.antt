@@ -18,12 +18,13 @@ pub record Lent : Type 0 where
   pub rings : ℕ
   pub table : ℕ
 
--- Rules: what an opening and a call answer and leave, and which items of which lanes a receive hands out, in order.
+-- Rules: what an opening and a call answer and leave, which items of which lanes a receive hands out, in order, and the lent output as it leaves it.
 pub record Rules : Type 1 where
   pub State : Type 0
   pub opens : Opening → Lent → Answer × State
   pub step : State → Call → Answer × State
   pub hands : State → ReceiveCall → List (LaneKey × ℕ)
+  pub output : State → ReceiveCall → List ℕ → List ℕ
 
 -- "is a result or a refusal"
 unfoldable pub accepted : Answer → Bool
