@@ -20,7 +20,7 @@ use Rattle.model.specs.Opening.{openingOutcome}
 use Rattle.model.specs.Rules.{theRules}
 use Rattle.model.specs.Order.{Ordered}
 use Rattle.model.specs.Ledger.{atOpening, Lane, Ledger, changeLane, setClosed, addRegistered, applyCall, note}
-use Rattle.model.specs.Closed.{NoneAfterClose}
+use Rattle.model.specs.Closed.{NoneAfterCloseIn, NoneAfterClose}
 use Rattle.model.proofs.Counting.{self, no}
 use Rattle.model.proofs.OrderKept.{front-registered}
 use Rattle.model.proofs.Quiet.{poll, poll-quiet, poll-ordered}
@@ -106,8 +106,8 @@ close-gone i o (closes-it s j c) =
     record { low = omega (arith, o .each-slot x .registered-issued (p .0), retire-lane-issued x (withQueue (without x (s .queue)) s)); least = omega (arith, ap (λ (l : Slot). l .generation) e, p .1); more = λ r. absurd (no r (ap (λ (l : Slot). l .registered) e)) }
 
 pub none-after-close : NoneAfterClose theRules
-unfolding NoneAfterClose
-none-after-close o lent a calls before rest i e =
+unfolding NoneAfterClose NoneAfterCloseIn
+none-after-close o lent a calls t before rest i e =
     let s = (openingOutcome o lent) .1 .1 in
     let p = at-point (λ L u. Ordered u) (λ L u v t h m. move-ordered h m) atOpening s _ before (ends (Control (CloseLane i)) Done ∷ rest)
     (rw (opens-as o lent) (opened-ordered o lent a)) (rw e at (trace-chain s calls)) in

@@ -27,7 +27,7 @@ use Rattle.model.specs.Opening.{opened, openingOutcome}
 use Rattle.model.specs.Rules.{outcome, theRules}
 use Rattle.model.specs.Order.{Ordered}
 use Rattle.model.specs.Ledger.{Lane, Ledger, atOpening, changeLane, removeOldest, setPaused, setClosed, setDropped, addRegistered, applyCall, note, ledgerAfter}
-use Rattle.model.specs.Held.{heldBy, heldByLanes, HeldAsCounted}
+use Rattle.model.specs.Held.{heldBy, heldByLanes, HeldAsCountedIn, HeldAsCounted}
 use Rattle.model.proofs.Counting.{Same, equal, other, same?, self, from-in}
 use Rattle.model.proofs.OrderKept.{first-own, front-registered}
 use Rattle.model.proofs.Quiet.{Quiet, stays, goes, Quietly, trans, poll, poll-quiet, poll-ordered, release-all-quiet, settle-empty-quiet}
@@ -431,6 +431,6 @@ held-at (c ∷ cs) L s h before rest a e = go (split (ticks theRules s c) _ befo
     go (within more p) ih = held-within L s c h before more a p
 
 pub held-as-counted : HeldAsCounted theRules
-unfolding HeldAsCounted
-held-as-counted o lent d calls before rest a e =
+unfolding HeldAsCounted HeldAsCountedIn
+held-as-counted o lent d calls t before rest a e =
     held-at calls atOpening ((openingOutcome o lent) .1 .1) (rw (opens-as o lent) (opened-tallied o (opened-ordered o lent d))) before rest a e

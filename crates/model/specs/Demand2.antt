@@ -16,7 +16,7 @@ use Rattle.model.specs.declared.Call.the-variants.{Sender, Receive, Cont
 use Rattle.model.specs.declared.Answer.{Answer}
 use Rattle.model.specs.declared.Answer.the-variants.{Done, Registered, Taken, Item, Items, Empty, Disconnected, Held, Refused}
 use Rattle.model.specs.Lists.{if, both}
-use Rattle.model.specs.Runs.{Lent, Rules, accepted, Tick, gives, ends, trace, after, sameKey, countTicks}
+use Rattle.model.specs.Runs.{Rules, RunsOf, allRuns, accepted, Tick, gives, ends, trace, after, sameKey, countTicks}
 
 -- An item handed out of lane k.
 unfoldable pub outOf : LaneKey → Tick → List ℕ
@@ -55,13 +55,17 @@ values f [] = []
 values f (t ∷ ts) = f t ++ values f ts
 
 -- "In a run from an opening, the stores otherwise untouched, items handed out of a lane never closed and then items still in its ring are its accepted sends, in order."
--- `ring` reads a lane's ring off the rules' state.
-unfoldable pub Demand2 : (R : Rules) → (R .State → LaneKey → List ℕ) → Type 0
-Demand2 R ring =
-    (o : Opening) (lent : Lent) → (R .opens o lent) .0 ≡ Done
-    → (calls : List Call) (k : LaneKey) → countTicks (shuts k) (trace R ((R .opens o lent) .1) calls) ≡ 0
+-- `ring` reads a lane's ring off the rules' state; the claim is about all of `runs`.
+unfoldable pub Demand2In : (R : Rules) → RunsOf R → (R .State → LaneKey → List ℕ) → Type 0
+Demand2In R runs ring =
+    (o : Opening) (lent : R .Stores) → (R .opens o lent) .0 ≡ Done
+    → (calls : List Call) → runs o lent calls
+    → (k : LaneKey) → countTicks (shuts k) (trace R ((R .opens o lent) .1) calls) ≡ 0
     → values (outOf k) (trace R ((R .opens o lent) .1) calls) ++ ring (after R ((R .opens o lent) .1) calls) k
     ≡ values (into k) (trace R ((R .opens o lent) .1) calls)
+
+unfoldable pub Demand2 : (R : Rules) → (R .State → LaneKey → List ℕ) → Type 0
+Demand2 R ring = Demand2In R (allRuns R) ring
 
 -- What ties the items handed out to the answers: a single receive hands out the item that it answers, of the lane that it answers;
 -- a batch as many as it answers.
@@ -109,3 +113,11 @@ unfoldable pub HandsAsAnswered : Rules → Type 0
 HandsAsAnswered R =
     (s : R .State) (r : ReceiveCall) (out : List ℕ) → HasRoom r out
     → AsAnswered ((R .step s (Receive r)) .0) (R .hands s r) out (R .output s r out)
+
+-- The same at every point of `runs` only: of code it is shown where the stores are as the last call left them.
+unfoldable pub HandsAsAnsweredIn : (R : Rules) → RunsOf R → Type 0
+HandsAsAnsweredIn R runs =
+    (o : Opening) (lent : R .Stores) → (R .opens o lent) .0 ≡ Done
+    → (calls : List Call) (r : ReceiveCall) → runs o lent (calls ++ (Receive r ∷ []))
+    → (s : R .State) → after R ((R .opens o lent) .1) calls ≡ s
+    → (out : List ℕ) → HasRoom r out → AsAnswered ((R .step s (Receive r)) .0) (R .hands s r) out (R .output s r out)

@@ -11,7 +11,7 @@ use Rattle.model.specs.declared.Call.the-variants.{Control}
 use Rattle.model.specs.declared.Answer.{Answer}
 use Rattle.model.specs.declared.Answer.the-variants.{Done, Held}
 use Rattle.model.specs.Lists.{if}
-use Rattle.model.specs.Runs.{Lent, Rules, Tick, ends, trace}
+use Rattle.model.specs.Runs.{Rules, RunsOf, allRuns, Tick, ends, trace}
 use Rattle.model.specs.Ledger.{Lane, atOpening, ledgerAfter}
 
 -- "the harness counts it, per registered lane, as accepted sends less items handed out"
@@ -24,9 +24,14 @@ heldByLanes [] = 0
 heldByLanes (l ∷ ls) = heldBy l + heldByLanes ls
 
 -- "the number of items in rings of registered lanes, paused ones too", as it has to be answered at every point of a run.
-unfoldable pub HeldAsCounted : Rules → Type 0
-HeldAsCounted R =
-    (o : Opening) (lent : Lent) → (R .opens o lent) .0 ≡ Done
-    → (calls : List Call) (before rest : List Tick) (a : Answer)
+-- The claim is about all of `runs`.
+unfoldable pub HeldAsCountedIn : (R : Rules) → RunsOf R → Type 0
+HeldAsCountedIn R runs =
+    (o : Opening) (lent : R .Stores) → (R .opens o lent) .0 ≡ Done
+    → (calls : List Call) → runs o lent calls
+    → (before rest : List Tick) (a : Answer)
     → trace R ((R .opens o lent) .1) calls ≡ before ++ (ends (Control CountHeld) a ∷ rest)
     → a ≡ Held (heldByLanes ((ledgerAfter atOpening before) .lanes))
+
+unfoldable pub HeldAsCounted : Rules → Type 0
+HeldAsCounted R = HeldAsCountedIn R (allRuns R)

@@ -4,7 +4,7 @@ use Rattle.model.specs.declared.Call.{Call}
 use Rattle.model.specs.declared.Call.the-variants.{Sender, Receive, Control}
 use Rattle.model.specs.State.{State}
 use Rattle.model.specs.Outcome.{Outcome}
-use Rattle.model.specs.Runs.{Rules}
+use Rattle.model.specs.Runs.{Lent, Rules}
 use Rattle.model.specs.Sender.{senderOutcome}
 use Rattle.model.specs.Receive.{receiveOutcome, outputAfter}
 use Rattle.model.specs.Control.{controlOutcome}
@@ -19,6 +19,8 @@ outcome s (Control c) = controlOutcome s c
 abbrev pub theRules : Rules
 theRules = record {
   State = State;
+  Stores = Lent;
+  lengths = λ lent. lent;
   opens = λ o lent. (openingOutcome o lent) .1;
   step = λ s c. (outcome s c) .1;
   hands = λ s r. (receiveOutcome s r) .0;
