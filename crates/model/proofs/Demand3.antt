@@ -73,7 +73,7 @@ unfolding ledgerAfter
 passes-on E R L t st b = record { under = under-passes R L t st (b .under); in-groups = b .in-groups }
 
 group-same : (L : Ledger) (s : State) → Agrees L s → groupsIn (s .issued) ≡ groupsAt L
-unfolding groupsAt groupsIn
+unfolding groupsAt
 group-same L s a = rw (a .issued-same)
 
 on : {E R : ℕ} {K : LaneKey} {k : ℕ} {L : Ledger} {s : State} (st : List Tick) → Bounds E R L st → Waits E R K k L s → On E R (K .slot) (K .generation) k s
