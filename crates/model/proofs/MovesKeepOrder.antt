@@ -12,7 +12,7 @@ use Rattle.model.specs.Lists.{if, count, keep, from, without}
 use Rattle.model.specs.State.{senderLives, Slot, State, queued, mayQueue, hasLane}
 use Rattle.model.specs.Changes.{withQueue, withFree, withIssued, put, newLane, signalled, popped}
 use Rattle.model.specs.Ready.{groupsIn}
-use Rattle.model.specs.Turn.{retireLane, unreleasedAfterOne}
+use Rattle.model.specs.Turn.{unreleasedAfterOne}
 use Rattle.model.specs.Runs.{Tick}
 use Rattle.model.specs.Receive.{queueLaneIf}
 use Rattle.model.specs.Order.{SlotOrdered, Ordered}
