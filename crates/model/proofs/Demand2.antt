@@ -28,7 +28,7 @@ use Rattle.model.specs.Receive.{queueLaneIf}
 use Rattle.model.specs.Opening.{opened, openingOutcome}
 use Rattle.model.specs.Rules.{theRules}
 use Rattle.model.specs.Order.{Ordered}
-use Rattle.model.specs.Demand2.{outOf, into, shuts, values, Demand2}
+use Rattle.model.specs.Demand2.{outOf, into, shuts, values, Demand2In, Demand2}
 use Rattle.model.proofs.Counting.{Same, equal, other, same?, self, no, both-true}
 use Rattle.model.proofs.OrderKept.{first-own, front-registered}
 use Rattle.model.proofs.Quiet.{Quiet, stays, goes, Quietly, trans, poll, poll-quiet, poll-ordered, release-all-quiet, settle-empty-quiet}
@@ -236,8 +236,8 @@ unfolding openingOutcome
 opens-as o lent = unless-state _ (opened o) Done
 
 pub demand2 : Demand2 theRules ringOf
-unfolding Demand2 opened vacant
-demand2 o lent a calls k z =
+unfolding Demand2 Demand2In opened vacant
+demand2 o lent a calls t k z =
     let s = (openingOutcome o lent) .1 .1 in
     let c = chain-kept k (trace-chain s calls) (rw (opens-as o lent) (opened-ordered o lent a)) z in
     c ∙ ap (λ (l : List ℕ). l ++ values (into k) (trace theRules s calls)) (ap (λ (t : State). ringOf t k) (opens-as o lent) ∙ ring-at (opened o) k ∙ ring-none ((opened o) .slotOf (k .slot)) (k .generation) (closed-slot o (k .slot)))

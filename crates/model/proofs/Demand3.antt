@@ -20,7 +20,7 @@ use Rattle.model.specs.Rules.{theRules}
 use Rattle.model.specs.Order.{Ordered}
 use Rattle.model.specs.Ledger.{Lane, Ledger, atOpening, note, ledgerAfter, anyOrdinary, waitsIn, waits}
 use Rattle.model.specs.Stretch.{endsStretch, stretch, looks, looksInVain, untargeted, notFair, mostLive, groupsAt}
-use Rattle.model.specs.Demand3.{bound, Promise, Demand3}
+use Rattle.model.specs.Demand3.{bound, Promise, Demand3In, Demand3}
 use Rattle.model.proofs.Counting.{no, both-true, both-3, not-true}
 use Rattle.model.proofs.Quiet.{Hold, poll}
 use Rattle.model.proofs.WaitInReceive.{Wait, On, Polled, polled-to, poll-on, wait-start}
@@ -73,7 +73,7 @@ unfolding ledgerAfter
 passes-on E R L t st b = record { under = under-passes R L t st (b .under); in-groups = b .in-groups }
 
 group-same : (L : Ledger) (s : State) → Agrees L s → groupsIn (s .issued) ≡ groupsAt L
-unfolding groupsAt groupsIn
+unfolding groupsAt
 group-same L s a = rw (a .issued-same)
 
 on : {E R : ℕ} {K : LaneKey} {k : ℕ} {L : Ledger} {s : State} (st : List Tick) → Bounds E R L st → Waits E R K k L s → On E R (K .slot) (K .generation) k s
@@ -201,8 +201,8 @@ promise L s e rest K o a c w =
     seen-none e = rw e (omega arith)
 
 pub demand3 : Demand3 theRules
-unfolding Demand3
-demand3 o lent a calls before rest e K w =
+unfolding Demand3 Demand3In
+demand3 o lent a calls t before rest e K w =
     let s = (openingOutcome o lent) .1 .1 in
     let p = at-point (λ L u. Ordered u × Agrees L u) (λ L u v t i m. (move-ordered (i .0) m, move-agrees L (i .0) (i .1) m)) atOpening s _ before rest
     (rw (opens-as o lent) (opened-ordered o lent a), rw (opens-as o lent) (opened-agrees o)) (rw e at (trace-chain s calls)) in

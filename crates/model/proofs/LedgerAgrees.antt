@@ -358,23 +358,23 @@ set-paused-matches : (b : Bool) (l : Lane) (m n : Slot) → n .ring ≡ m .ring 
 unfolding setPaused
 set-paused-matches b l m n r p w g h = record { values-same = h .values-same ∙ sym r; signal = λ a. g (h .signal a); pauses-same = sym p; unclosed = h .unclosed; senders = h .senders ∙ ap not (sym w) }
 
-add-item-key : (v : HeldItem) (l : Lane) → (addItem v l) .key ≡ l .key
+pub add-item-key : (v : HeldItem) (l : Lane) → (addItem v l) .key ≡ l .key
 unfolding addItem
 add-item-key v l = refl
 
-remove-oldest-key : (l : Lane) → (removeOldest l) .key ≡ l .key
+pub remove-oldest-key : (l : Lane) → (removeOldest l) .key ≡ l .key
 unfolding removeOldest
 remove-oldest-key l = refl
 
-set-dropped-key : (l : Lane) → (setDropped l) .key ≡ l .key
+pub set-dropped-key : (l : Lane) → (setDropped l) .key ≡ l .key
 unfolding setDropped
 set-dropped-key l = refl
 
-set-paused-key : (b : Bool) (l : Lane) → (setPaused b l) .key ≡ l .key
+pub set-paused-key : (b : Bool) (l : Lane) → (setPaused b l) .key ≡ l .key
 unfolding setPaused
 set-paused-key b l = refl
 
-set-closed-key : (l : Lane) → (setClosed l) .key ≡ l .key
+pub set-closed-key : (l : Lane) → (setClosed l) .key ≡ l .key
 unfolding setClosed
 set-closed-key l = refl
 

@@ -1,4 +1,4 @@
--- The ledger's laws: what a change to one lane does to a look-up, and to the number of live lanes.
+-- The ledger's laws: what a change to one lane does to a look-up, and to the number of items held.
 -- Assumes nothing.
 use mathlib.Core.Path.{_≡_, refl, ap, sym, _∙_}
 use mathlib.Core.Logic.{_≢_}
@@ -12,7 +12,8 @@ use borrow.Author.Tests.{eqb-true, eqb-false}
 use Rattle.model.specs.declared.LaneKey.{LaneKey}
 use Rattle.model.specs.Lists.{if}
 use Rattle.model.specs.Runs.{sameKey}
-use Rattle.model.specs.Ledger.{Lane, isLive, liveLanes}
+use Rattle.model.specs.Ledger.{Lane}
+use Rattle.model.specs.Held.{heldBy, heldByLanes}
 
 -- two keys are the same, or not
 pub data Keys (i j : LaneKey) : Type 0 where
@@ -76,21 +77,21 @@ module _ (k : LaneKey) (f : Lane → Lane) (keeps : (l : Lane) → (f l) .key �
   ]
 
   -- a lane that is not there is not changed
-  live-lanes-absent : (ls : List Lane) → times k ls ≡ 0 → liveLanes (changeIn k f ls) ≡ liveLanes ls
-  unfolding times liveLanes
-  live-lanes-absent [] h = refl
-  live-lanes-absent (m ∷ ls) h = elim (keys? (m .key) k) [
+  held-absent : (ls : List Lane) → times k ls ≡ 0 → heldByLanes (changeIn k f ls) ≡ heldByLanes ls
+  unfolding times heldByLanes
+  held-absent [] h = refl
+  held-absent (m ∷ ls) h = elim (keys? (m .key) k) [
     | alike p e ↦ absurd (omega (arith, rw e at h))
-    | unlike g e ↦ rw (e, live-lanes-absent ls (omega (arith, rw e at h)))
+    | unlike g e ↦ rw (e, held-absent ls (omega (arith, rw e at h)))
   ]
 
-  -- the number of live lanes moves with the one lane
-  pub live-lanes-changed : (ls : List Lane) (l : Lane) → look k ls ≡ some l → times k ls ≤ 1 → liveLanes (changeIn k f ls) + if (isLive l) 1 0 ≡ liveLanes ls + if (isLive (f l)) 1 0
-  unfolding look times liveLanes
-  live-lanes-changed [] l h o = let z : _≡_ {A = ℕ} 0 1 = cc in absurd (omega arith)
-  live-lanes-changed (m ∷ ls) l h o = elim (keys? (m .key) k) [
+  -- the number of items held moves with the one lane
+  pub held-changed : (ls : List Lane) (l : Lane) → look k ls ≡ some l → times k ls ≤ 1 → heldByLanes (changeIn k f ls) + heldBy l ≡ heldByLanes ls + heldBy (f l)
+  unfolding look times heldByLanes
+  held-changed [] l h o = let z : _≡_ {A = ℕ} 0 1 = cc in absurd (omega arith)
+  held-changed (m ∷ ls) l h o = elim (keys? (m .key) k) [
     | alike p e ↦
         let q : m ≡ l = some-path (rw e at h) in
-        rw e (omega (arith, live-lanes-absent ls (omega (arith, rw e at o)), ap (λ (n : Lane). if {A = ℕ} (isLive n) 1 0) q, ap (λ (n : Lane). if {A = ℕ} (isLive (f n)) 1 0) q))
-    | unlike g e ↦ rw e (omega (arith, live-lanes-changed ls l (rw e at h) (omega (arith, rw e at o))))
+        rw e (omega (arith, held-absent ls (omega (arith, rw e at o)), ap heldBy q, ap (λ (n : Lane). heldBy (f n)) q))
+    | unlike g e ↦ rw e (omega (arith, held-changed ls l (rw e at h) (omega (arith, rw e at o))))
   ]

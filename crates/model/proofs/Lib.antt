@@ -17,7 +17,9 @@ pub mod LiveCount
 pub mod WaitInMoves
 pub mod FairOnce
 pub mod Demand3
+pub mod Grows
 pub mod Closed
+pub mod Held
 pub mod Words
 pub mod Pages
 pub mod Capacity

@@ -3,16 +3,16 @@
 use mathlib.Core.Path.{_≡_, refl}
 use mathlib.Core.Bool.{Bool, true, false, not}
 use mathlib.Core.List.{List, [], _∷_, map}
-use Rattle.model.specs.Lists.{if, either, nonEmpty}
+use Rattle.model.specs.Lists.{either, nonEmpty}
 use Rattle.model.specs.State.{Slot}
-use Rattle.model.specs.Ledger.{HeldItem, Lane, isLive, holdsAny}
+use Rattle.model.specs.Ledger.{HeldItem, Lane, isLive}
 use Rattle.model.proofs.LedgerAgrees.{Matches}
 
 pub live-matches : (l : Lane) (m : Slot) → Matches l m → isLive l ≡ either (nonEmpty (m .ring)) (m .living)
-unfolding isLive holdsAny
+unfolding isLive
 live-matches l m h = rw (h .unclosed, h .senders, ← h .values-same) (go (l .holds) (m .living))
   where
-    go : (i : List HeldItem) (b : Bool) → if (holdsAny i) true (not (not b)) ≡ either (nonEmpty (map (λ v. v .value) i)) b
+    go : (i : List HeldItem) (b : Bool) → either (nonEmpty i) (not (not b)) ≡ either (nonEmpty (map (λ v. v .value) i)) b
     go [] true = refl
     go [] false = refl
     go (v ∷ i) b = refl

@@ -1,24 +1,23 @@
 -- Every move keeps the state in order.
 -- Assumes nothing.
 use mathlib.Core.Path.{_≡_, refl, ap, sym, _∙_}
-use mathlib.Core.Logic.{_≢_}
 use mathlib.Core.Bool.{Bool, true, false, not}
 use mathlib.Core.List.{List, _∷_, _++_}
-use Prim.Native.Nat.{ℕ, zero, suc, _≤_, _<_}
+use Prim.Native.Nat.{ℕ, zero, suc, _<_}
 use native.Mathlib.Omega.{arith}
 use lib.Dec.{eqb}
-use borrow.Author.Tests.{eqb-true, eqb-false}
+use borrow.Author.Tests.{eqb-true}
 use Rattle.model.specs.declared.LaneKey.{LaneKey}
 use Rattle.model.specs.Lists.{if, count, keep, from, without}
 use Rattle.model.specs.State.{senderLives, Slot, State, queued, mayQueue, hasLane}
-use Rattle.model.specs.Changes.{withQueue, withFree, withIssued, put, newLane, signalled, popped, retired}
+use Rattle.model.specs.Changes.{withQueue, withFree, withIssued, put, newLane, signalled, popped}
 use Rattle.model.specs.Ready.{groupsIn}
-use Rattle.model.specs.Turn.{retireLane, unreleasedAfterOne}
+use Rattle.model.specs.Turn.{unreleasedAfterOne}
 use Rattle.model.specs.Runs.{Tick}
 use Rattle.model.specs.Receive.{queueLaneIf}
 use Rattle.model.specs.Order.{SlotOrdered, Ordered}
 use Rattle.model.proofs.Counting.{Same, equal, other, same?, self, no, both-true, both-3, not-true, unqueued-zero, count-append, keep-in, keep-out, without-own, without-other, from-in}
-use Rattle.model.proofs.OrderKept.{not-free, one-slot, first-own, first-other, settle-empty-ordered, give-item-ordered, release-all-ordered, put-ordered, back-ordered, signal-fine, back-room}
+use Rattle.model.proofs.OrderKept.{retire-unqueue-ordered, one-slot, first-own, first-other, settle-empty-ordered, give-item-ordered, release-all-ordered, put-ordered, back-ordered, signal-fine, back-room}
 use Rattle.model.proofs.Quiet.{poll, poll-ordered}
 use Rattle.model.proofs.Moves.{Moves, stays-put, credits, registers-new, registers-old, sends, posts, drops-it, pauses-it, resumes, resumes-not, closes-it, polls-all, shuts-it, takes, stops, aims, aims-none}
 
@@ -52,20 +51,7 @@ poll-all-fine s o = record { each-slot = λ y. go y (mayQueue s y) refl; budget-
     go y false e =
         let f = o .each-slot y in
         let n : count y (s .queue ++ keep (mayQueue s) (from 0 (s .issued))) ≡ count y (s .queue) = omega (arith, count-append y (s .queue) (keep (mayQueue s) (from 0 (s .issued))), keep-out (mayQueue s) y (from 0 (s .issued)) e) in
-        record {
-          queued-once = omega (arith, f .queued-once);
-          free-once = f .free-once;
-          queued-registered = λ h. f .queued-registered (omega arith);
-          queued-unpaused = λ h. f .queued-unpaused (omega arith);
-          is-marked = λ h p g z. f .is-marked h p g (omega arith);
-          registered-issued = f .registered-issued;
-          free-issued = f .free-issued;
-          free-unregistered = f .free-unregistered;
-          burst-most = f .burst-most;
-          living-issued = f .living-issued;
-          marked-issued = f .marked-issued;
-          free-generation = f .free-generation;
-        }
+        rw n f
 
 -- a free slot, or the next one, is not queued
 pub unqueued-of : {y i n m : ℕ} {l : Slot} → SlotOrdered y i n m l → l .registered ≡ false → n ≡ 0
@@ -149,7 +135,6 @@ unfolding senderLives
 living-of s k e = both-true (s .slotOf (k .slot) .living) (eqb (s .slotOf (k .slot) .generation) (k .generation)) e .0
 
 pub move-ordered : {s u : State} {t : Tick} → Ordered s → Moves s t u → Ordered u
-unfolding retireLane
 move-ordered o (stays-put s c a h) = o
 move-ordered o (credits s c a h) = release-all-ordered s o
 move-ordered o (registers-new s m e lt) = new-slot-ordered s lt o
@@ -189,43 +174,8 @@ move-ordered o (resumes s i c p) =
     unpaused-out (suc n) e f p = absurd (no p (f .queued-unpaused (omega arith)))
 move-ordered o (resumes-not s i c p) = o
 move-ordered o (closes-it s i c) =
-    let x = i .key .slot in let f = o .each-slot x in let r = has-lane-parts s (i .key) c in shut s x o (r .0)
-  where
-    shut : (s : State) (x : ℕ) → Ordered s → s .slotOf x .registered ≡ true → Ordered (retireLane x (withQueue (without x (s .queue)) s))
-    shut s x o r = record {
-      each-slot = one-slot s x (retired (s .slotOf x)) (without x (s .queue)) _ (o .each-slot) (λ y d. without-other x y (s .queue) d) (go (eqb (s .slotOf x .generation) 18446744073709551615)) (own (eqb (s .slotOf x .generation) 18446744073709551615) refl);
-      budget-most = o .budget-most;
-      cursor-most = o .cursor-most;
-      sizes = o .sizes;
-    }
-      where
-        go : (b : Bool) (y : ℕ) → x ≢ y → count y (if b (s .free) (x ∷ s .free)) ≡ count y (s .free)
-        go true y d = refl
-        go false y d = first-other x y (s .free) d
-
-        times : (b : Bool) → count x (if b (s .free) (x ∷ s .free)) ≤ 1
-        times true = omega (arith, not-free (o .each-slot x) r)
-        times false = omega (arith, not-free (o .each-slot x) r, first-own x (s .free))
-
-        last : (b : Bool) → eqb (s .slotOf x .generation) 18446744073709551615 ≡ b → 1 ≤ count x (if b (s .free) (x ∷ s .free)) → s .slotOf x .generation ≢ 18446744073709551615
-        last true e h = absurd (omega (arith, not-free (o .each-slot x) r))
-        last false e h = eqb-false _ _ e
-
-        own : (b : Bool) → eqb (s .slotOf x .generation) 18446744073709551615 ≡ b → SlotOrdered x (s .issued) (count x (without x (s .queue))) (count x (if b (s .free) (x ∷ s .free))) (retired (s .slotOf x))
-        own b e = record {
-          queued-once = omega (arith, without-own x (s .queue));
-          free-once = times b;
-          queued-registered = λ h. absurd (omega (arith, without-own x (s .queue)));
-          queued-unpaused = λ h. refl;
-          is-marked = λ h p q z. absurd (no h refl);
-          registered-issued = λ h. absurd (no h refl);
-          free-issued = λ h. o .each-slot x .registered-issued r;
-          free-unregistered = λ h. refl;
-          burst-most = λ h. absurd (no h refl);
-          living-issued = o .each-slot x .living-issued;
-          marked-issued = o .each-slot x .marked-issued;
-          free-generation = last b e;
-        }
+    let x = i .key .slot in
+    retire-unqueue-ordered x (without x (s .queue)) s o (has-lane-parts s (i .key) c .0) (λ y d. without-other x y (s .queue) d) (without-own x (s .queue))
 move-ordered o (polls-all s) = poll-all-fine s o
 move-ordered o (shuts-it s) = record { each-slot = o .each-slot; budget-most = o .budget-most; cursor-most = o .cursor-most; sizes = o .sizes }
 move-ordered o (takes f r s y v q vs h e g) = give-item-ordered (poll f s) y q vs _ e (back-room f ((poll f s) .slotOf y .burst)) (poll-ordered f s o)

@@ -50,11 +50,12 @@ pub first-own : (x : ℕ) (q : List ℕ) → count x (x ∷ q) ≡ suc (count x 
 unfolding count
 first-own x q = omega (arith, same-self x)
 
--- lane x, not queued, retires
-pub retire-lane-ordered : (x : ℕ) (s : State) → Ordered s → s .slotOf x .registered ≡ true → count x (s .queue) ≡ 0 → Ordered (retireLane x s)
+-- lane x retires, and the queue, which may have named it, is then q
+pub retire-unqueue-ordered : (x : ℕ) (q : List ℕ) (s : State) → Ordered s → s .slotOf x .registered ≡ true → ((y : ℕ) → x ≢ y → count y q ≡ count y (s .queue)) → count x q ≡ 0
+    → Ordered (retireLane x (withQueue q s))
 unfolding retireLane
-retire-lane-ordered x s o r z = record {
-  each-slot = one-slot s x (retired (s .slotOf x)) (s .queue) _ (o .each-slot) (λ y d. refl) (go (eqb (s .slotOf x .generation) 18446744073709551615)) (own (eqb (s .slotOf x .generation) 18446744073709551615) refl);
+retire-unqueue-ordered x q s o r c z = record {
+  each-slot = one-slot s x (retired (s .slotOf x)) q _ (o .each-slot) c (go (eqb (s .slotOf x .generation) 18446744073709551615)) (own (eqb (s .slotOf x .generation) 18446744073709551615) refl);
   budget-most = o .budget-most;
   cursor-most = o .cursor-most;
   sizes = o .sizes;
@@ -72,7 +73,7 @@ retire-lane-ordered x s o r z = record {
     last true e h = absurd (omega (arith, not-free (o .each-slot x) r))
     last false e h = eqb-false _ _ e
 
-    own : (b : Bool) → eqb (s .slotOf x .generation) 18446744073709551615 ≡ b → SlotOrdered x (s .issued) (count x (s .queue)) (count x (if b (s .free) (x ∷ s .free))) (retired (s .slotOf x))
+    own : (b : Bool) → eqb (s .slotOf x .generation) 18446744073709551615 ≡ b → SlotOrdered x (s .issued) (count x q) (count x (if b (s .free) (x ∷ s .free))) (retired (s .slotOf x))
     own b e = record {
       queued-once = omega arith;
       free-once = times b;
@@ -87,6 +88,10 @@ retire-lane-ordered x s o r z = record {
       marked-issued = o .each-slot x .marked-issued;
       free-generation = last b e;
     }
+
+-- lane x, not queued, retires
+pub retire-lane-ordered : (x : ℕ) (s : State) → Ordered s → s .slotOf x .registered ≡ true → count x (s .queue) ≡ 0 → Ordered (retireLane x s)
+retire-lane-ordered x s o r z = retire-unqueue-ordered x (s .queue) s o r (λ y d. refl) z
 
 pub retire-lane-if-ordered : (b : Bool) (x : ℕ) (s : State) → Ordered s → (b ≡ true → s .slotOf x .registered ≡ true) → count x (s .queue) ≡ 0 → Ordered (retireLaneIf b x s)
 unfolding retireLaneIf
@@ -302,20 +307,7 @@ module _ (s : State) (g : ℕ) (o : Ordered s) where
           }
       go false e (other d b i) =
           let n : count y (s .queue ++ more) ≡ count y (s .queue) = omega (arith, count-append y (s .queue) more, keep-out (isReady s) y (marks s g) e) in
-          rw b record {
-            queued-once = omega (arith, f .queued-once);
-            free-once = f .free-once;
-            queued-registered = λ h. f .queued-registered (omega arith);
-            queued-unpaused = λ h. f .queued-unpaused (omega arith);
-            is-marked = λ h u t z. f .is-marked h u t (omega arith);
-            registered-issued = f .registered-issued;
-            free-issued = f .free-issued;
-            free-unregistered = f .free-unregistered;
-            burst-most = f .burst-most;
-            living-issued = f .living-issued;
-            marked-issued = f .marked-issued;
-            free-generation = f .free-generation;
-          }
+          rw (b, n) f
 
 pub collect-group-ordered : (s : State) (g : ℕ) → g < groupsIn (s .issued) → Ordered s → Ordered (collectGroup s g)
 unfolding collectGroup collectMarks more

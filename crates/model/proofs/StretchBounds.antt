@@ -12,9 +12,10 @@ use Rattle.model.specs.declared.Call.{Call}
 use Rattle.model.specs.declared.Call.the-variants.{Sender, Receive, Control}
 use Rattle.model.specs.declared.Answer.{Answer}
 use Rattle.model.specs.declared.Answer.the-variants.{Done, Registered, Taken, Item, Items, Empty, Disconnected, Held, Refused}
-use Rattle.model.specs.Lists.{if, both}
+use Rattle.model.specs.Lists.{if, both, either, nonEmpty}
+use Rattle.model.specs.Ready.{groupsIn}
 use Rattle.model.specs.Runs.{sameKey, accepted, Tick, gives, ends}
-use Rattle.model.specs.Ledger.{HeldItem, Lane, Ledger, changeLane, removeOldest, addRegistered, applyCall, note, ledgerAfter, isLive, liveLanes, holdsAny}
+use Rattle.model.specs.Ledger.{HeldItem, Lane, Ledger, changeLane, removeOldest, addRegistered, applyCall, note, ledgerAfter, isLive, liveLanes}
 use Rattle.model.specs.Stretch.{afterCalls, mostLive, groupsAt}
 
 -- an item handed out makes no lane live
@@ -22,14 +23,14 @@ bit : Bool → ℕ
 bit b = if b 1 0
 
 live-remove-oldest : (l : Lane) → bit (isLive (removeOldest l)) ≤ bit (isLive l)
-unfolding isLive removeOldest bit holdsAny
+unfolding isLive removeOldest bit
 live-remove-oldest l = go (l .closed) (l .dropped) (l .holds)
   where
-    go : (c d : Bool) (h : List HeldItem) → if {A = ℕ} (both (not c) (if (holdsAny (tail h)) true (not d))) 1 0 ≤ if {A = ℕ} (both (not c) (if (holdsAny h) true (not d))) 1 0
+    go : (c d : Bool) (h : List HeldItem) → if {A = ℕ} (both (not c) (either (nonEmpty (tail h)) (not d))) 1 0 ≤ if {A = ℕ} (both (not c) (either (nonEmpty h) (not d))) 1 0
     go true d h = omega arith
     go false true [] = omega arith
     go false false [] = omega arith
-    go false d (v ∷ vs) = small (if (holdsAny vs) true (not d))
+    go false d (v ∷ vs) = small (either (nonEmpty vs) (not d))
       where
         small : (b : Bool) → if {A = ℕ} b 1 0 ≤ 1
         small true = omega arith
@@ -102,5 +103,5 @@ ledger-issued-up L [] = omega arith
 ledger-issued-up L (t ∷ ts) = omega (arith, note-issued-up L t, ledger-issued-up (note L t) ts)
 
 pub groups-up : (L : Ledger) (ts : List Tick) → groupsAt L ≤ groupsAt (ledgerAfter L ts)
-unfolding groupsAt
+unfolding groupsAt groupsIn
 groups-up L ts = omega (arith, ledger-issued-up L ts)

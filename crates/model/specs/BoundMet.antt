@@ -18,7 +18,7 @@ use Rattle.model.specs.declared.Answer.the-variants.{Done}
 use Rattle.model.specs.Runs.{Lent, sameKey, accepted, Tick, handed, ticks, trace, countTicks}
 use Rattle.model.specs.Opening.{openingOutcome}
 use Rattle.model.specs.Rules.{theRules}
-use Rattle.model.specs.Ledger.{Ledger, atOpening, changeLane, addItem, removeOldest, setPaused, setClosed, setDropped, addRegistered, applyCall, note, ledgerAfter, waits, waitsIn, anyOrdinary, isLive, liveLanes, holdsAny}
+use Rattle.model.specs.Ledger.{Ledger, atOpening, changeLane, addItem, removeOldest, setPaused, setClosed, setDropped, addRegistered, applyCall, note, ledgerAfter, waits, waitsIn, anyOrdinary, isLive, liveLanes}
 use Rattle.model.specs.Stretch.{endsWait, endsStretch, stretch, looks, findsNothing, looksInVain, untargeted, otherReceive, notFair, afterCalls, mostLive, groupsAt}
 use Rattle.model.specs.Demand3.{bound, Promise}
 use Rattle.model.specs.Examples.{compute}
@@ -59,7 +59,7 @@ stretchThere = stretch (lane 1) (drop 133 run)
 
 -- the definitions of the demand, for computing with them
 seen : Unit {0}
-unfolding compute opening lent lane laneId times calls run ledgerThere stretchThere handed ticks trace sameKey accepted atOpening changeLane addItem removeOldest setPaused setClosed setDropped addRegistered applyCall note ledgerAfter waits waitsIn anyOrdinary isLive liveLanes holdsAny endsWait endsStretch stretch looks findsNothing looksInVain untargeted otherReceive notFair countTicks afterCalls mostLive groupsAt bound
+unfolding compute opening lent lane laneId times calls run ledgerThere stretchThere handed ticks trace sameKey accepted atOpening changeLane addItem removeOldest setPaused setClosed setDropped addRegistered applyCall note ledgerAfter waits waitsIn anyOrdinary isLive liveLanes endsWait endsStretch stretch looks findsNothing looksInVain untargeted otherReceive notFair countTicks afterCalls mostLive groupsAt bound
 seen = tt
 
 it-waits : waits (lane 1) ledgerThere ≡ true

@@ -8,12 +8,17 @@ use Rattle.model.specs.declared.ControlCall.the-variants.{CloseLane}
 use Rattle.model.specs.declared.Call.{Call}
 use Rattle.model.specs.declared.Call.the-variants.{Control}
 use Rattle.model.specs.declared.Answer.the-variants.{Done}
-use Rattle.model.specs.Runs.{Lent, Rules, Tick, ends, trace, countTicks, ofLane}
+use Rattle.model.specs.Runs.{Rules, RunsOf, allRuns, Tick, ends, trace, countTicks, ofLane}
 
 -- "closed by an accepted `close_lane`, after which none of its items is handed out"
-unfoldable pub NoneAfterClose : Rules → Type 0
-NoneAfterClose R =
-    (o : Opening) (lent : Lent) → (R .opens o lent) .0 ≡ Done
-    → (calls : List Call) (before rest : List Tick) (i : LaneId)
+-- The claim is about all of `runs`.
+unfoldable pub NoneAfterCloseIn : (R : Rules) → RunsOf R → Type 0
+NoneAfterCloseIn R runs =
+    (o : Opening) (lent : R .Stores) → (R .opens o lent) .0 ≡ Done
+    → (calls : List Call) → runs o lent calls
+    → (before rest : List Tick) (i : LaneId)
     → trace R ((R .opens o lent) .1) calls ≡ before ++ (ends (Control (CloseLane i)) Done ∷ rest)
     → countTicks (ofLane (i .key)) rest ≡ 0
+
+unfoldable pub NoneAfterClose : Rules → Type 0
+NoneAfterClose R = NoneAfterCloseIn R (allRuns R)

@@ -8,7 +8,7 @@ use Rattle.model.specs.declared.LaneKey.{LaneKey}
 use Rattle.model.specs.declared.Opening.{Opening}
 use Rattle.model.specs.declared.Call.{Call}
 use Rattle.model.specs.declared.Answer.the-variants.{Done}
-use Rattle.model.specs.Runs.{Lent, Rules, Tick, trace, countTicks, ofLane}
+use Rattle.model.specs.Runs.{Rules, RunsOf, allRuns, Tick, trace, countTicks, ofLane}
 use Rattle.model.specs.Ledger.{Ledger, atOpening, ledgerAfter, waits}
 use Rattle.model.specs.Stretch.{stretch, looksInVain, untargeted, notFair, mostLive, groupsAt}
 
@@ -27,9 +27,14 @@ pub record Promise (L : Ledger) (st : List Tick) : Type 0 where
 
 -- "For every list of sender calls, receiver calls and held, refused ones included, made from an accepted opening on"
 -- "take any point where an unpaused, unclosed lane holds an ordinarily sent item and the receiver is open"
-unfoldable pub Demand3 : Rules → Type 0
-Demand3 R =
-    (o : Opening) (lent : Lent) → (R .opens o lent) .0 ≡ Done
-    → (calls : List Call) (before rest : List Tick) → trace R ((R .opens o lent) .1) calls ≡ before ++ rest
+-- The claim is about all of `runs`.
+unfoldable pub Demand3In : (R : Rules) → RunsOf R → Type 0
+Demand3In R runs =
+    (o : Opening) (lent : R .Stores) → (R .opens o lent) .0 ≡ Done
+    → (calls : List Call) → runs o lent calls
+    → (before rest : List Tick) → trace R ((R .opens o lent) .1) calls ≡ before ++ rest
     → (k : LaneKey) → waits k (ledgerAfter atOpening before) ≡ true
     → Promise (ledgerAfter atOpening before) (stretch k rest)
+
+unfoldable pub Demand3 : Rules → Type 0
+Demand3 R = Demand3In R (allRuns R)

@@ -10,7 +10,7 @@ use Rattle.model.specs.declared.Call.{Call}
 use Rattle.model.specs.declared.Call.the-variants.{Sender, Receive, Control}
 use Rattle.model.specs.declared.Answer.{Answer}
 use Rattle.model.specs.declared.Answer.the-variants.{Done, Registered, Taken, Item, Items, Empty, Disconnected, Held, Refused}
-use Rattle.model.specs.Lists.{if, both}
+use Rattle.model.specs.Lists.{if, both, either, nonEmpty}
 use Rattle.model.specs.Runs.{accepted, Tick, gives, ends, sameKey}
 
 -- An item that a lane holds: its value, and whether it was "ordinarily sent".
@@ -117,13 +117,9 @@ waitsIn k (l ∷ ls) =
 unfoldable pub waits : LaneKey → Ledger → Bool
 waits k L = both (not (L .receiverClosed)) (waitsIn k (L .lanes))
 
-unfoldable pub holdsAny : List HeldItem → Bool
-holdsAny [] = false
-holdsAny (v ∷ vs) = true
-
 -- "unclosed and either hold an item or have their sender undropped"
 unfoldable pub isLive : Lane → Bool
-isLive l = both (not (l .closed)) (if (holdsAny (l .holds)) true (not (l .dropped)))
+isLive l = both (not (l .closed)) (either (nonEmpty (l .holds)) (not (l .dropped)))
 
 unfoldable pub liveLanes : List Lane → ℕ
 liveLanes [] = 0

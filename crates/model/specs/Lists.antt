@@ -22,6 +22,11 @@ abbrev pub nonEmpty : {A : Type 0} → List A → Bool
 nonEmpty [] = false
 nonEmpty (x ∷ l) = true
 
+-- Every element of a list has the property P.
+unfoldable pub Each : {A : Type 0} → (A → Type 0) → List A → Type 0
+Each P [] = Unit {0}
+Each P (x ∷ l) = P x × Each P l
+
 -- 1 if two numbers are the same, else 0.
 unfoldable pub same : ℕ → ℕ → ℕ
 same x y = if (eqb x y) 1 0

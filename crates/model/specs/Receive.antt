@@ -1,9 +1,9 @@
 -- The receives: plain, fair, targeted and batch.
 -- Assumes nothing.
 use mathlib.Core.Bool.{Bool, true, false, not}
-use mathlib.Core.List.{List, [], _∷_, _++_}
+use mathlib.Core.List.{List, [], _∷_, _++_, map}
 use Prim.Native.Nat.{ℕ, zero, suc}
-use lib.ListN.{length}
+use lib.ListN.{length, drop}
 use lib.Dec.{leb, ltb}
 use Rattle.model.specs.declared.LaneKey.{LaneKey}
 use Rattle.model.specs.declared.LaneId.{LaneId}
@@ -90,8 +90,19 @@ tryRecvBatchInto s limit room =
     unless ((not (s .isOpen), ReceiverClosed) ∷ (ltb room limit, OutputShort) ∷ []) s
     (let t = takeUpTo limit s in answerItems limit (t .0) (releaseAll (t .1)))
 
+-- "A batch hands out its output in order": the output begins with the items handed out, and the words after them are as they were.
+unfoldable pub written : List (LaneKey × ℕ) → List ℕ → List ℕ
+written l out = map (λ g. g .1) l ++ drop (length l) out
+
 unfoldable pub receiveOutcome : State → ReceiveCall → Outcome
 receiveOutcome s TryRecv = tryRecv s
 receiveOutcome s TryRecvFair = tryRecvFair s
 receiveOutcome s (TryRecvFrom i) = tryRecvFrom s i
 receiveOutcome s (TryRecvBatchInto limit room) = tryRecvBatchInto s limit room
+
+-- The lent output as a receive leaves it. A batch that hands out nothing, a refused one too, leaves it as it was; the other receives are lent none.
+unfoldable pub outputAfter : State → ReceiveCall → List ℕ → List ℕ
+outputAfter s TryRecv out = out
+outputAfter s TryRecvFair out = out
+outputAfter s (TryRecvFrom i) out = out
+outputAfter s (TryRecvBatchInto limit room) out = written ((tryRecvBatchInto s limit room) .0) out

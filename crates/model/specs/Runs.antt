@@ -18,12 +18,24 @@ pub record Lent : Type 0 where
   pub rings : ℕ
   pub table : ℕ
 
--- Rules: what an opening and a call answer and leave, and which items of which lanes a receive hands out, in order.
+-- Rules: what an opening and a call answer and leave, which items of which lanes a receive hands out, in order, and the lent output as it leaves it.
 pub record Rules : Type 1 where
   pub State : Type 0
-  pub opens : Opening → Lent → Answer × State
+  -- what an opening is lent: in the rules the lengths of the two stores, in code their words
+  pub Stores : Type 0
+  pub lengths : Stores → Lent
+  pub opens : Opening → Stores → Answer × State
   pub step : State → Call → Answer × State
   pub hands : State → ReceiveCall → List (LaneKey × ℕ)
+  pub output : State → ReceiveCall → List ℕ → List ℕ
+
+-- Which runs a claim is about, by the opening, what it is lent, and the calls.
+abbrev pub RunsOf : Rules → Type 1
+RunsOf R = Opening → R .Stores → List Call → Type 0
+
+-- All runs.
+abbrev pub allRuns : (R : Rules) → RunsOf R
+allRuns R o lent calls = Unit {0}
 
 -- "is a result or a refusal"
 unfoldable pub accepted : Answer → Bool

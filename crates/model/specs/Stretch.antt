@@ -2,7 +2,7 @@
 -- Assumes nothing.
 use mathlib.Core.Bool.{Bool, true, false}
 use mathlib.Core.List.{List, [], _∷_}
-use Prim.Native.Nat.{ℕ, zero, suc, _+_, _/_, max}
+use Prim.Native.Nat.{ℕ, zero, suc, max}
 use Rattle.model.specs.declared.LaneKey.{LaneKey}
 use Rattle.model.specs.declared.ReceiveCall.{ReceiveCall}
 use Rattle.model.specs.declared.ReceiveCall.the-variants.{TryRecv, TryRecvFair, TryRecvFrom, TryRecvBatchInto}
@@ -12,6 +12,7 @@ use Rattle.model.specs.declared.Call.the-variants.{Sender, Receive, Cont
 use Rattle.model.specs.declared.Answer.{Answer}
 use Rattle.model.specs.declared.Answer.the-variants.{Done, Registered, Taken, Item, Items, Empty, Disconnected, Held, Refused}
 use Rattle.model.specs.Lists.{if, both}
+use Rattle.model.specs.Ready.{groupsIn}
 use Rattle.model.specs.Runs.{accepted, Tick, gives, ends, sameKey}
 use Rattle.model.specs.Ledger.{Ledger, note, liveLanes}
 
@@ -95,6 +96,6 @@ afterCalls L (ends c a ∷ ts) = max (liveLanes ((note L (ends c a)) .lanes)) (a
 unfoldable pub mostLive : Ledger → List Tick → ℕ
 mostLive L ts = max (liveLanes (L .lanes)) (afterCalls L ts)
 
--- "G is the number of groups": "64 lanes to a page, 64 pages to a group"; "A page or group exists once a slot of it has been issued."
+-- "G is the number of groups"
 unfoldable pub groupsAt : Ledger → ℕ
-groupsAt L = (L .issued + 4095) / 4096
+groupsAt L = groupsIn (L .issued)
