@@ -1,0 +1,6 @@
+// The receiver's calls on a store in order.
+pub mod refusal;
+pub mod sender;
+pub mod registry;
+pub mod lane_control;
+pub mod batch;

@@ -1,0 +1,92 @@
+// The sender calls: src/mpsc/sender.rs, and `register_sender` of src/mpsc.rs.
+ghost use mathlib.Core.Path.{_≡_};
+ghost use mathlib.Core.List.{_∷_};
+ghost use Prim.Native.Nat.{_+_, _*_, _≤_, _<_};
+ghost use lib.ListN.{length};
+ghost use Rattle.ready.specs.Header.{Shaped, issued, slots, freeCount, livingCount, laneCount, capacity};
+ghost use Rattle.receiver.specs.Order.{StoreInOrder};
+ghost use Rattle.receiver.specs.Sender.{
+  withSender,
+  markedIfIdle,
+  trySend,
+  trySendUnsignaled,
+  dropped,
+  dropSender,
+  slotVerdict,
+  dueKey,
+  slotTaken,
+  registeredWith,
+  registerSender,
+};
+use crate::refusal;
+use crate::refusal::Verdict;
+use lane::consumer::Sent;
+use lane::lane::Lane;
+use lane::ring::Ring;
+use model::Answer;
+use model::LaneKey;
+use model::Refusal;
+use ready::header::Header;
+use ready::ready as marks;
+use ready::registry;
+
+fn with_sender(mut l: Lane, pending: u64, living: u64) -> Lane
+    ensures { λ r. ⌜ r ≡ withSender pending living l ⌝ }
+{
+    l.pending = pending;
+    l.living = living;
+    l
+}
+
+// Idle to pending sets the page bit; `l` is the lane before.
+pub fn mark_if_idle(t: &mut [u64], l: Lane)
+    requires { ⌜ Shaped (now t) × (l .key .slot < slots (now t)) ⌝ }
+    ensures { λ _. ⌜ now (t .exit) ≡ markedIfIdle (now (t .entry)) l ⌝ }
+{
+    if l.pending == 0 {
+        marks::mark(t, l.key.slot as usize);
+    }
+}
+
+// Stores one item and marks the lane; answers whether its signal went from idle to pending.
+pub fn try_send(t: &mut [u64], r: &mut [u64], key: LaneKey, item: u64) -> Answer
+    requires { ⌜ StoreInOrder (now t) (now r) ⌝ }
+    ensures { λ a. ⌜ (a, now (t .exit), now (r .exit)) ≡ trySend (now (t .entry)) (now (r .entry)) key item ⌝ }
+{
+    match refusal::send_verdict(t, key) {
+        Verdict::Refuse { why } => Answer::Refused { why: why },
+        Verdict::Pass => {
+            let ring = Ring::new(key.slot, t[Header::CAPACITY]);
+            match Lane::load(t, key.slot).push_and_flush(ring, r, item) {
+                Sent::Full { lane: _ } => Answer::Refused { why: Refusal::Full },
+                Sent::Taken { lane } => {
+                    with_sender(lane, 1, lane.living).store(t);
+                    mark_if_idle(t, lane);
+                    Answer::Taken {
+                        woken: lane.pending == 0,
+                    }
+                }
+            }
+        }
+    }
+}
+
+// Stores one item and marks nothing.
+pub fn try_send_unsignaled(t: &mut [u64], r: &mut [u64], key: LaneKey, item: u64) -> Answer
+    requires { ⌜ StoreInOrder (now t) (now r) ⌝ }
+    ensures { λ a. ⌜ (a, now (t .exit), now (r .exit)) ≡ trySendUnsignaled (now (t .entry)) (now (r .entry)) key item ⌝ }
+{
+    match refusal::send_verdict(t, key) {
+        Verdict::Refuse { why } => Answer::Refused { why: why },
+        Verdict::Pass => {
+            let ring = Ring::new(key.slot, t[Header::CAPACITY]);
+            match Lane::load(t, key.slot).push_and_flush(ring, r, item) {
+                Sent::Full { lane: _ } => Answer::Refused { why: Refusal::Full },
+                Sent::Taken { lane } => {
+                    lane.store(t);
+                    Answer::Taken { woken: false }
+                }
+            }
+        }
+    }
+}
