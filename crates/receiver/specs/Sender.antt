@@ -72,14 +72,19 @@ dropped t l = setHead (markedIfIdle (putLane t (withSender 1 0 l)) l) 14 (living
 unfoldable pub dropSender : List ℕ → List ℕ → LaneKey → Words
 dropSender t r k = unlessRefused (senderVerdict t k) t r (Done, dropped t (laneAt t (k .slot)), r)
 
--- "registered lanes are as many as the most-lanes number, or more"; "free list empty and slot S - 1 issued";
+-- "free list empty and slot S - 1 issued"
+unfoldable pub unusedVerdict : ℕ → ℕ → Verdict
+unusedVerdict issued slots = cond (ltb issued slots) Pass (Refuse Refusal.NoFreeSlot)
+
 -- "the slot due still has a living older sender"
+unfoldable pub olderVerdict : Lane → Verdict
+olderVerdict l = cond (eqb (l .living) 1) (Refuse Refusal.OlderSenderLives) Pass
+
+-- "registered lanes are as many as the most-lanes number, or more"
 unfoldable pub slotVerdict : List ℕ → ℕ → Verdict
 slotVerdict t most =
     cond (leb most (laneCount t)) (Refuse Refusal.AtCapacity)
-    (cond (eqb (freeCount t) 0)
-    (cond (ltb (issued t) (slots t)) Pass (Refuse Refusal.NoFreeSlot))
-    (cond (eqb (laneAt t (lastFreed t) .living) 1) (Refuse Refusal.OlderSenderLives) Pass))
+    (cond (eqb (freeCount t) 0) (unusedVerdict (issued t) (slots t)) (olderVerdict (laneAt t (lastFreed t))))
 
 -- the key that is due: "the one freed last is issued first, with generation + 1; else the next unused"
 unfoldable pub dueKey : List ℕ → LaneKey

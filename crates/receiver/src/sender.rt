@@ -90,3 +90,99 @@ pub fn try_send_unsignaled(t: &mut [u64], r: &mut [u64], key: LaneKey, item: u64
         }
     }
 }
+
+fn drop_lane(t: &mut [u64], l: Lane)
+    requires { ⌜ Shaped (now t) × (l .key .slot < slots (now t)) × (0 < livingCount (now t)) ⌝ }
+    ensures { λ _. ⌜ now (t .exit) ≡ dropped (now (t .entry)) l ⌝ }
+{
+    let living = t[Header::LIVING] - 1;
+    with_sender(l, 1, 0).store(t);
+    mark_if_idle(t, l);
+    t[Header::LIVING] = living;
+}
+
+// Drops a sender: its lane is marked, so that a receive looks at it.
+pub fn drop_sender(t: &mut [u64], r: &[u64], key: LaneKey) -> Answer
+    requires { ⌜ StoreInOrder (now t) (now r) ⌝ }
+    ensures { λ a. ⌜ (a, now (t .exit), now (r .entry)) ≡ dropSender (now (t .entry)) (now (r .entry)) key ⌝ }
+{
+    match refusal::sender_verdict(t, key) {
+        Verdict::Refuse { why } => Answer::Refused { why: why },
+        Verdict::Pass => {
+            let l = Lane::load(t, key.slot);
+            drop_lane(t, l);
+            Answer::Done
+        }
+    }
+}
+
+// Refusals 7, 8 and 9 of a registration.
+fn slot_verdict(t: &[u64], most: u64) -> Verdict
+    requires { ⌜ Shaped (now t) × FreeIssued (now t) ⌝ }
+    ensures { λ r. ⌜ r ≡ slotVerdict (now (t .entry)) most ⌝ }
+{
+    if t[Header::LANES] >= most {
+        return Verdict::Refuse {
+            why: Refusal::AtCapacity,
+        };
+    }
+    if t[Header::FREE] == 0 {
+        return unused_verdict(t[Header::ISSUED], t[Header::SLOTS]);
+    }
+    older_verdict(Lane::load(t, registry::last_freed(t)))
+}
+
+fn unused_verdict(issued: u64, slots: u64) -> Verdict
+    ensures { λ r. ⌜ r ≡ unusedVerdict issued slots ⌝ }
+{
+    if issued >= slots {
+        return Verdict::Refuse {
+            why: Refusal::NoFreeSlot,
+        };
+    }
+    Verdict::Pass
+}
+
+fn older_verdict(l: Lane) -> Verdict
+    ensures { λ r. ⌜ r ≡ olderVerdict l ⌝ }
+{
+    if l.living == 1 {
+        return Verdict::Refuse {
+            why: Refusal::OlderSenderLives,
+        };
+    }
+    Verdict::Pass
+}
+
+// The key of the slot freed last, with generation + 1; else of the next unused slot.
+fn due_key(t: &[u64]) -> LaneKey
+    requires { ⌜ Shaped (now t) × FreeIssued (now t) ⌝ }
+    ensures { λ r. ⌜ r ≡ dueKey (now (t .entry)) ⌝ }
+{
+    if t[Header::FREE] == 0 {
+        return LaneKey {
+            slot: t[Header::ISSUED],
+            generation: t[Header::GENERATION],
+        };
+    }
+    let slot = registry::last_freed(t);
+    let l = Lane::load(t, slot);
+    LaneKey {
+        slot: slot,
+        generation: l.key.generation + 1,
+    }
+}
+
+// Takes the slot that is due.
+fn take_slot(t: &mut [u64])
+    requires { ⌜ Shaped (now t) × SlotDue (now t) ⌝ }
+    ensures { λ _. ⌜ now (t .exit) ≡ slotTaken (now (t .entry)) ⌝ }
+{
+    if t[Header::FREE] == 0 {
+        let slot = t[Header::ISSUED];
+        marks::open_page(t, slot as usize);
+        t[Header::ISSUED] = slot + 1;
+        return;
+    }
+    registry::reissue(t);
+}
