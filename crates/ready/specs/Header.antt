@@ -4,7 +4,7 @@ use mathlib.Core.List.{List, [], _∷_}
 use Prim.Native.Nat.{ℕ, _≤_, _<_}
 use lib.ListN.{length}
 use Rattle.model.specs.declared.Opening.{Opening}
-use Rattle.lane.specs.Table.{headerWords, cellAt, head, setHead}
+use Rattle.lane.specs.Table.{cellAt, head, setHead}
 use Rattle.lane.specs.Lists.{scatter}
 use Rattle.ready.specs.declared.header.Header.{Header}
 

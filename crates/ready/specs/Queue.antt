@@ -1,13 +1,15 @@
 -- The queue: a ring of slot numbers, one place in each row of the table.
 -- Assumes nothing.
+use mathlib.Core.Path.{_≡_}
 use mathlib.Core.Bool.{cond}
 use mathlib.Core.List.{List, [], _∷_}
-use Prim.Native.Nat.{ℕ, _+_, _-_, _%_}
+use Prim.Native.Nat.{ℕ, _+_, _-_, _%_, _≤_, _<_}
 use lib.Dec.{eqb}
 use lib.ListN.{length}
+use Rattle.model.specs.Lists.{count}
 use Rattle.lane.specs.Lists.{tab, scatter}
-use Rattle.lane.specs.Table.{laneWords, cellAt, cell, setCell}
-use Rattle.ready.specs.Header.{queueFront, queueCount, slots, setQueueFront, setQueueCount}
+use Rattle.lane.specs.Table.{laneWords, cellAt, cell, setCell, laneAt}
+use Rattle.ready.specs.Header.{issued, queueFront, queueCount, slots, setQueueFront, setQueueCount}
 
 -- the column of the rows that holds the queue's places
 abbrev pub queueColumn : ℕ
@@ -47,3 +49,9 @@ requeued t ws = setQueueCount (scatter t (λ i. cellAt queueColumn (queueRow t i
 
 unfoldable pub removed : List ℕ → ℕ → List ℕ
 removed t slot = requeued t (without slot (queueOf t))
+
+-- "The queue names each queued lane once": its entries are exactly the registered lanes with the queued flag, each once
+pub record QueueNames (t : List ℕ) : Type 0 where
+  pub once : (x : ℕ) → count x (queueOf t) ≤ 1
+  pub issued-only : (x : ℕ) → 1 ≤ count x (queueOf t) → x < issued t
+  pub flagged : (x : ℕ) → x < issued t → laneAt t x .registered ≡ 1 → laneAt t x .queued ≡ count x (queueOf t)

@@ -9,6 +9,8 @@ use Rattle.lane.specs.declared.lane.Lane.{Lane}
 use Rattle.ready.specs.Header.{issued, groupCursor, setGroupCursor}
 use Rattle.ready.specs.Queue.{pushedBack}
 use Rattle.ready.specs.Bits.{bit, withBit, bitsFrom}
+use Rattle.ready.specs.declared.ready.Page.{Page}
+use Rattle.ready.specs.declared.ready.Group.{Group}
 
 -- the columns of the rows that hold the page words and the group words: page p in row p, group g in row g
 abbrev pub pageColumn : ℕ
@@ -22,6 +24,31 @@ pageWord t page = cell t pageColumn page
 
 abbrev pub groupWord : List ℕ → ℕ → ℕ
 groupWord t group = cell t groupColumn group
+
+-- a page, and a group, with no bit; as the table has it; with a bit set; stored in the table
+abbrev pub emptyPage : ℕ → Page
+emptyPage page = record { id = page; bits = 0 }
+
+abbrev pub readPage : List ℕ → ℕ → Page
+readPage t page = record { id = page; bits = pageWord t page }
+
+abbrev pub markedPage : Page → ℕ → Page
+markedPage p b = record { id = p .id; bits = withBit (p .bits) b }
+
+abbrev pub putPage : List ℕ → Page → List ℕ
+putPage t p = setCell t pageColumn (p .id) (p .bits)
+
+abbrev pub emptyGroup : ℕ → Group
+emptyGroup group = record { id = group; bits = 0 }
+
+abbrev pub readGroup : List ℕ → ℕ → Group
+readGroup t group = record { id = group; bits = groupWord t group }
+
+abbrev pub markedGroup : Group → ℕ → Group
+markedGroup g b = record { id = g .id; bits = withBit (g .bits) b }
+
+abbrev pub putGroup : List ℕ → Group → List ℕ
+putGroup t g = setCell t groupColumn (g .id) (g .bits)
 
 -- "64 lanes to a page, 64 pages to a group": a slot's bit in its page, a page's bit in its group
 abbrev pub pageBit : List ℕ → ℕ → ℕ
@@ -39,6 +66,14 @@ setGroupBit t page = setCell t groupColumn (page / 64) (withBit (groupWord t (pa
 -- "sets the page bit; a page that was 0 sets its group bit"
 unfoldable pub marked : List ℕ → ℕ → List ℕ
 marked t slot = cond (eqb (pageWord t (slot / 64)) 0) (setGroupBit (setPageBit t slot) (slot / 64)) (setPageBit t slot)
+
+-- "A page or group exists once a slot of it has been issued": the first slot of a page makes its word 0,
+-- the first page of a group the group's
+unfoldable pub openedGroup : List ℕ → ℕ → List ℕ
+openedGroup t page = cond (eqb (page % 64) 0) (setCell t groupColumn (page / 64) 0) t
+
+unfoldable pub openedPage : List ℕ → ℕ → List ℕ
+openedPage t slot = cond (eqb (slot % 64) 0) (openedGroup (setCell t pageColumn (slot / 64) 0) (slot / 64)) t
 
 -- "a lane that is pending, unpaused and unqueued"
 unfoldable pub wantedLane : Lane → Bool

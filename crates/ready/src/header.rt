@@ -3,7 +3,7 @@ ghost use mathlib.Core.Path.{_≡_};
 ghost use Prim.Native.Nat.{_≤_};
 ghost use lib.ListN.{length};
 ghost use Rattle.lane.specs.Table.{headerWords};
-ghost use Rattle.ready.specs.Header.{openedHeader, putHeader};
+ghost use Rattle.ready.specs.Header.{openedHeader, headerList, putHeader};
 use model::Opening;
 
 pub struct Header {
@@ -64,6 +64,9 @@ impl Header {
 
     pub const LIVING: usize = 14;
 
+    // The words that the header takes.
+    pub const WORDS: usize = 15;
+
     // `READY_POLL_INTERVAL`
     pub const POLL_BUDGET: u64 = 64;
 
@@ -90,25 +93,39 @@ impl Header {
         }
     }
 
+    // The header's words, in the order of their places.
+    fn words(self) -> [u64; 15]
+        ensures { λ r. ⌜ r ≡ headerList self ⌝ }
+    {
+        [
+            self.issued,
+            self.front,
+            self.queued,
+            self.free,
+            self.slots,
+            self.budget,
+            self.group,
+            self.alive,
+            self.capacity,
+            self.channel,
+            self.cursor,
+            self.generation,
+            self.fast,
+            self.lanes,
+            self.living,
+        ]
+    }
+
     // The first words of the table store.
     pub fn store(self, table: &mut [u64])
         requires { ⌜ headerWords ≤ length (now table) ⌝ }
         ensures { λ _. ⌜ now (table .exit) ≡ putHeader (now (table .entry)) self ⌝ }
     {
-        table[Header::ISSUED] = self.issued;
-        table[Header::FRONT] = self.front;
-        table[Header::QUEUED] = self.queued;
-        table[Header::FREE] = self.free;
-        table[Header::SLOTS] = self.slots;
-        table[Header::BUDGET] = self.budget;
-        table[Header::GROUP] = self.group;
-        table[Header::ALIVE] = self.alive;
-        table[Header::CAPACITY] = self.capacity;
-        table[Header::CHANNEL] = self.channel;
-        table[Header::CURSOR] = self.cursor;
-        table[Header::GENERATION] = self.generation;
-        table[Header::FAST] = self.fast;
-        table[Header::LANES] = self.lanes;
-        table[Header::LIVING] = self.living;
+        let words = self.words();
+        let mut i = 0;
+        while i < Header::WORDS {
+            table[i] = words[i];
+            i += 1;
+        }
     }
 }

@@ -6,24 +6,39 @@ ghost use Rattle.lane.specs.Table.{HasRow};
 ghost use Rattle.ready.specs.Header.{Shaped, slots, queueCount, issued};
 ghost use Rattle.ready.specs.Bits.{withBit};
 ghost use Rattle.ready.specs.Ready.{
+  emptyPage,
+  readPage,
+  markedPage,
+  putPage,
+  emptyGroup,
+  readGroup,
+  markedGroup,
+  putGroup,
   setGroupBit,
   marked,
+  openedGroup,
+  openedPage,
   wantedLane,
+  wanted,
+  queuedLane,
   enqueued,
-  offered,
-  collectedPage,
-  collectedGroup,
-  groupsOf,
-  groupAt,
-  collectReady,
 };
 use crate::header::Header;
 use crate::queue;
 use lane::lane::Lane;
 use lane::table;
 
-// A page: 64 lanes, a bit for each.
+// `word` with its bit `b` set.
+fn with_bit(word: u64, b: usize) -> u64
+    requires { ⌜ b < 64 ⌝ }
+    ensures { λ r. ⌜ r ≡ withBit word b ⌝ }
+{
+    word | (1 << b)
+}
+
+// A page: 64 lanes, a bit for each (`ReadyPage`).
 pub struct Page {
+    pub id: usize,
     pub bits: u64,
 }
 
@@ -32,10 +47,42 @@ impl Page {
 
     // The column of the rows that holds the page words.
     pub const COLUMN: usize = Lane::LANE_WORDS + 2;
+
+    pub fn new(id: usize) -> Self
+        ensures { λ r. ⌜ r ≡ emptyPage id ⌝ }
+    {
+        Page { id: id, bits: 0 }
+    }
+
+    pub fn load(t: &[u64], id: usize) -> Self
+        requires { ⌜ HasRow id (length (now t)) ⌝ }
+        ensures { λ r. ⌜ r ≡ readPage (now (t .entry)) id ⌝ }
+    {
+        Page {
+            id: id,
+            bits: table::cell(t, Page::COLUMN, id),
+        }
+    }
+
+    pub fn store(self, t: &mut [u64])
+        requires { ⌜ HasRow (self .id) (length (now t)) ⌝ }
+        ensures { λ _. ⌜ now (t .exit) ≡ putPage (now (t .entry)) self ⌝ }
+    {
+        table::set_cell(t, Page::COLUMN, self.id, self.bits);
+    }
+
+    fn mark(mut self, lane: usize) -> Self
+        requires { ⌜ lane < 64 ⌝ }
+        ensures { λ r. ⌜ r ≡ markedPage self lane ⌝ }
+    {
+        self.bits = with_bit(self.bits, lane);
+        self
+    }
 }
 
-// A group: 64 pages, a bit for each.
+// A group: 64 pages, a bit for each (`ReadyGroup`).
 pub struct Group {
+    pub id: usize,
     pub bits: u64,
 }
 
@@ -44,14 +91,37 @@ impl Group {
 
     // The column of the rows that holds the group words.
     pub const COLUMN: usize = Lane::LANE_WORDS + 3;
-}
 
-// `word` with its bit `b` set.
-fn with_bit(word: u64, b: u64) -> u64
-    requires { ⌜ b < 64 ⌝ }
-    ensures { λ r. ⌜ r ≡ withBit word b ⌝ }
-{
-    word | (1 << b)
+    pub fn new(id: usize) -> Self
+        ensures { λ r. ⌜ r ≡ emptyGroup id ⌝ }
+    {
+        Group { id: id, bits: 0 }
+    }
+
+    pub fn load(t: &[u64], id: usize) -> Self
+        requires { ⌜ HasRow id (length (now t)) ⌝ }
+        ensures { λ r. ⌜ r ≡ readGroup (now (t .entry)) id ⌝ }
+    {
+        Group {
+            id: id,
+            bits: table::cell(t, Group::COLUMN, id),
+        }
+    }
+
+    pub fn store(self, t: &mut [u64])
+        requires { ⌜ HasRow (self .id) (length (now t)) ⌝ }
+        ensures { λ _. ⌜ now (t .exit) ≡ putGroup (now (t .entry)) self ⌝ }
+    {
+        table::set_cell(t, Group::COLUMN, self.id, self.bits);
+    }
+
+    fn mark(mut self, page: usize) -> Self
+        requires { ⌜ page < 64 ⌝ }
+        ensures { λ r. ⌜ r ≡ markedGroup self page ⌝ }
+    {
+        self.bits = with_bit(self.bits, page);
+        self
+    }
 }
 
 // Marks a slot's page, and the group of a page that had no mark (`ReadyPage::mark`, `ReadyGroup::mark`).
@@ -59,11 +129,10 @@ pub fn mark(t: &mut [u64], slot: usize)
     requires { ⌜ Shaped (now t) × (slot < slots (now t)) ⌝ }
     ensures { λ _. ⌜ now (t .exit) ≡ marked (now (t .entry)) slot ⌝ }
 {
-    let page = slot / Page::LANES_PER_PAGE;
-    let old = table::cell(t, Page::COLUMN, page);
-    table::set_cell(t, Page::COLUMN, page, with_bit(old, (slot % Page::LANES_PER_PAGE) as u64));
-    if old == 0 {
-        mark_group(t, page);
+    let page = Page::load(t, slot / Page::LANES_PER_PAGE);
+    page.mark(slot % Page::LANES_PER_PAGE).store(t);
+    if page.bits == 0 {
+        mark_group(t, page.id);
     }
 }
 
@@ -71,13 +140,32 @@ fn mark_group(t: &mut [u64], page: usize)
     requires { ⌜ HasRow page (length (now t)) ⌝ }
     ensures { λ _. ⌜ now (t .exit) ≡ setGroupBit (now (t .entry)) page ⌝ }
 {
-    let group = page / Group::PAGES_PER_GROUP;
-    let old = table::cell(t, Group::COLUMN, group);
-    table::set_cell(t, Group::COLUMN, group, with_bit(old, (page % Group::PAGES_PER_GROUP) as u64));
+    let group = Group::load(t, page / Group::PAGES_PER_GROUP);
+    group.mark(page % Group::PAGES_PER_GROUP).store(t);
+}
+
+// The page of a slot that is issued for the first time comes to be with the first of its slots, and so does the group.
+pub fn open_page(t: &mut [u64], slot: usize)
+    requires { ⌜ HasRow slot (length (now t)) ⌝ }
+    ensures { λ _. ⌜ now (t .exit) ≡ openedPage (now (t .entry)) slot ⌝ }
+{
+    if slot % Page::LANES_PER_PAGE == 0 {
+        Page::new(slot / Page::LANES_PER_PAGE).store(t);
+        open_group(t, slot / Page::LANES_PER_PAGE);
+    }
+}
+
+fn open_group(t: &mut [u64], page: usize)
+    requires { ⌜ HasRow page (length (now t)) ⌝ }
+    ensures { λ _. ⌜ now (t .exit) ≡ openedGroup (now (t .entry)) page ⌝ }
+{
+    if page % Group::PAGES_PER_GROUP == 0 {
+        Group::new(page / Group::PAGES_PER_GROUP).store(t);
+    }
 }
 
 // Whether a lane is to be queued: pending, unpaused and unqueued.
-fn wants(l: Lane) -> bool
+fn is_ready(l: Lane) -> bool
     ensures { λ r. ⌜ r ≡ wantedLane l ⌝ }
 {
     if l.registered != 1 {
@@ -92,7 +180,18 @@ fn wants(l: Lane) -> bool
     l.queued == 0
 }
 
-fn enqueued_lane(mut l: Lane) -> Lane
+// Whether a slot is issued and its lane to be queued.
+fn wants(t: &[u64], slot: u64) -> bool
+    requires { ⌜ Shaped (now t) ⌝ }
+    ensures { λ r. ⌜ r ≡ wanted (now (t .entry)) slot ⌝ }
+{
+    if slot >= t[Header::ISSUED] {
+        return false;
+    }
+    is_ready(Lane::load(t, slot))
+}
+
+fn queued_lane(mut l: Lane) -> Lane
     ensures { λ r. ⌜ r ≡ queuedLane l ⌝ }
 {
     l.queued = 1;
@@ -105,6 +204,6 @@ pub fn enqueue(t: &mut [u64], slot: u64)
     ensures { λ _. ⌜ now (t .exit) ≡ enqueued (now (t .entry)) slot ⌝ }
 {
     let l = Lane::load(t, slot);
-    enqueued_lane(l).store(t);
+    queued_lane(l).store(t);
     queue::push_back(t, slot);
 }
