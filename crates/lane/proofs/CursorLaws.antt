@@ -26,6 +26,9 @@ module _ (C : ℕ) (k : Capacity C) where
 pub distance-self : (a : ℕ) → a < 2 ^ 64 → distance a a ≡ 0
 distance-self a h = omega arith
 
+pub distance-none : (a b : ℕ) → a < 2 ^ 64 → b < 2 ^ 64 → distance a b ≡ 0 → a ≡ b
+distance-none a b ha hb e = omega arith
+
 -- a cursor that goes on by n is n further from what lies behind it, and n nearer to what lies ahead
 pub behind-after : (a b n : ℕ) → a < 2 ^ 64 → b < 2 ^ 64 → distance a b + n < 2 ^ 64 → distance (after a n) b ≡ distance a b + n
 behind-after a b n ha hb f = omega arith

@@ -1,7 +1,7 @@
--- What a lane holds, as a list: a send appends to it, and every way of popping takes its first items.
+-- What a lane holds, as a list: a send appends to it, and every way of popping takes its first items, in order.
 -- Assumes nothing.
-use mathlib.Core.Path.{_≡_, refl, sym, ap, _∙_}
-use mathlib.Core.Bool.{Bool, true, false, cond}
+use mathlib.Core.Path.{_≡_, refl, sym, ap, ap₂, _∙_}
+use mathlib.Core.Bool.{Bool, true, false, cond, _||_}
 use mathlib.Core.List.{List, [], _∷_, _++_}
 use Prim.Native.Nat.{ℕ, _+_, _-_, _≤_, _<_, _^_}
 use native.Mathlib.Omega.{arith}
@@ -10,16 +10,32 @@ use lib.Dec.{eqb}
 use lib.ListN.{length, set}
 use Rattle.lane.specs.Cursor.{after, distance}
 use Rattle.lane.specs.Ring.{Within, place, itemAt, items, push}
-use Rattle.lane.specs.Lane.{held, headOn, windowPop, popFast, sent, pushAndFlush, popTargeted, targeted, charged, released, releaseAtBatch}
+use Rattle.lane.specs.Lists.{written}
+use Rattle.lane.specs.Lane.{held, headOn, closeFast, prefetch, reload, windowPop, openFor, grantFast, popFast, fairWindow, burstOfWindow, fairly, popFair, sent, pushAndFlush, popTargeted, targeted, charged, addBurst, endBurst, polled, pollItem, pollRefilled, poll, readyOrIdle, refill, settleEmpty, chunkLimit, movedInto, chunkMoved, moveChunk}
 use Rattle.lane.specs.Order.{Counts, InOrder, Filled, sentLane}
 use Rattle.lane.specs.declared.ring.Ring.{Ring}
 use Rattle.lane.specs.declared.lane.Lane.{Lane}
+use Rattle.lane.specs.declared.lane.Targeted.{Targeted}
+use Rattle.lane.specs.declared.lane.LanePoll.the-variants as LanePoll
+use Rattle.lane.specs.declared.lane.Refill.{Refill}
+use Rattle.lane.specs.declared.lane.Refill.the-variants as Refill
 use Rattle.lane.specs.declared.lane.Popped.{Popped}
 use Rattle.lane.specs.declared.lane.Popped.the-variants as Popped
 use Rattle.lane.proofs.CursorLaws.{behind-after, ahead-after, after-distance}
 use Rattle.lane.proofs.CursorOrder.{held-adds, span-adds}
-use Rattle.lane.proofs.RingLaws.{push-appends, pop-takes-first}
-use Rattle.lane.proofs.OrderLaws.{at-batch-is}
+use Rattle.lane.proofs.RingLaws.{push-appends, pop-takes-first, items-split}
+use Rattle.lane.proofs.OrderLaws.{cond-holds, at-batch-is, fair-window-keeps, refill-fills, chunk-within, chunk-whole}
+
+-- only the head and the tail tell what a lane holds
+pub held-by-ends : (ring : Ring) (store : List ℕ) (l m : Lane) → l .head ≡ m .head → l .tail ≡ m .tail → held ring store l ≡ held ring store m
+unfolding held
+held-by-ends ring store l m h t = ap₂ (λ (a b : ℕ). items ring store a (distance b a)) h t
+
+-- a look at the ring moves neither
+pub reload-holds : (ring : Ring) (store : List ℕ) (l : Lane) → held ring store (reload (closeFast l)) ≡ held ring store l
+unfolding reload held
+reload-holds ring store l =
+    cond-holds (λ m. held ring store m ≡ held ring store l) (eqb (l .cached + l .window) 0) (prefetch (closeFast l)) (closeFast l) (λ e. refl) (λ e. refl)
 
 module _ (ring : Ring) (store : List ℕ) (l : Lane) (w : Within ring (length store)) (o : InOrder (ring .capacity) l) where
   abbrev n : ℕ
@@ -84,6 +100,75 @@ module _ (ring : Ring) (store : List ℕ) (l : Lane) (w : Within ring (length st
       one-more : distance (after (l .tail) 1) (l .head) ≡ n + 1
       one-more = behind-after (l .tail) (l .head) 1 (o .cursors .tail-u64) (o .cursors .head-u64) (small room (w .power .most))
 
+-- a fair receive through the window
+module _ (ring : Ring) (store : List ℕ) (l : Lane) (w : Within ring (length store)) (o : InOrder (ring .capacity) l) (budget : ℕ) where
+  fair-window-holds : held ring store (fairWindow (ring .capacity) budget l) ≡ held ring store l
+  unfolding fairWindow grantFast openFor held
+  fair-window-holds =
+      cond-holds (λ m. held ring store m ≡ held ring store l) (eqb (l .window) 0) (grantFast (ring .capacity) budget (endBurst true l)) l
+      (λ e. reload-holds ring store (endBurst true l)) (λ e. refl)
+
+  pub pop-fair-takes-first : (item : ℕ) (m : Lane) → popFair ring store budget l ≡ Popped.Item item m → held ring store l ≡ item ∷ held ring store m
+  unfolding popFair fairly held
+  pop-fair-takes-first item m e = go (popFast ring store (fairWindow (ring .capacity) budget l)) refl e
+    where
+      go : (p : Popped) → popFast ring store (fairWindow (ring .capacity) budget l) ≡ p → fairly p ≡ Popped.Item item m → held ring store l ≡ item ∷ held ring store m
+      go (Popped.Item v k) s f =
+          let value : v ≡ item = cc in
+          let rest : burstOfWindow k ≡ m = cc in
+          rw (← value, ← rest)
+          (sym fair-window-holds
+          ∙ pop-fast-takes-first ring store (fairWindow (ring .capacity) budget l) w (fair-window-keeps ring (w .power .most) store l o budget) v k s)
+      go (Popped.Nothing k) s f = let z : _≡_ {A = ℕ} 0 1 = cc in absurd (omega arith)
+
+-- the item that a counted pop gives
+item-is : (ring : Ring) (store : List ℕ) (l : Lane) → popTargeted ring store l .item ≡ itemAt ring store (l .head)
+unfolding popTargeted targeted
+item-is ring store l = refl
+
+-- a lane that is ready is the one that was looked at
+refill-is : (l m : Lane) → refill l ≡ Refill.Ready m → reload (closeFast l) ≡ m
+unfolding refill readyOrIdle
+refill-is l m e = go (eqb (reload (closeFast l) .cached) 0) e
+  where
+    go : (t : Bool) → cond t (Refill.Idle (settleEmpty (reload (closeFast l)))) (Refill.Ready (reload (closeFast l))) ≡ Refill.Ready m → reload (closeFast l) ≡ m
+    go true f = let z : _≡_ {A = ℕ} 0 1 = cc in absurd (omega arith)
+    go false f = cc
+
+-- a chunk is the first items of what is held, and the rest stays
+module _ (ring : Ring) (store : List ℕ) (l : Lane) (w : Within ring (length store)) (f : Filled (ring .capacity) l) (take : ℕ) (h : take ≤ chunkLimit (ring .capacity) l) where
+  chunk-held : take ≤ distance (l .tail) (l .head)
+  chunk-held =
+      most (distance (l .tail) (l .known)) (f .order .counts) (chunk-within ring (w .power .most) store l f take h .0)
+      (held-adds (ring .capacity) (l .tail) (l .released) (l .head) (l .known) (w .power .most) (f .order .cursors))
+    where
+      most : {B d a c u b v n : ℕ} (k : ℕ) → Counts B d a c u b v → take ≤ c → n ≡ k + a → take ≤ n
+      most k p q e = omega arith
+
+  pub move-chunk-takes-first : (out : List ℕ) (at : ℕ)
+      → (held ring store l ≡ items ring store (l .head) take ++ held ring store ((moveChunk ring store out at take l) .0 .lane))
+      × ((moveChunk ring store out at take l) .1 ≡ written out at (items ring store (l .head) take))
+  unfolding moveChunk chunkMoved movedInto held
+  move-chunk-takes-first out at =
+      rw (chunk-whole ring (w .power .most) store l f take h) (
+        at-batch-is (ring .capacity) (addBurst take (charged take (headOn take l)))
+            (λ m. held ring store l ≡ items ring store (l .head) take ++ held ring store m) here here,
+        refl,
+      )
+    where
+      split : take + (distance (l .tail) (l .head) - take) ≡ distance (l .tail) (l .head)
+      split = rest chunk-held
+        where
+          rest : {m n : ℕ} → m ≤ n → m + (n - m) ≡ n
+          rest p = omega arith
+
+      here : held ring store l ≡ items ring store (l .head) take ++ held ring store (headOn take l)
+      here =
+          ap (items ring store (l .head)) (sym split)
+          ∙ items-split ring store (l .head) take (distance (l .tail) (l .head) - take)
+          ∙ ap (λ (m : ℕ). items ring store (l .head) take ++ items ring store (after (l .head) take) m)
+          (sym (ahead-after (l .tail) (l .head) take (f .order .cursors .tail-u64) (f .order .cursors .head-u64) chunk-held))
+
 -- an item with full counting
 module _ (ring : Ring) (store : List ℕ) (l : Lane) (w : Within ring (length store)) (f : Filled (ring .capacity) l) where
   pub pop-targeted-takes-first : held ring store l ≡ itemAt ring store (l .head) ∷ held ring store (popTargeted ring store l .lane)
@@ -96,3 +181,32 @@ module _ (ring : Ring) (store : List ℕ) (l : Lane) (w : Within ring (length st
 
       here : held ring store l ≡ itemAt ring store (l .head) ∷ held ring store (headOn 1 l)
       here = first-held ring store l w (f .order) (some (f .order .counts) (f .some))
+
+  -- the turn counted at the front is nothing to what is held
+  counted-holds : (t : Bool) (m : Lane) → held ring store (endBurst t (addBurst 1 m)) ≡ held ring store m
+  unfolding held
+  counted-holds true m = refl
+  counted-holds false m = refl
+
+  pub poll-item-takes-first : (fair : Bool) (item : ℕ) (rotate released : Bool) (m : Lane) → pollItem ring store fair l ≡ LanePoll.Item item rotate released m
+      → held ring store l ≡ item ∷ held ring store m
+  unfolding pollItem polled
+  poll-item-takes-first fair item rotate released m e =
+      let t : Targeted = popTargeted ring store l in
+      let value : t .item ≡ item = cc in
+      let rest : endBurst (fair || eqb (t .lane .burst + 1) 64) (addBurst 1 (t .lane)) ≡ m = cc in
+      pop-targeted-takes-first
+      ∙ ap₂ _∷_ (sym (item-is ring store l) ∙ value)
+      (sym (counted-holds (fair || eqb (t .lane .burst + 1) 64) (t .lane)) ∙ ap (held ring store) rest)
+
+-- a poll gives the first item, or finds that there is none
+module _ (ring : Ring) (store : List ℕ) (l : Lane) (w : Within ring (length store)) (o : InOrder (ring .capacity) l) (fair : Bool) where
+  pub poll-takes-first : (item : ℕ) (rotate released : Bool) (m : Lane) → poll ring store fair l ≡ LanePoll.Item item rotate released m → held ring store l ≡ item ∷ held ring store m
+  unfolding poll pollRefilled
+  poll-takes-first item rotate released m e = go (refill l) refl e
+    where
+      go : (r : Refill) → refill l ≡ r → pollRefilled ring store fair r ≡ LanePoll.Item item rotate released m → held ring store l ≡ item ∷ held ring store m
+      go (Refill.Ready k) s f =
+          sym (reload-holds ring store l) ∙ ap (held ring store) (refill-is l k s)
+          ∙ poll-item-takes-first ring store k w (refill-fills (ring .capacity) (w .power .most) l o k s) fair item rotate released m f
+      go (Refill.Idle found) s f = let z : _≡_ {A = ℕ} 0 1 = cc in absurd (omega arith)

@@ -1,6 +1,6 @@
--- A lane in order stays in order under every method.
+-- A lane in order stays in order under every method; under `move_chunk` with the `end_full_burst` that follows it.
 -- Assumes nothing.
-use mathlib.Core.Path.{_≡_, refl, _∙_, sym, ap}
+use mathlib.Core.Path.{_≡_, refl, _∙_, sym, ap, ap₂}
 use mathlib.Core.Bool.{Bool, true, false, cond, _||_}
 use mathlib.Core.List.{List}
 use Prim.Native.Nat.{ℕ, _+_, _-_, _≤_, _<_, _^_, min}
@@ -10,10 +10,11 @@ use lib.Dec.{eqb}
 use Rattle.model.specs.State.{releaseBatch}
 use Rattle.lane.specs.Cursor.{after, distance, Capacity}
 use Rattle.lane.specs.Lane.{withCursors, withCounts, prefetch, reload, released, headOn, closeFast, windowFor, openWindow, openFor, grantFast, windowPop, popFast, releaseAtBatch, releaseAny, releasePending, settled, emptied, settleEmpty, readyOrIdle, refill, reloadIsEmpty, charged, addBurst, endBurst, targeted, popTargeted, polled, pollItem, pollRefilled, poll, fairWindow, burstOfWindow, fairly, popFair, endFullBurst, chunkLimit, chunkMoved, moveChunk, movedInto, sent, pushAndFlush, newLane}
-use Rattle.lane.specs.Order.{Cursors, Counts, InOrder, Filled, Refundable, sentLane, poppedLane, refilledLane, polledLane}
+use Rattle.lane.specs.Order.{Cursors, Counts, InOrder, Filled, FoundEmpty, Refundable, sentLane, poppedLane, refilledLane, polledLane}
 use Rattle.lane.specs.Ring.{push, itemAt}
 use Rattle.model.specs.declared.LaneKey.{LaneKey}
 use Rattle.lane.specs.declared.ring.Ring.{Ring}
+use Rattle.lane.specs.declared.consumer.Moved.{Moved}
 use Rattle.lane.specs.declared.lane.Lane.{Lane}
 use Rattle.lane.specs.declared.lane.Popped.{Popped}
 use Rattle.lane.specs.declared.lane.Popped.the-variants as Popped
@@ -22,12 +23,12 @@ use Rattle.lane.specs.declared.lane.Targeted.{Targeted}
 use Rattle.lane.specs.declared.lane.LanePoll.the-variants as LanePoll
 use Rattle.lane.specs.declared.lane.Refill.{Refill}
 use Rattle.lane.specs.declared.lane.Refill.the-variants as Refill
-use Rattle.lane.proofs.CursorLaws.{some, behind-after, ahead-after, distance-self}
+use Rattle.lane.proofs.CursorLaws.{some, behind-after, ahead-after, distance-self, distance-none}
 use Rattle.lane.proofs.CursorOrder.{held-adds, head-goes-on, tail-goes-on, known-is-tail, released-is-head}
 use Rattle.lane.proofs.CountOrder.{counts-close, counts-look, counts-open, counts-pop, counts-charge, counts-credit, counts-release, counts-burst}
 
 -- what holds of both sides of a test holds
-cond-holds : {A : Type 0} (P : A → Type 0) (t : Bool) (x y : A) → (t ≡ true → P x) → (t ≡ false → P y) → P (cond t x y)
+pub cond-holds : {A : Type 0} (P : A → Type 0) (t : Bool) (x y : A) → (t ≡ true → P x) → (t ≡ false → P y) → P (cond t x y)
 cond-holds P true x y f g = f refl
 cond-holds P false x y f g = g refl
 
@@ -70,11 +71,12 @@ module _ (C : ℕ) (small : C ≤ 65536) (l : Lane) (o : InOrder C l) where
   reload-keeps = cond-holds (InOrder C) (eqb (l .cached) 0) (prefetch l) l (λ e. prefetch-keeps (eqb-true (l .cached) 0 e)) (λ e. o)
 
 -- a window for the counts fits them
-pub window-fits : (c u b B n budget : ℕ) → u < B → b ≤ 63 → n ≡ min (min (min c (B - (u + 1))) (64 - (b + 1))) budget → (n ≤ c) × (u + n < B) × (b + n ≤ 63)
-window-fits c u b B n budget h k e = (omega arith, omega arith, omega arith)
+pub window-fits : (c u b B n budget : ℕ) → u < B → b ≤ 63 → n ≡ min (min (min c (B - (u + 1))) (64 - (b + 1))) budget
+    → (n ≤ c) × (u + n < B) × (b + n ≤ 63) × (n ≤ budget)
+window-fits c u b B n budget h k e = (omega arith, omega arith, omega arith, omega arith)
 
 module _ (C : ℕ) (small : C ≤ 65536) (budget : ℕ) (l : Lane) (o : InOrder C l) where
-  pub window-for-fits : (windowFor C budget l ≤ l .cached) × (l .unreleased + windowFor C budget l < releaseBatch C) × (l .burst + windowFor C budget l ≤ 63)
+  pub window-for-fits : (windowFor C budget l ≤ l .cached) × (l .unreleased + windowFor C budget l < releaseBatch C) × (l .burst + windowFor C budget l ≤ 63) × (windowFor C budget l ≤ budget)
   unfolding windowFor
   window-for-fits = window-fits (l .cached) (l .unreleased) (l .burst) (releaseBatch C) _ budget (o .counts .unreleased-below) (o .counts .burst-most) refl
 
@@ -89,12 +91,14 @@ pub reload-window : (l : Lane) → reload l .window ≡ l .window
 unfolding reload
 reload-window l = cond-holds (λ m. m .window ≡ l .window) (eqb (l .cached) 0) (prefetch l) l (λ e. refl) (λ e. refl)
 
--- a lane whose window is closed is refundable, after a look too
-pub refundable-closed : (l : Lane) → Refundable l → Refundable (reload (closeFast l))
+-- a look that leaves nothing cached has found the lane empty
+pub reload-found-empty : (l : Lane) → l .window ≡ 0 → reload l .cached ≡ 0 → FoundEmpty (reload l)
 unfolding reload
-refundable-closed l r =
-    cond-holds Refundable (eqb (l .cached + l .window) 0) (prefetch (closeFast l)) (closeFast l)
-    (λ e. record { fits = omega arith; credit = omega arith; turn = omega arith }) (λ e. record { fits = omega (arith, r .fits); credit = omega arith; turn = omega arith })
+reload-found-empty l w e = go (eqb (l .cached) 0) refl e
+  where
+    go : (t : Bool) → eqb (l .cached) 0 ≡ t → cond t (prefetch l) l .cached ≡ 0 → FoundEmpty (cond t (prefetch l) l)
+    go true s f = record { closed = w; none = f; looked = refl }
+    go false s f = absurd (eqb-false (l .cached) 0 s f)
 
 module _ (C : ℕ) (small : C ≤ 65536) (l : Lane) (o : InOrder C l) where
   pub closed-reload-keeps : InOrder C (reload (closeFast l))
@@ -337,7 +341,12 @@ module _ (ring : Ring) (small : ring .capacity ≤ 65536) (store : List ℕ) (l 
       all : {B d m c u b w : ℕ} → Counts B d m c u b w → take ≤ c → min m take ≡ take
       all n k = omega arith
 
-  pub move-chunk-keeps : (out : List ℕ) (at : ℕ) → InOrder (ring .capacity) (endFullBurst ((moveChunk ring store out at take l) .0) .lane)
+  pub chunk-moved : (out out′ : List ℕ) (at : ℕ) (m : Moved) → (m, out′) ≡ movedInto ring store out at take l → m ≡ record { lane = headOn take l; moved = take }
+  unfolding movedInto
+  chunk-moved out out′ at m e =
+      ap (λ (p : Moved × List ℕ). p .0) e ∙ ap {A = ℕ} {B = Moved} (λ n. record { lane = headOn n l; moved = n }) chunk-whole
+
+  pub move-chunk-keeps : (out : List ℕ) (at : ℕ) → InOrder (ring .capacity) (endFullBurst ((moveChunk ring store out at take l) .0 .lane) .lane)
   unfolding moveChunk chunkMoved movedInto endFullBurst
   move-chunk-keeps out at =
       let C : ℕ = ring .capacity in
@@ -377,23 +386,41 @@ new-lane-in-order C k key cursor h =
       counts = rw z (record { cached-is = refl; unreleased-is = refl; unreleased-below = batch-some C (some C k); window-most = omega arith; burst-most = omega arith });
     }
 
--- settling leaves nothing published since the last look, where there was nothing
-settled-nothing-new : (m : Lane) → m .known ≡ m .tail → m .tail < 2 ^ 64 → prefetch (settleEmpty m .lane) .cached ≡ 0
-unfolding settleEmpty emptied releasePending releaseAny
-settled-nothing-new m k h =
-    cond-holds (λ (r : Released). prefetch (settled (r .lane)) .cached ≡ 0) (eqb (closeFast m .unreleased) 0)
-    (record { lane = closeFast m; released = false }) (record { lane = released (closeFast m); released = true })
-    (λ t. nothing) (λ t. nothing)
-  where
-    nothing : distance (m .tail) (m .known) ≡ 0
-    nothing = rw k (distance-self (m .tail) h)
+-- A LANE FOUND EMPTY
 
--- `Keep` never occurs: after a lane was found empty and settled, the Rust's second look finds nothing
-pub keep-never : (C : ℕ) (l : Lane) → InOrder C l → reload (closeFast l) .cached ≡ 0 → prefetch (settleEmpty (reload (closeFast l)) .lane) .cached ≡ 0
-unfolding reload
-keep-never C l o e = go (eqb (closeFast l .cached) 0) refl e
-  where
-    go : (t : Bool) → eqb (closeFast l .cached) 0 ≡ t → cond t (prefetch (closeFast l)) (closeFast l) .cached ≡ 0
-        → prefetch (settleEmpty (cond t (prefetch (closeFast l)) (closeFast l)) .lane) .cached ≡ 0
-    go true s f = settled-nothing-new (prefetch (closeFast l)) refl (o .cursors .tail-u64)
-    go false s f = absurd (eqb-false (closeFast l .cached) 0 s f)
+-- a look that finds nothing new changes nothing
+look-same : (l : Lane) → distance (l .tail) (l .known) ≡ l .cached → l .tail ≡ l .known → prefetch l ≡ l
+look-same l e f = ap₂ (λ (c k : ℕ). withCounts c (l .unreleased) (l .burst) (l .window) (withCursors (l .tail) (l .released) (l .head) k l)) e f
+
+module _ (C : ℕ) (small : C ≤ 65536) (l : Lane) (o : InOrder C l) (none : reload (closeFast l) .cached ≡ 0) where
+  -- it was looked at, and what is known of is all that was published
+  found-by-look : (reload (closeFast l) ≡ prefetch (closeFast l)) × (l .cached + l .window ≡ 0)
+  unfolding reload
+  found-by-look = go (eqb (l .cached + l .window) 0) refl none
+    where
+      go : (t : Bool) → eqb (l .cached + l .window) 0 ≡ t → cond t (prefetch (closeFast l)) (closeFast l) .cached ≡ 0
+          → (cond t (prefetch (closeFast l)) (closeFast l) ≡ prefetch (closeFast l)) × (l .cached + l .window ≡ 0)
+      go true s f = (refl, eqb-true (l .cached + l .window) 0 s)
+      go false s f = absurd (eqb-false (l .cached + l .window) 0 s f)
+
+  nothing-new : distance (l .tail) (l .known) ≡ 0
+  nothing-new = sym (ap (λ (m : Lane). m .cached) (found-by-look .0)) ∙ none
+
+  -- its ring is empty: the Rust's test of `is_disconnected` on the cursors holds
+  pub found-empty : l .tail ≡ l .head
+  found-empty =
+      distance-none (l .tail) (l .head) (o .cursors .tail-u64) (o .cursors .head-u64)
+      (held-adds C (l .tail) (l .released) (l .head) (l .known) small (o .cursors) ∙ ap₂ _+_ nothing-new (sym (o .counts .cached-is) ∙ found-by-look .1))
+
+  -- `Keep` never occurs: settled, the lane has nothing published since, and the Rust's second look changes nothing
+  pub keep-never : prefetch (settleEmpty (reload (closeFast l)) .lane) ≡ settleEmpty (reload (closeFast l)) .lane
+  unfolding settleEmpty emptied releasePending releaseAny
+  keep-never =
+      rw (found-by-look .0)
+      (cond-holds (λ (r : Released). prefetch (settled (r .lane)) ≡ settled (r .lane)) (eqb (closeFast (prefetch (closeFast l)) .unreleased) 0)
+      (record { lane = closeFast (prefetch (closeFast l)); released = false }) (record { lane = released (closeFast (prefetch (closeFast l))); released = true })
+      (λ t. look-same (settled (closeFast (prefetch (closeFast l)))) same refl)
+      (λ t. look-same (settled (released (closeFast (prefetch (closeFast l))))) same refl))
+    where
+      same : distance (l .tail) (l .tail) ≡ distance (l .tail) (l .known) + 0
+      same = distance-self (l .tail) (o .cursors .tail-u64) ∙ sym (ap (λ (n : ℕ). n + 0) nothing-new)

@@ -36,6 +36,16 @@ run-written-step src start i out at h =
     ∙ written-step out ws at (getD src (start + i) 0) (rw l h)
     ∙ ap (written out at) (sym (run-more src start i))
 
+-- the first m items, and those after them
+pub items-split : (ring : Ring) (store : List ℕ) (head m n : ℕ) → items ring store head (m + n) ≡ items ring store head m ++ items ring store (after head m) n
+unfolding items
+items-split ring store head m n =
+    tab-add m n (λ i. itemAt ring store (after head i))
+    ∙ ap (λ (l : List ℕ). tab m (λ i. itemAt ring store (after head i)) ++ l) (tab-ext n _ _ (λ i l. ap (itemAt ring store) (further i)))
+  where
+    further : (i : ℕ) → after head (m + i) ≡ after (after head m) i
+    further i = omega arith
+
 -- a store outside the live places
 pub outside-kept : (ring : Ring) (store : List ℕ) (head n j v : ℕ) → ((i : ℕ) → i < n → place ring (after head i) ≡ j → ⊥)
     → items ring (set store j v) head n ≡ items ring store head n

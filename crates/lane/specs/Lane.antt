@@ -15,6 +15,7 @@ use Rattle.lane.specs.declared.ring.Push.the-variants.{Pushed, Full}
 use Rattle.lane.specs.declared.consumer.Sent.{Sent}
 use Rattle.lane.specs.declared.consumer.Sent.the-variants as Sent
 use Rattle.lane.specs.declared.consumer.Moved.{Moved}
+use Rattle.lane.specs.declared.consumer.Taken.{Taken}
 use Rattle.lane.specs.declared.lane.Lane.{Lane}
 use Rattle.lane.specs.declared.lane.Popped.{Popped}
 use Rattle.lane.specs.declared.lane.Popped.the-variants as Popped
@@ -117,6 +118,10 @@ released l = withCounts (l .cached) 0 (l .burst) (l .window) (withCursors (l .ta
 -- the head n items further
 abbrev pub headOn : ℕ → Lane → Lane
 headOn n l = withCursors (l .tail) (l .released) (after (l .head) n) (l .known) l
+
+-- the item at the head, and the lane with the head past it
+abbrev pub pop : Ring → List ℕ → Lane → Taken
+pop ring store l = record { item = itemAt ring store (l .head); lane = headOn 1 l }
 
 -- up to `limit` of the items known of go to the output
 unfoldable pub movedInto : Ring → List ℕ → List ℕ → ℕ → ℕ → Lane → Moved × List ℕ
@@ -265,8 +270,9 @@ endFullBurst l = record { lane = endBurst (eqb (l .burst) 64) l; ended = eqb (l 
 unfoldable pub chunkLimit : ℕ → Lane → ℕ
 chunkLimit C l = min (min (l .cached) (64 - l .burst)) (releaseBatch C - l .unreleased)
 
-unfoldable pub chunkMoved : ℕ → ℕ → Moved × List ℕ → Lane × List ℕ
-chunkMoved C take m = (releaseAtBatch C (addBurst take (charged take (m .0 .lane))) .lane, m .1)
+-- the counts go on by the items moved, and credit goes back at the batch
+unfoldable pub chunkMoved : ℕ → Moved × List ℕ → Moved × List ℕ
+chunkMoved C m = (record { lane = releaseAtBatch C (addBurst (m .0 .moved) (charged (m .0 .moved) (m .0 .lane))) .lane; moved = m .0 .moved }, m .1)
 
-unfoldable pub moveChunk : Ring → List ℕ → List ℕ → ℕ → ℕ → Lane → Lane × List ℕ
-moveChunk ring store out at take l = chunkMoved (ring .capacity) take (movedInto ring store out at take l)
+unfoldable pub moveChunk : Ring → List ℕ → List ℕ → ℕ → ℕ → Lane → Moved × List ℕ
+moveChunk ring store out at take l = chunkMoved (ring .capacity) (movedInto ring store out at take l)

@@ -50,6 +50,12 @@ pub record Filled (C : ℕ) (l : Lane) : Type 0 where
   pub closed : l .window ≡ 0
   pub some : 0 < l .cached
 
+-- a lane that was looked at and has nothing: its window is closed, and all that was published is known
+pub record FoundEmpty (l : Lane) : Type 0 where
+  pub closed : l .window ≡ 0
+  pub none : l .cached ≡ 0
+  pub looked : l .known ≡ l .tail
+
 -- what `close_fast` asks: the window's items are in the counts
 pub record Refundable (l : Lane) : Type 0 where
   pub fits : l .cached + l .window < 2 ^ 64

@@ -13,7 +13,7 @@ pub record Example : Type 0 where
   pub C : ℕ
   pub batch : ℕ
 
--- "Capacity 1: batch 1. 2: 2. 64: 64. 100: C 128, batch 64. 256: 128. 65,536: 32,768."
+-- "P Capacity 1: batch 1. P 2: 2. P 64: 64. P 100: C 128, batch 64. P 256: 128. P 65,536: 32,768."
 abbrev pub examples : List Example
 examples =
     record { capacity = 1; C = 1; batch = 1 }

@@ -10,8 +10,6 @@ use Rattle.lane.specs.Cursor.{after, distance, Capacity}
 use Rattle.lane.specs.declared.ring.Ring.{Ring}
 use Rattle.lane.specs.declared.ring.Push.{Push}
 use Rattle.lane.specs.declared.ring.Push.the-variants.{Pushed, Full}
-use Rattle.lane.specs.declared.ring.Pop.{Pop}
-use Rattle.lane.specs.declared.ring.Pop.the-variants.{Item, Nothing}
 
 -- the ring of a slot: "a ring store of at least S × C u64 words", C of them for each slot
 abbrev pub ringOf : ℕ → ℕ → Ring
@@ -40,10 +38,6 @@ push ring store cursor released item =
     cond (eqb (distance cursor released) (ring .capacity))
     (Full, store)
     (Pushed (after cursor 1), set store (place ring cursor) item)
-
--- the next item of the items known of, if there is one, and the head after it
-unfoldable pub pop : Ring → List ℕ → ℕ → ℕ → Pop
-pop ring store head known = cond (eqb head known) Nothing (Item (itemAt ring store head) (after head 1))
 
 -- the head after n items, and the output with them from place `at` on
 unfoldable pub popInto : Ring → List ℕ → ℕ → ℕ → List ℕ → ℕ → ℕ × List ℕ

@@ -4,7 +4,7 @@ ghost use Prim.Native.Nat.{_+_, _≤_, _<_, min};
 ghost use lib.ListN.{length};
 ghost use Rattle.lane.specs.Cursor.{distance};
 ghost use Rattle.lane.specs.Ring.{Within};
-ghost use Rattle.lane.specs.Lane.{pushAndFlush, prefetch, reload, released, movedInto};
+ghost use Rattle.lane.specs.Lane.{pushAndFlush, prefetch, reload, released, pop, movedInto};
 use crate::lane::Lane;
 use crate::num;
 use crate::ring;
@@ -14,6 +14,11 @@ use crate::ring::Ring;
 pub enum Sent {
     Taken { lane: Lane },
     Full { lane: Lane },
+}
+
+pub struct Taken {
+    pub item: u64,
+    pub lane: Lane,
 }
 
 pub struct Moved {
@@ -36,8 +41,10 @@ impl Lane {
         }
     }
 
-    // Counts what was published since the last look.
-    pub fn prefetch(mut self) -> Lane
+    // Counts what was published since the last look. The Rust looks a second time where there is
+    // nothing, for a sender that waits: serially that finds nothing either.
+    pub(crate) fn prefetch(mut self) -> Lane
+        requires { ⌜ self .cached ≡ 0 ⌝ }
         ensures { λ r. ⌜ r ≡ prefetch self ⌝ }
     {
         self.cached = ring::distance(self.tail, self.known);
@@ -46,7 +53,7 @@ impl Lane {
     }
 
     // Looks again once the items known of are used up.
-    pub fn reload(self) -> Lane
+    pub(crate) fn reload(self) -> Lane
         ensures { λ r. ⌜ r ≡ reload self ⌝ }
     {
         if self.cached == 0 {
@@ -55,8 +62,10 @@ impl Lane {
         self
     }
 
-    // Gives the places of all popped items back.
-    pub fn release(mut self) -> Lane
+    // Gives the places of all popped items back. No window is open, so the unreleased count has no
+    // other items.
+    pub(crate) fn release(mut self) -> Lane
+        requires { ⌜ self .window ≡ 0 ⌝ }
         ensures { λ r. ⌜ r ≡ released self ⌝ }
     {
         self.released = self.head;
@@ -64,8 +73,21 @@ impl Lane {
         self
     }
 
-    // Moves up to `limit` of the items known of to the output.
-    pub fn pop_into(
+    // The item at the head, and the lane with the head past it. The caller knows that there is one.
+    pub(crate) fn pop(mut self, ring: Ring, store: &[u64]) -> Taken
+        requires { ⌜ Within ring (length (now store)) ⌝ }
+        ensures { λ r. ⌜ r ≡ pop ring (now (store .entry)) self ⌝ }
+    {
+        let item = ring.item_at(store, self.head);
+        self.head = ring::after(self.head, 1);
+        Taken {
+            item: item,
+            lane: self,
+        }
+    }
+
+    // Moves up to `limit` of the items known of to the output; the counts are the caller's.
+    pub(crate) fn pop_into(
         mut self,
         ring: Ring,
         store: &[u64],

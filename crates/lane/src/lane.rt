@@ -5,7 +5,7 @@ ghost use Prim.Native.Nat.{_+_, _-_, _≤_, _<_};
 ghost use lib.ListN.{length};
 ghost use Rattle.lane.specs.Cursor.{Capacity};
 ghost use Rattle.lane.specs.Ring.{Within};
-ghost use Rattle.lane.specs.Order.{InOrder, Filled, Refundable};
+ghost use Rattle.lane.specs.Order.{InOrder, Filled, FoundEmpty, Refundable};
 ghost use Rattle.lane.specs.Lane.{
   newLane,
   closeFast,
@@ -31,6 +31,7 @@ ghost use Rattle.lane.specs.Lane.{
   moveChunk,
   settleEmpty,
 };
+use crate::consumer::Moved;
 use crate::num;
 use crate::release::release_batch;
 use crate::ring;
@@ -171,19 +172,19 @@ impl Lane {
     }
 
     // Pops the next item of the window, if one is open.
-    pub fn pop_fast(mut self, ring: Ring, store: &[u64]) -> Popped
+    pub fn pop_fast(self, ring: Ring, store: &[u64]) -> Popped
         requires { ⌜ Within ring (length (now store)) ⌝ }
         ensures { λ r. ⌜ r ≡ popFast ring (now (store .entry)) self ⌝ }
     {
         if self.window == 0 {
             return Popped::Nothing { lane: self };
         }
-        let item = ring.item_at(store, self.head);
-        self.head = ring::after(self.head, 1);
-        self.window -= 1;
+        let taken = self.pop(ring, store);
+        let mut lane = taken.lane;
+        lane.window -= 1;
         Popped::Item {
-            item: item,
-            lane: self,
+            item: taken.item,
+            lane: lane,
         }
     }
 
@@ -230,7 +231,7 @@ impl Lane {
 
     // Gives credit back where the unreleased count has reached the batch.
     fn release_at_batch(self, capacity: u64) -> Released
-        requires { ⌜ Capacity capacity ⌝ }
+        requires { ⌜ Capacity capacity × (self .window ≡ 0) ⌝ }
         ensures { λ r. ⌜ r ≡ releaseAtBatch capacity self ⌝ }
     {
         if self.unreleased == release_batch(capacity) {
@@ -309,16 +310,15 @@ impl Lane {
     }
 
     // Pops the next item of a lane that `refill` found ready, and leaves the burst alone.
-    pub fn pop_targeted(mut self, ring: Ring, store: &[u64]) -> Targeted
+    pub fn pop_targeted(self, ring: Ring, store: &[u64]) -> Targeted
         requires { ⌜ Within ring (length (now store)) × Filled (ring .capacity) self ⌝ }
         ensures { λ r. ⌜ r ≡ popTargeted ring (now (store .entry)) self ⌝ }
     {
-        let item = ring.item_at(store, self.head);
-        self.head = ring::after(self.head, 1);
-        let done = self.charge(1).release_at_batch(ring.capacity);
+        let taken = self.pop(ring, store);
+        let done = taken.lane.charge(1).release_at_batch(ring.capacity);
         let lane = done.lane;
         Targeted {
-            item: item,
+            item: taken.item,
             lane: lane,
             released: done.released,
         }
@@ -391,7 +391,8 @@ impl Lane {
     }
 
     // Moves `take` items of a lane that `refill` found ready to the output, from place `at` on.
-    // Every item is admitted, so that as many are moved as were asked for.
+    // Every item is admitted, so that as many are moved as were asked for. A burst that it fills is
+    // ended by `end_full_burst`.
     pub fn move_chunk(
         self,
         ring: Ring,
@@ -399,20 +400,27 @@ impl Lane {
         out: &mut [u64],
         at: usize,
         take: u64,
-    ) -> Lane
+    ) -> Moved
         requires { ⌜ Within ring (length (now store)) × Filled (ring .capacity) self × (take ≤ chunkLimit (ring .capacity) self) × (at + take ≤ length (now out)) ⌝ }
         ensures { λ r. ⌜ (r, now (out .exit)) ≡ moveChunk ring (now (store .entry)) (now (out .entry)) at take self ⌝ }
     {
-        let lane = self.pop_into(ring, store, out, at, take).lane;
-        lane.charge(take)
-            .add_burst(take)
-            .release_at_batch(ring.capacity)
+        let chunk = self.pop_into(ring, store, out, at, take);
+        let moved = chunk.moved;
+        let done = chunk
             .lane
+            .charge(moved)
+            .add_burst(moved)
+            .release_at_batch(ring.capacity);
+        let lane = done.lane;
+        Moved {
+            lane: lane,
+            moved: moved,
+        }
     }
 
     // Settles a lane that was found empty: credit back, signal idle, burst 0, out of the queue.
-    pub fn settle_empty(self) -> EmptyLane
-        requires { ⌜ Refundable self ⌝ }
+    fn settle_empty(self) -> EmptyLane
+        requires { ⌜ FoundEmpty self ⌝ }
         ensures { λ r. ⌜ r ≡ settleEmpty self ⌝ }
     {
         let done = self.release_pending();

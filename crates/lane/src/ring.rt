@@ -4,7 +4,7 @@ ghost use Prim.Native.Nat.{_+_, _*_, _^_, _≤_, _<_};
 ghost use lib.ListN.{length, set};
 ghost use Rattle.lane.specs.Lists.{tab, written};
 ghost use Rattle.lane.specs.Cursor.{after, distance, Capacity};
-ghost use Rattle.lane.specs.Ring.{Within, ringOf, place, itemAt, run, push, pop, popInto};
+ghost use Rattle.lane.specs.Ring.{Within, ringOf, place, itemAt, run, push, popInto};
 
 // Where a lane's ring lies in the ring store.
 pub struct Ring {
@@ -15,11 +15,6 @@ pub struct Ring {
 pub enum Push {
     Pushed { cursor: u64 },
     Full,
-}
-
-pub enum Pop {
-    Item { item: u64, head: u64 },
-    Nothing,
 }
 
 // How far `to` stands after `from`.
@@ -78,20 +73,6 @@ impl Ring {
     {
         let at = self.index(cursor);
         store[at]
-    }
-
-    // Takes the next of the items up to `known`, if there is one.
-    pub fn pop(self, store: &[u64], head: u64, known: u64) -> Pop
-        requires { ⌜ Within self (length (now store)) ⌝ }
-        ensures { λ r. ⌜ r ≡ pop self (now (store .entry)) head known ⌝ }
-    {
-        if head == known {
-            return Pop::Nothing;
-        }
-        Pop::Item {
-            item: self.item_at(store, head),
-            head: after(head, 1),
-        }
     }
 
     // Moves the `count` items from the head on to the output: up to the ring's end, then from its start.

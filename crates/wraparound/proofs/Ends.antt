@@ -8,7 +8,7 @@ use native.Mathlib.Omega.{arith}
 use borrow.Author.Tests.{eqb-true, eqb-false}
 use lib.Dec.{eqb}
 use lib.ListN.{set}
-use Rattle.model.specs.Capacity.{releaseBatch}
+use Rattle.model.specs.State.{releaseBatch}
 use Rattle.lane.specs.Cursor.{after, distance}
 use Rattle.lane.specs.Ring.{place, push}
 use Rattle.lane.specs.Lane.{pushAndFlush, sent, poll, pollRefilled, pollItem, polled, popTargeted, targeted, refill, readyOrIdle, reload, prefetch, closeFast, settleEmpty, emptied, settled, releasePending, releaseAny, released, releaseAtBatch, charged, headOn, addBurst, endBurst, endFullBurst, chunkLimit, chunkMoved, moveChunk, movedInto}
@@ -22,6 +22,7 @@ use Rattle.lane.specs.declared.lane.Refill.{Refill}
 use Rattle.lane.specs.declared.lane.Refill.the-variants as Refill
 use Rattle.lane.specs.declared.lane.LanePoll.{LanePoll}
 use Rattle.lane.specs.declared.lane.LanePoll.the-variants as LanePoll
+use Rattle.lane.specs.declared.consumer.Moved.{Moved}
 use Rattle.lane.specs.declared.consumer.Sent.{Sent}
 use Rattle.lane.specs.declared.consumer.Sent.the-variants as Sent
 use Rattle.lane.proofs.CursorLaws.{behind-after, ahead-after}
@@ -202,7 +203,7 @@ module _ (ring : Ring) (small : ring .capacity ≤ 65536) (store : List ℕ) (l 
   unfolding chunkLimit
   chunk-most = omega arith
 
-  chunk-less : (out : List ℕ) (at : ℕ) → held (endFullBurst ((moveChunk ring store out at (chunkLimit (ring .capacity) l) l) .0) .lane) < held l
+  chunk-less : (out : List ℕ) (at : ℕ) → held (endFullBurst ((moveChunk ring store out at (chunkLimit (ring .capacity) l) l) .0 .lane) .lane) < held l
   unfolding moveChunk chunkMoved movedInto endFullBurst
   chunk-less out at =
       let take : ℕ = chunkLimit (ring .capacity) l in
@@ -215,12 +216,12 @@ module _ (ring : Ring) (small : ring .capacity ≤ 65536) (store : List ℕ) (l 
       (cached-ahead (f .order .counts) take (chunk-within ring small store l f take (omega arith) .0)) (b .0 ∙ a .0) (b .1 ∙ a .1))
 
   -- a chunk taken leaves fewer
-  pub chunk-taken : (out after-out : List ℕ) (at take : ℕ) (moved m : Lane) → take ≡ chunkLimit (ring .capacity) l → (moved, after-out) ≡ moveChunk ring store out at take l
-      → m ≡ endFullBurst moved .lane → InOrder (ring .capacity) m × (held m < held l)
+  pub chunk-taken : (out after-out : List ℕ) (at take : ℕ) (moved : Moved) (m : Lane) → take ≡ chunkLimit (ring .capacity) l → (moved, after-out) ≡ moveChunk ring store out at take l
+      → m ≡ endFullBurst (moved .lane) .lane → InOrder (ring .capacity) m × (held m < held l)
   chunk-taken out after-out at take moved m t e g =
       let limit : ℕ = chunkLimit (ring .capacity) l in
-      let p : moved ≡ (moveChunk ring store out at limit l) .0 = ap (λ (x : Lane × List ℕ). x .0) e ∙ ap (λ (n : ℕ). (moveChunk ring store out at n l) .0) t in
-      let q : m ≡ endFullBurst ((moveChunk ring store out at limit l) .0) .lane = g ∙ ap (λ (n : Lane). endFullBurst n .lane) p in
+      let p : moved ≡ (moveChunk ring store out at limit l) .0 = ap (λ (x : Moved × List ℕ). x .0) e ∙ ap (λ (n : ℕ). (moveChunk ring store out at n l) .0) t in
+      let q : m ≡ endFullBurst ((moveChunk ring store out at limit l) .0 .lane) .lane = g ∙ ap (λ (n : Moved). endFullBurst (n .lane) .lane) p in
       rw q (move-chunk-keeps ring small store l f limit (omega arith) out at, chunk-less out at)
 
 module _ (ring : Ring) (small : ring .capacity ≤ 65536) (store : List ℕ) (l : Lane) (o : InOrder (ring .capacity) l) where

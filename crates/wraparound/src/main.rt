@@ -108,7 +108,8 @@ fn receive_chunk(run: Run, lane: Lane, ring: Ring, store: &[u64; 64]) -> Run
     let take = lane.chunk_limit(ring.capacity);
     let moved = lane.move_chunk(ring, store, &mut out, 0, take);
     let good = numbered(&out, take as usize, run.due);
-    let ended = moved.end_full_burst();
+    let chunk = moved.lane;
+    let ended = chunk.end_full_burst();
     let next = ended.lane;
     Run {
         lane: next,

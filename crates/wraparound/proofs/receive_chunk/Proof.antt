@@ -15,7 +15,7 @@ numbered-requires : tie.Need-numbered-requires
 numbered-requires c κs = omega (arith, c .before .before .before .before .before .chunk-limit .ensures, chunk-most (c .before .before .before .before .before .before .args .ring) (c .before .before .before .before .before .before .pre .0 .power .most) (c .before .before .before .before .before .before .args .store .now) (c .before .before .before .before .before .before .args .lane) (c .before .before .before .before .before .before .pre .1))
 
 returns : tie.Need-returns
-returns c = chunk-taken _ (c .before .before .before .before .before .before .before .before .before .before .before .pre .0 .power .most) _ _ (c .before .before .before .before .before .before .before .before .before .before .before .pre .1) _ _ _ _ _ _ (c .before .before .before .before .before .before .before .before .before .before .chunk-limit .ensures) (c .before .before .before .before .before .before .before .move-chunk .ensures) (ap (λ (b : BurstEnd). b .lane) (c .before .before .before .end-full-burst .ensures))
+returns c = chunk-taken _ (c .before .before .before .before .before .before .before .before .before .before .before .before .pre .0 .power .most) _ _ (c .before .before .before .before .before .before .before .before .before .before .before .before .pre .1) _ _ _ _ _ _ (c .before .before .before .before .before .before .before .before .before .before .before .chunk-limit .ensures) (c .before .before .before .before .before .before .before .before .move-chunk .ensures) (ap (λ (b : BurstEnd). b .lane) (c .before .before .before .end-full-burst .ensures))
 
 pub receive-chunk-spec : {M : Type 1} → statement M
 receive-chunk-spec =

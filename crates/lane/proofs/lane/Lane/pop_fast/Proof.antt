@@ -12,12 +12,11 @@ returns c = simp (eq-eqb _ _ (c .if1 .taken))
 
 returns-2 : tie.Need-returns-2
 unfolding popFast
-returns-2 c = simp (ne-eqb _ _ (c .before .before .before .if1 .left), c .before .before .item-at .ensures, c .before .after .ensures)
+returns-2 c = simp (ne-eqb _ _ (c .before .before .before .if1 .left), c .before .before .pop .ensures)
 
 pub pop-fast-spec : {M : Type 1} → statement M
 pop-fast-spec = tie.close (tie.spec
     returns
     (λ c κs. search needs)
-    (λ c κs. search needs)
-    (λ c. search needs)
+    (λ c. rw (c .before .before .pop .ensures) (search needs))
     returns-2)

@@ -1,15 +1,15 @@
 -- `lane::lane::Lane::refill` meets its contract.
 -- Assumes nothing.
-use Rattle.lane.proofs.OrderLaws.{refundable-closed}
+use Rattle.lane.proofs.OrderLaws.{reload-found-empty}
 use Rattle.lane.specs.Lane.{refill, readyOrIdle, reload}
-use mathlib.Core.Path.{_≡_, _∙_, ap, sym}
+use mathlib.Core.Path.{_≡_, refl, _∙_, ap}
 use borrow.Author.Tests.{eq-eqb, ne-eqb}
 use borrow.Author.Needs.{needs}
 use Rattle.lane.proofs.lane.Lane.refill.Statement.{statement}
 use Rattle.lane.proofs.lane.Lane.refill.Tie as tie
 
 settle-empty-requires : tie.Need-settle-empty-requires
-settle-empty-requires c κs = rw (c .before .before .reload .ensures, c .before .before .before .close-fast .ensures) (refundable-closed _ (c .before .before .before .before .pre))
+settle-empty-requires c κs = rw (c .before .before .reload .ensures) (reload-found-empty _ (rw (c .before .before .before .close-fast .ensures) refl) (rw (← c .before .before .reload .ensures) (c .if1 .taken)))
 
 returns : tie.Need-returns
 unfolding refill readyOrIdle

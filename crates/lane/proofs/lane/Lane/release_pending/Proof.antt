@@ -1,7 +1,7 @@
 -- `lane::lane::Lane::release_pending` meets its contract.
 -- Assumes nothing.
 use Rattle.lane.specs.Lane.{releasePending, releaseAny}
-use mathlib.Core.Path.{_≡_, _∙_, ap, sym}
+use mathlib.Core.Path.{_≡_, refl, _∙_, ap}
 use borrow.Author.Tests.{eq-eqb, ne-eqb}
 use borrow.Author.Needs.{needs}
 use Rattle.lane.proofs.lane.Lane.release_pending.Statement.{statement}
@@ -19,5 +19,5 @@ pub release-pending-spec : {M : Type 1} → statement M
 release-pending-spec = tie.close (tie.spec
     (λ c κs. search needs)
     returns
-    (λ c κs. search needs)
+    (λ c κs. rw (c .before .before .close-fast .ensures) refl)
     returns-2)
