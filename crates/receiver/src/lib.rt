@@ -2,5 +2,3 @@
 pub mod refusal;
 pub mod sender;
 pub mod registry;
-pub mod lane_control;
-pub mod batch;
