@@ -1,8 +1,9 @@
 -- "Ready marks": page and group words, marking a lane, collecting the marked ones.
 -- Assumes nothing.
+use mathlib.Core.Path.{_≡_}
 use mathlib.Core.Bool.{Bool, true, false, cond, _&&_}
 use mathlib.Core.List.{List, [], _∷_, foldl}
-use Prim.Native.Nat.{ℕ, zero, suc, _+_, _*_, _/_, _%_}
+use Prim.Native.Nat.{ℕ, zero, suc, _+_, _*_, _/_, _%_, _<_}
 use lib.Dec.{eqb, ltb}
 use Rattle.lane.specs.Table.{laneWords, cell, setCell, laneAt, putLane}
 use Rattle.lane.specs.declared.lane.Lane.{Lane}
@@ -74,6 +75,20 @@ openedGroup t page = cond (eqb (page % 64) 0) (setCell t groupColumn (page / 64)
 
 unfoldable pub openedPage : List ℕ → ℕ → List ℕ
 openedPage t slot = cond (eqb (slot % 64) 0) (openedGroup (setCell t pageColumn (slot / 64) 0) (slot / 64)) t
+
+-- 0 of 0, and 1 of every other number
+abbrev pub nonZero : ℕ → ℕ
+nonZero zero = 0
+nonZero (suc n) = 1
+
+-- What a store in order has of its marks. A word of a page or group that does not exist is any number.
+pub record Linked (t : List ℕ) : Type 0 where
+  -- "a page bit is of an issued slot"
+  pub of-issued : (slot : ℕ) → 64 * (slot / 64) < issued t → pageBit t slot ≡ 1 → slot < issued t
+  -- "a page is non-zero exactly if its group bit is set"
+  pub linked : (page : ℕ) → 64 * page < issued t → groupBit t page ≡ nonZero (pageWord t page)
+  -- a group bit is of a page that exists
+  pub of-pages : (page : ℕ) → 4096 * (page / 64) < issued t → groupBit t page ≡ 1 → 64 * page < issued t
 
 -- "a lane that is pending, unpaused and unqueued"
 unfoldable pub wantedLane : Lane → Bool

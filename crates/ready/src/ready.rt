@@ -4,6 +4,7 @@ ghost use Prim.Native.Nat.{_+_, _*_, _/_, _^_, _≤_, _<_};
 ghost use lib.ListN.{length};
 ghost use Rattle.lane.specs.Table.{HasRow};
 ghost use Rattle.ready.specs.Header.{Shaped, slots, queueCount, issued};
+ghost use Rattle.ready.specs.Queue.{QueueNames};
 ghost use Rattle.ready.specs.Bits.{withBit};
 ghost use Rattle.ready.specs.Ready.{
   emptyPage,
@@ -18,10 +19,17 @@ ghost use Rattle.ready.specs.Ready.{
   marked,
   openedGroup,
   openedPage,
+  Linked,
   wantedLane,
   wanted,
   queuedLane,
   enqueued,
+  offered,
+  collectedPage,
+  collectedGroup,
+  groupsOf,
+  groupAt,
+  collectReady,
 };
 use crate::header::Header;
 use crate::queue;
@@ -88,6 +96,8 @@ pub struct Group {
 
 impl Group {
     pub const PAGES_PER_GROUP: usize = 64;
+
+    pub const LANES_PER_GROUP: u64 = 4096;
 
     // The column of the rows that holds the group words.
     pub const COLUMN: usize = Lane::LANE_WORDS + 3;
@@ -206,4 +216,79 @@ pub fn enqueue(t: &mut [u64], slot: u64)
     let l = Lane::load(t, slot);
     queued_lane(l).store(t);
     queue::push_back(t, slot);
+}
+
+fn offer(t: &mut [u64], slot: u64)
+    requires { ⌜ Shaped (now t) × QueueNames (now t) ⌝ }
+    ensures { λ _. ⌜ now (t .exit) ≡ offered (now (t .entry)) slot ⌝ }
+{
+    if wants(t, slot) {
+        enqueue(t, slot);
+    }
+}
+
+// Takes a page and offers its lanes, lowest bit first.
+fn collect_page(t: &mut [u64], id: usize)
+    requires { ⌜ Shaped (now t) × QueueNames (now t) × (64 * id < issued (now t)) ⌝ }
+    ensures { λ _. ⌜ now (t .exit) ≡ collectedPage (now (t .entry)) id ⌝ }
+{
+    let mut bits = Page::load(t, id).bits;
+    Page::new(id).store(t);
+    while bits != 0 {
+        let lane = u64::trailing_zeros(bits) as usize;
+        bits = bits & (bits - 1);
+        offer(t, (Page::LANES_PER_PAGE * id + lane) as u64);
+    }
+}
+
+// Takes a group and collects its pages, lowest bit first.
+fn collect_group(t: &mut [u64], id: usize)
+    requires { ⌜ Shaped (now t) × QueueNames (now t) × Linked (now t) × (4096 * id < issued (now t)) ⌝ }
+    ensures { λ _. ⌜ now (t .exit) ≡ collectedGroup (now (t .entry)) id ⌝ }
+{
+    let mut bits = Group::load(t, id).bits;
+    Group::new(id).store(t);
+    while bits != 0 {
+        let page = u64::trailing_zeros(bits) as usize;
+        bits = bits & (bits - 1);
+        collect_page(t, Group::PAGES_PER_GROUP * id + page);
+    }
+}
+
+// How many groups have an issued slot.
+fn group_count(issued: u64) -> u64
+    requires { ⌜ issued ≤ 8192 ⌝ }
+    ensures { λ r. ⌜ r ≡ groupsOf issued ⌝ }
+{
+    (issued + (Group::LANES_PER_GROUP - 1)) / Group::LANES_PER_GROUP
+}
+
+// The group that `next` stands at, of `n`: past the last it starts again.
+fn group_at(n: u64, next: u64) -> u64
+    requires { ⌜ 0 < n ⌝ }
+    ensures { λ r. ⌜ (r ≡ groupAt n next) × (r < n) ⌝ }
+{
+    if next < n { next } else { 0 }
+}
+
+// Collects from the group cursor round: all groups, or the first that has bits.
+pub fn collect_ready(t: &mut [u64], all: bool)
+    requires { ⌜ Shaped (now t) × QueueNames (now t) × Linked (now t) ⌝ }
+    ensures { λ _. ⌜ now (t .exit) ≡ collectReady all (now (t .entry)) ⌝ }
+{
+    let n = group_count(t[Header::ISSUED]);
+    let mut left = n;
+    let mut next = t[Header::GROUP];
+    while left != 0 {
+        left = left - 1;
+        let group = group_at(n, next);
+        next = group + 1;
+        if Group::load(t, group as usize).bits != 0 {
+            collect_group(t, group as usize);
+            t[Header::GROUP] = next;
+            if !all {
+                return;
+            }
+        }
+    }
 }

@@ -1,0 +1,166 @@
+-- A lane offered to the queue: what that leaves as it was, what it makes of the queue, and that the queue still names each lane once.
+-- Assumes nothing.
+use mathlib.Core.Path.{_≡_, refl, sym, ap, ap₂, _∙_, subst}
+use mathlib.Core.Bool.{Bool, true, false, cond, _&&_}
+use mathlib.Core.List.{List, [], _∷_, _++_, foldl, append-nil}
+use Prim.Native.Nat.{ℕ, zero, suc, _+_, _*_, _≤_, _<_}
+use native.Mathlib.Omega.{arith}
+use borrow.Author.Tests.{ltb-true, lt-ltb, le-leb, eqb-true, ne-eqb}
+use lib.Dec.{ltb, leb, eqb}
+use lib.ListN.{length}
+use Rattle.model.specs.Lists as rules
+use Rattle.model.proofs.Counting.{Same, equal, other, same?, same-self, count-append}
+use Rattle.lane.specs.declared.lane.Lane.{Lane}
+use Rattle.lane.specs.Table.{headerWords, rowWords, laneWords, head, cellAt, cell, setCell, laneAt, putLane}
+use Rattle.lane.proofs.TableLaws.{frames}
+use Rattle.ready.specs.Header.{Shaped, issued, queueCount, slots}
+use Rattle.ready.specs.Queue.{queueColumn, queueOf, pushedBack, QueueNames}
+use Rattle.ready.specs.Registry.{freeOf}
+use Rattle.ready.specs.Ready.{wantedLane, wanted, queuedLane, enqueued, offered}
+use Rattle.ready.proofs.QueueLaws.{queue-frames, queue-pushed-back, queue-has-room, shaped-pushed-back, shaped-putLane}
+
+-- ---- a wanted slot
+
+and-both : (a b : Bool) → (a && b) ≡ true → (a ≡ true) × (b ≡ true)
+and-both true b e = (refl, e)
+and-both false b e = let z : _≡_ {A = ℕ} 0 1 = ap (λ (x : Bool). cond x 1 0) e in absurd (omega arith)
+
+pub record Wants (t : List ℕ) (x : ℕ) : Type 0 where
+  pub is-issued : x < issued t
+  pub registered : laneAt t x .registered ≡ 1
+  pub unqueued : laneAt t x .queued ≡ 0
+
+pub wants : (t : List ℕ) (x : ℕ) → wanted t x ≡ true → Wants t x
+unfolding wanted wantedLane
+wants t x e =
+    let l = laneAt t x in
+    let a = and-both (ltb x (issued t)) (wantedLane l) e in
+    let b = and-both (eqb (l .registered) 1) (eqb (l .pending) 1 && (eqb (l .paused) 0 && eqb (l .queued) 0)) (a .1) in
+    let c = and-both (eqb (l .pending) 1) (eqb (l .paused) 0 && eqb (l .queued) 0) (b .1) in
+    let d = and-both (eqb (l .paused) 0) (eqb (l .queued) 0) (c .1) in
+    record {
+      is-issued = ltb-true x (issued t) (a .0);
+      registered = eqb-true (l .registered) 1 (b .0);
+      unqueued = eqb-true (l .queued) 0 (d .1);
+    }
+
+-- ---- a lane that goes to the back of the queue
+
+module _ (t : List ℕ) (x : ℕ) where
+  length-enqueued : length (enqueued t x) ≡ length t
+  unfolding enqueued
+  length-enqueued = simp (queue-frames, frames)
+
+  head-enqueued : (k : ℕ) → ltb k headerWords ≡ true → eqb 2 k ≡ false → head (enqueued t x) k ≡ head t k
+  unfolding enqueued
+  head-enqueued k p n = simp (queue-frames, frames, p, n)
+
+  -- the columns past the queue's
+  cell-enqueued : (c row : ℕ) → leb laneWords c ≡ true → ltb c rowWords ≡ true → eqb queueColumn c ≡ false → cell (enqueued t x) c row ≡ cell t c row
+  unfolding enqueued
+  cell-enqueued c row a p n = simp (queue-frames, frames, a, p, n)
+
+  lane-enqueued : leb (cellAt rowWords x) (length t) ≡ true → laneAt (enqueued t x) x ≡ queuedLane (laneAt t x)
+  unfolding enqueued
+  lane-enqueued r = simp (queue-frames, frames, r)
+
+  other-enqueued : (y : ℕ) → eqb y x ≡ false → laneAt (enqueued t x) y ≡ laneAt t y
+  unfolding enqueued
+  other-enqueued y n = simp (queue-frames, frames, n)
+
+-- the queue has room for a wanted slot
+pub wants-room : (t : List ℕ) (x : ℕ) → Shaped t → QueueNames t → Wants t x → queueCount t < slots t
+wants-room t x s q w =
+    queue-has-room t s q x (w .is-issued) (sym (q .flagged x (w .is-issued) (w .registered)) ∙ w .unqueued)
+
+-- ---- what offering leaves: all but the lanes' queued words, the queue's places and its count
+
+pub record Rest (t u : List ℕ) : Type 0 where
+  pub long : length u ≡ length t
+  pub heads : (k : ℕ) → ltb k headerWords ≡ true → eqb 2 k ≡ false → head u k ≡ head t k
+  pub cells : (c row : ℕ) → leb laneWords c ≡ true → ltb c rowWords ≡ true → eqb queueColumn c ≡ false → cell u c row ≡ cell t c row
+  pub lanes : (y : ℕ) → queuedLane (laneAt u y) ≡ queuedLane (laneAt t y)
+
+pub rest-self : (t : List ℕ) → Rest t t
+rest-self t = record { long = refl; heads = λ k p n. refl; cells = λ c row a p n. refl; lanes = λ y. refl }
+
+pub rest-then : {t u v : List ℕ} → Rest t u → Rest u v → Rest t v
+rest-then a b =
+    record {
+      long = b .long ∙ a .long;
+      heads = λ k p n. b .heads k p n ∙ a .heads k p n;
+      cells = λ c row l p n. b .cells c row l p n ∙ a .cells c row l p n;
+      lanes = λ y. b .lanes y ∙ a .lanes y;
+    }
+
+-- an offer does one of two things
+pub offered-case : (P : List ℕ → Type 0) (t : List ℕ) (x : ℕ) → (wanted t x ≡ true → P (enqueued t x)) → (wanted t x ≡ false → P t) → P (offered t x)
+unfolding offered
+offered-case P t x f g = go (wanted t x) refl
+  where
+    go : (b : Bool) → wanted t x ≡ b → P (cond b (enqueued t x) t)
+    go true e = f e
+    go false e = g e
+
+module _ (t : List ℕ) (x : ℕ) (s : Shaped t) where
+  -- a wanted slot's row lies within the table
+  row-of : Wants t x → leb (cellAt rowWords x) (length t) ≡ true
+  row-of w = le-leb (cellAt rowWords x) (length t) (omega (arith, s .issued-most, s .room, w .is-issued))
+
+  rest-enqueued : Wants t x → Rest t (enqueued t x)
+  rest-enqueued w =
+      record {
+        long = length-enqueued t x;
+        heads = head-enqueued t x;
+        cells = cell-enqueued t x;
+        lanes = λ y. elim (same? y x) [
+          | equal e p i ↦ rw e (ap queuedLane (lane-enqueued t x (row-of w)))
+          | other d p i ↦ ap queuedLane (other-enqueued t x y p)
+        ];
+      }
+
+  pub rest-offered : Rest t (offered t x)
+  rest-offered = offered-case (Rest t) t x (λ e. rest-enqueued (wants t x e)) (λ e. rest-self t)
+
+  module _ (q : QueueNames t) where
+    module _ (w : Wants t x) where
+      shaped-enqueued : Shaped (enqueued t x)
+      unfolding enqueued
+      shaped-enqueued = shaped-pushed-back (putLane t (queuedLane (laneAt t x))) (shaped-putLane t s _) x (simp frames (wants-room t x s q w))
+
+      queue-enqueued : queueOf (enqueued t x) ≡ queueOf t ++ (x ∷ [])
+      unfolding enqueued
+      queue-enqueued =
+          queue-pushed-back (putLane t (queuedLane (laneAt t x))) (shaped-putLane t s _) x (simp frames (wants-room t x s q w)) ∙ simp queue-frames
+
+      none-before : rules.count x (queueOf t) ≡ 0
+      none-before = sym (q .flagged x (w .is-issued) (w .registered)) ∙ w .unqueued
+
+      count-enqueued : (y : ℕ) → rules.count y (queueOf (enqueued t x)) ≡ rules.count y (queueOf t) + rules.same y x
+      unfolding rules.count
+      count-enqueued y = ap (rules.count y) queue-enqueued ∙ count-append y (queueOf t) (x ∷ []) ∙ omega arith
+
+      names-enqueued : QueueNames (enqueued t x)
+      names-enqueued =
+          record {
+            once = λ y. elim (same? y x) [
+              | equal e p i ↦ rw e (omega (arith, count-enqueued x, none-before, same-self x))
+              | other d p i ↦ omega (arith, count-enqueued y, q .once y)
+            ];
+            issued-only = λ y h. elim (same? y x) [
+              | equal e p i ↦ rw (e, head-enqueued t x 0 refl refl) (w .is-issued)
+              | other d p i ↦ rw (head-enqueued t x 0 refl refl) (q .issued-only y (omega (arith, count-enqueued y)))
+            ];
+            flagged = λ y h r. elim (same? y x) [
+              | equal e p i ↦ rw (e, lane-enqueued t x (row-of w)) (omega (arith, count-enqueued x, none-before, same-self x))
+              | other d p i ↦
+                  rw (other-enqueued t x y p)
+                  (q .flagged y (rw (head-enqueued t x 0 refl refl) at h) (rw (other-enqueued t x y p) at r) ∙ omega (arith, count-enqueued y))
+            ];
+          }
+
+    pub shaped-offered : Shaped (offered t x)
+    shaped-offered = offered-case Shaped t x (λ e. shaped-enqueued (wants t x e)) (λ e. s)
+
+    pub names-offered : QueueNames (offered t x)
+    names-offered = offered-case QueueNames t x (λ e. names-enqueued (wants t x e)) (λ e. q)
