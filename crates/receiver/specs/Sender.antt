@@ -2,7 +2,8 @@
 -- Assumes nothing.
 use mathlib.Core.Bool.{Bool, true, false, cond}
 use mathlib.Core.List.{List}
-use Prim.Native.Nat.{ℕ, _+_, _-_}
+use mathlib.Core.Path.{_≡_}
+use Prim.Native.Nat.{ℕ, _+_, _-_, _<_}
 use lib.Dec.{eqb, leb, ltb}
 use Rattle.model.specs.declared.LaneKey.{LaneKey}
 use Rattle.model.specs.declared.Refusal.the-variants as Refusal
@@ -85,6 +86,15 @@ unfoldable pub slotVerdict : List ℕ → ℕ → Verdict
 slotVerdict t most =
     cond (leb most (laneCount t)) (Refuse Refusal.AtCapacity)
     (cond (eqb (freeCount t) 0) (unusedVerdict (issued t) (slots t)) (olderVerdict (laneAt t (lastFreed t))))
+
+-- the slot freed last is an issued one, and had a generation below the last
+pub record FreeIssued (t : List ℕ) : Type 0 where
+  pub freed-issued : 0 < freeCount t → lastFreed t < issued t
+  pub freed-generation : 0 < freeCount t → laneAt t (lastFreed t) .key .generation < 18446744073709551615
+
+-- there is a slot to issue
+abbrev pub SlotDue : List ℕ → Type 0
+SlotDue t = freeCount t ≡ 0 → issued t < slots t
 
 -- the key that is due: "the one freed last is issued first, with generation + 1; else the next unused"
 unfoldable pub dueKey : List ℕ → LaneKey

@@ -1,4 +1,4 @@
 // The receiver's calls on a store in order.
 pub mod refusal;
-pub mod sender;
 pub mod registry;
+pub mod sender;
