@@ -1,0 +1,2 @@
+pub mod SenderBounds
+pub mod OpeningBounds
