@@ -255,7 +255,7 @@ module _ (t r : List ℕ) (s : Shaped t) (x : ℕ) (h : x < issued t) where
 
 -- ---- the queue
 
-without-alike : (x : ℕ) (q : List ℕ) → words.without x q ≡ rules.without x q
+pub without-alike : (x : ℕ) (q : List ℕ) → words.without x q ≡ rules.without x q
 unfolding rules.without rules.keep
 without-alike x [] = refl
 without-alike x (y ∷ q) = go (same? x y) (without-alike x q)
