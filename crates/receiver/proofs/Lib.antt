@@ -1,3 +1,5 @@
 pub mod ViewLaws
 pub mod RefusalLaws
 pub mod StepLaws
+pub mod CountLaws
+pub mod StoreLaws
