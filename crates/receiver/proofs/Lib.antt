@@ -3,3 +3,4 @@ pub mod RefusalLaws
 pub mod StepLaws
 pub mod CountLaws
 pub mod StoreLaws
+pub mod IssueLaws
