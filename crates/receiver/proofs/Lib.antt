@@ -1,2 +1,8 @@
+pub mod ViewLaws
+pub mod RefusalLaws
+pub mod StepLaws
+pub mod CountLaws
+pub mod StoreLaws
+pub mod IssueLaws
 pub mod SenderBounds
 pub mod OpeningBounds
