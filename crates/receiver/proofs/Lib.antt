@@ -6,3 +6,5 @@ pub mod StoreLaws
 pub mod IssueLaws
 pub mod SenderBounds
 pub mod OpeningBounds
+pub mod SignalLaws
+pub mod SendLaws
