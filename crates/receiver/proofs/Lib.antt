@@ -8,3 +8,4 @@ pub mod SenderBounds
 pub mod OpeningBounds
 pub mod SignalLaws
 pub mod SendLaws
+pub mod DropLaws
