@@ -32,10 +32,10 @@ use Rattle.ready.proofs.BitLaws.{bit-zero}
 use Rattle.ready.proofs.QueueLaws.{queue-frames, header-in}
 use Rattle.ready.proofs.RegistryLaws.{registry-frames}
 use Rattle.receiver.specs.View.{flag, slotOf, slotAt, view}
-use Rattle.receiver.specs.Order.{Flags, Fast, Stores}
+use Rattle.receiver.specs.Order.{Flags, Fast, MarkWords, Stores}
 use Rattle.receiver.proofs.ViewLaws.{row-in, view-put-lane, put-put}
 use Rattle.receiver.proofs.CountLaws.{one, registered-more, living-more}
-use Rattle.receiver.proofs.StepLaws.{linked-by}
+use Rattle.receiver.proofs.StepLaws.{linked-by, mark-words-by}
 use Rattle.receiver.proofs.StoreLaws.{registered-by, living-by}
 
 -- ---- the page and the group of a slot opened
@@ -224,6 +224,30 @@ module _ (t : List ℕ) (s : Shaped t) (k : Linked t) (below : issued t < slots 
             omega arith
       ]
 
+  -- and are u64
+  pub mark-words-issued-next : MarkWords t → MarkWords u
+  mark-words-issued-next m =
+      record {
+        pages-fit = λ p h. page p (rw issued-next at h);
+        groups-fit = λ g h. group g (rw issued-next at h);
+      }
+    where
+      page : (p : ℕ) → 64 * p < n + 1 → pageWord u p < 2 ^ 64
+      page p h = elim (same? (64 * p) n) [
+        | equal z q i ↦
+            let at : p ≡ n / 64 = omega arith in
+            rw (page-same p ∙ ap (pageWord (openedPage t n)) at ∙ page-opened t n row (omega arith)) (omega arith)
+        | other d q i ↦ rw (page-same p ∙ page-left t n p (λ z f. d (omega arith))) (m .pages-fit p (omega arith))
+      ]
+
+      group : (g : ℕ) → 4096 * g < n + 1 → groupWord u g < 2 ^ 64
+      group g h = elim (same? (4096 * g) n) [
+        | equal z q i ↦
+            let at : g ≡ n / 64 / 64 = omega arith in
+            rw (group-same g ∙ ap (groupWord (openedPage t n)) at ∙ group-opened t n row (omega arith)) (omega arith)
+        | other d q i ↦ rw (group-same g ∙ group-left t n g (λ z f. d (omega arith))) (m .groups-fit g (omega arith))
+      ]
+
   -- ---- the view
 
   slot-before : (r : List ℕ) (y : ℕ) → y < n → slotAt u r y ≡ slotAt t r y
@@ -257,6 +281,7 @@ module _ (t : List ℕ) (s : Shaped t) (k : Linked t) (below : issued t < slots 
 record IssuedOne (t u : List ℕ) : Type 0 where
   shaped : Shaped u
   linked : Linked u
+  mark-words : MarkWords u
   issued-is : issued u ≡ issued t + 1
   heads : (j : ℕ) → ltb j headerWords ≡ true → eqb 0 j ≡ false → head u j ≡ head t j
   lanes : (y : ℕ) → laneAt u y ≡ laneAt t y
@@ -336,6 +361,7 @@ module _ (t r u : List ℕ) (o : Stores t r) (d : IssuedOne t u) (l : Lane) (e :
           power = rw (heads-now 8 refl refl refl refl) (o .power);
           rings-room = rw (heads-now 8 refl refl refl refl, heads-now 4 refl refl refl refl) (o .rings-room);
           alive-flag = rw (heads-now 7 refl refl refl refl) (o .alive-flag);
+          first-cursor = rw (heads-now 10 refl refl refl refl) (o .first-cursor);
           flags = each-now (λ y j. Flags j) flags (o .flags);
           lanes = rw (heads-now 8 refl refl refl refl) (each-now (λ y j. j .registered ≡ 1 → InOrder (capacity t) j) (λ z. order) (o .lanes));
           named =
@@ -345,6 +371,7 @@ module _ (t r u : List ℕ) (o : Stores t r) (d : IssuedOne t u) (l : Lane) (e :
                 flagged = rw queue-now (each-now (λ y j. j .registered ≡ 1 → j .queued ≡ count y (queueOf t)) (λ z. unqueued ∙ sym unnamed) (o .named .flagged));
               };
           linked = linked-now;
+          mark-words = mark-words-by u v (simp frames) (λ p. simp frames) (λ g. simp frames) (d .mark-words);
           windows = rw (queue-now, heads-now 5 refl refl refl refl, heads-now 12 refl refl refl refl)
               (each-now (λ y j. j .registered ≡ 1 → 0 < j .window → Fast y (fastSlot t) (queueOf t) (j .window) (budget t)) (λ z c. absurd (omega arith)) (o .windows));
           lanes-counted = lanes-now;
@@ -357,6 +384,7 @@ module _ (t r : List ℕ) (o : Stores t r) (below : issued t < slots t) where
       record {
         shaped = shaped-issued-next t (o .shaped) (o .linked) below;
         linked = linked-issued-next t (o .shaped) (o .linked) below;
+        mark-words = mark-words-issued-next t (o .shaped) (o .linked) below (o .mark-words);
         issued-is = issued-next t (o .shaped) (o .linked) below;
         heads = head-issued-next t (o .shaped) (o .linked) below;
         lanes = lane-issued-next t (o .shaped) (o .linked) below;
