@@ -4,3 +4,4 @@ pub mod StepLaws
 pub mod CountLaws
 pub mod StoreLaws
 pub mod IssueLaws
+pub mod CollectedView
