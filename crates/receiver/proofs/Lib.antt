@@ -4,6 +4,7 @@ pub mod StepLaws
 pub mod CountLaws
 pub mod StoreLaws
 pub mod IssueLaws
+pub mod CollectedView
 pub mod SenderBounds
 pub mod OpeningBounds
 pub mod SignalLaws
