@@ -340,8 +340,14 @@ module _ (t r u : List ℕ) (o : Stores t r) (d : IssuedOne t u) (l : Lane) (e :
         let seen : view v r .slotOf (issued t) .registered ≡ true =
         registered-by v r (issued t) ∙ rw (lt-ltb (issued t) (issued v) (omega (arith, issued-now)), own-now, registered) in
         let own : one (view v r .slotOf (issued t) .registered) ≡ 1 = ap one seen in
-        omega (arith, stored, own, o .lanes-counted, registered-more (view t r) (view v r) issued-seen
-        (λ y h. registered-by v r y ∙ rw (lt-ltb y (issued v) (omega (arith, issued-now)), before-now y h) (sym (registered-by t r y ∙ rw (lt-ltb y (issued t) h)))))
+        omega (
+          arith,
+          stored,
+          own,
+          o .lanes-counted,
+          registered-more (view t r) (view v r) issued-seen
+              (λ y h. registered-by v r y ∙ rw (lt-ltb y (issued v) (omega (arith, issued-now)), before-now y h) (sym (registered-by t r y ∙ rw (lt-ltb y (issued t) h)))),
+        )
 
     living-now : livingCount v ≡ livingSenders (view v r)
     unfolding view
@@ -350,8 +356,14 @@ module _ (t r u : List ℕ) (o : Stores t r) (d : IssuedOne t u) (l : Lane) (e :
         let seen : view v r .slotOf (issued t) .living ≡ true =
         living-by v r (issued t) ∙ rw (lt-ltb (issued t) (issued v) (omega (arith, issued-now)), own-now, living) in
         let own : one (view v r .slotOf (issued t) .living) ≡ 1 = ap one seen in
-        omega (arith, stored, own, o .living-counted, living-more (view t r) (view v r) issued-seen
-        (λ y h. living-by v r y ∙ rw (lt-ltb y (issued v) (omega (arith, issued-now)), before-now y h) (sym (living-by t r y ∙ rw (lt-ltb y (issued t) h)))))
+        omega (
+          arith,
+          stored,
+          own,
+          o .living-counted,
+          living-more (view t r) (view v r) issued-seen
+              (λ y h. living-by v r y ∙ rw (lt-ltb y (issued v) (omega (arith, issued-now)), before-now y h) (sym (living-by t r y ∙ rw (lt-ltb y (issued t) h)))),
+        )
 
     stores-now : Stores v r
     stores-now =

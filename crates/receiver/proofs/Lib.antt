@@ -10,3 +10,4 @@ pub mod OpeningBounds
 pub mod SignalLaws
 pub mod SendLaws
 pub mod DropLaws
+pub mod RegisterLaws

@@ -168,7 +168,7 @@ module _ (t r : List ℕ) (k : LaneKey) (v : ℕ) (o : Stores t r) (p : Sends t 
         ap (λ (z : State). (Taken false, z)) (view-taken (grown l) (slot-of-lane t x) refl refl) ∙ rw (slot-in t r x is-issued)
 
     start : Step t t x l (queueOf t) (fastSlot t) (budget t) (laneCount t) (livingCount t)
-    start = step-start t (o .shaped) (o .linked) x
+    start = step-start t r o x
 
     signaled-stores : Stores (markedIfIdle (putLane t (withSender 1 (l .living) (grown l))) (grown l)) q
     signaled-stores =
