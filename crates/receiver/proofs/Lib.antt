@@ -11,3 +11,4 @@ pub mod SignalLaws
 pub mod SendLaws
 pub mod DropLaws
 pub mod RegisterLaws
+pub mod OpeningLaws

@@ -7,7 +7,7 @@ use mathlib.Core.List.{List, [], _∷_}
 use Prim.Native.Nat.{ℕ, zero, suc, _+_, _^_, _≤_, _<_}
 use native.Mathlib.Decide.{ℕ-discrete}
 use native.Mathlib.Omega.{arith}
-use borrow.Author.Tests.{eq-eqb, ne-eqb, eqb-false, ltb-true, ltb-false, le-leb, lt-leb, le-ltb}
+use borrow.Author.Tests.{eq-eqb, ne-eqb, eqb-false, le-ltb}
 use lib.Dec.{eqb, leb, ltb}
 use lib.ListN.{length}
 use Rattle.model.specs.declared.LaneKey.{LaneKey}
@@ -23,6 +23,7 @@ use Rattle.model.specs.Changes.{put, withFree, withIssued}
 use Rattle.model.specs.Sender as rules-sender
 use Rattle.model.specs.Sender.{issueSlot, olderLives}
 use Rattle.model.specs.Rules.{outcome}
+use Rattle.model.proofs.Counting.{no as clash}
 use Rattle.model.proofs.OrderKept.{first-own}
 use Rattle.lane.specs.declared.lane.Lane.{Lane}
 use Rattle.lane.specs.declared.ring.Ring.{Ring}
@@ -48,7 +49,7 @@ use Rattle.receiver.proofs.RefusalLaws.{seen, firstOf, first-of-append,
 use Rattle.receiver.proofs.StepLaws.{step-start, step-put-lane, step-reissued, step-lane-count, step-living-count}
 use Rattle.receiver.proofs.StoreLaws.{FreeSlot, last-freed-slot, store-in-order-after, stores-after, windows-kept}
 use Rattle.receiver.proofs.IssueLaws.{issuedNext, shaped-issued-next, view-issued, stores-registered-next}
-use Rattle.receiver.proofs.SenderBounds.{some, pass-unless, register-room}
+use Rattle.receiver.proofs.SenderBounds.{some, not-below, pass-unless, register-room}
 
 -- ---- the free list is empty, or begins with the slot freed last
 
@@ -67,13 +68,6 @@ free-case t s = elim (ℕ-discrete (freeCount t) 0) [
     empty (y ∷ l) e = absurd (omega arith)
 
 -- ---- refusals 6 to 9 are the rules'
-
-not-below : (a b : ℕ) → leb b a ≡ not (ltb a b)
-not-below a b = go (ltb a b) refl
-  where
-    go : (c : Bool) → ltb a b ≡ c → leb b a ≡ not c
-    go true e = lt-leb b a (ltb-true a b e)
-    go false e = le-leb b a (omega (arith, ltb-false a b e))
 
 module _ (t r : List ℕ) (o : StoreInOrder t r) (most : ℕ) where
   abbrev s : State
