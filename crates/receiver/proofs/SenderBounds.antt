@@ -20,12 +20,12 @@ use Rattle.lane.specs.declared.ring.Push.the-variants.{Pushed, Full}
 use Rattle.lane.specs.declared.ring.Ring.{Ring}
 use Rattle.lane.specs.declared.consumer.Sent.{Sent}
 use Rattle.lane.specs.declared.consumer.Sent.the-variants as Sent
-use Rattle.lane.specs.Ring.{ringOf, push}
+use Rattle.lane.specs.Ring.{push}
 use Rattle.lane.specs.Lane.{sent, pushAndFlush}
 use Rattle.lane.specs.Order.{sentLane}
 use Rattle.lane.specs.Table.{setHead, laneAt}
-use Rattle.lane.proofs.TableLaws.{frames, slot-of-lane}
-use Rattle.ready.specs.Header.{Shaped, issued, slots, capacity, firstGeneration, freeCount, laneCount, livingCount}
+use Rattle.lane.proofs.TableLaws.{frames}
+use Rattle.ready.specs.Header.{Shaped, issued, slots, firstGeneration, freeCount, laneCount, livingCount}
 use Rattle.ready.specs.Registry.{lastFreed, reissued}
 use Rattle.ready.specs.Ready.{marked, openedPage}
 use Rattle.ready.proofs.MarkLaws.{length-marked}
@@ -34,7 +34,7 @@ use Rattle.receiver.specs.declared.refusal.Verdict.the-variants.{Pass, R
 use Rattle.receiver.specs.View.{view}
 use Rattle.receiver.specs.Order.{Stores, StoreInOrder}
 use Rattle.receiver.specs.Refusal.{sendVerdict, receiverVerdict}
-use Rattle.receiver.specs.Sender.{markedIfIdle, SendRoom, pushed, unusedVerdict, slotVerdict, registerVerdict, FreeIssued, SlotDue, RegisterRoom, dueKey, slotTaken}
+use Rattle.receiver.specs.Sender.{markedIfIdle, SendRoom, unusedVerdict, slotVerdict, registerVerdict, FreeIssued, SlotDue, RegisterRoom, dueKey, slotTaken}
 use Rattle.receiver.proofs.RefusalLaws.{passes, and-then-passes, send-passes}
 use Rattle.receiver.proofs.StoreLaws.{below-slots, issued-ring-in, last-freed-slot}
 use Rattle.receiver.proofs.IssueLaws.{length-opened-page}
@@ -72,10 +72,9 @@ sent-key ring store v l = go (push ring store (l .tail) (l .released) v)
     go (Pushed c, q) = refl
     go (Full, q) = refl
 
-pub taken-slot : (t r out : List ℕ) (k : LaneKey) (v : ℕ) (s : Sent) (m : Lane) → (s, out) ≡ pushed t r k v → s ≡ Sent.Taken m → m .key .slot ≡ k .slot
-taken-slot t r out k v s m e f =
-    ap (λ (z : Sent). sentLane z .key .slot) (sym f ∙ ap (λ (p : Sent × List ℕ). p .0) e)
-    ∙ ap (λ (j : LaneKey). j .slot) (sent-key (ringOf (k .slot) (capacity t)) r v (laneAt t (k .slot))) ∙ slot-of-lane t (k .slot)
+pub taken-key : (ring : Ring) (store out : List ℕ) (v : ℕ) (l m : Lane) (s : Sent) → (s, out) ≡ pushAndFlush ring store v l → s ≡ Sent.Taken m → m .key ≡ l .key
+taken-key ring store out v l m s e f =
+    ap (λ (z : Sent). sentLane z .key) (sym f ∙ ap (λ (p : Sent × List ℕ). p .0) e) ∙ sent-key ring store v l
 
 -- ---- counts of slots
 

@@ -59,31 +59,24 @@ pub fn mark_if_idle(t: &mut [u64], l: Lane)
 }
 
 // The lane that a send left is stored and marked; answers whether its signal went from idle to pending.
-fn take_signaled(t: &mut [u64], l: Lane) -> Answer
-    requires { ⌜ Shaped (now t) × (l .key .slot < slots (now t)) ⌝ }
-    ensures { λ a. ⌜ (a, now (t .exit)) ≡ takenSignaled (now (t .entry)) l ⌝ }
+fn take_signaled(t: &mut [u64], lane: Lane) -> Answer
+    requires { ⌜ Shaped (now t) × (lane .key .slot < slots (now t)) ⌝ }
+    ensures { λ a. ⌜ (a, now (t .exit)) ≡ takenSignaled (now (t .entry)) lane ⌝ }
 {
-    with_sender(l, 1, l.living).store(t);
-    mark_if_idle(t, l);
-    Answer::Taken {
-        woken: l.pending == 0,
-    }
-}
-
-// What the ring of a key's slot answers to an item.
-fn push(t: &[u64], r: &mut [u64], key: LaneKey, item: u64) -> Sent
-    requires { ⌜ SendRoom (now t) (length (now r)) (key .slot) ⌝ }
-    ensures { λ s. ⌜ (s, now (r .exit)) ≡ pushed (now (t .entry)) (now (r .entry)) key item ⌝ }
-{
-    let ring = Ring::new(key.slot, t[Header::CAPACITY]);
-    Lane::load(t, key.slot).push_and_flush(ring, r, item)
+    let woken = lane.pending == 0;
+    let marked = with_sender(lane, 1, lane.living);
+    marked.store(t);
+    mark_if_idle(t, lane);
+    Answer::Taken { woken: woken }
 }
 
 fn send_signaled(t: &mut [u64], r: &mut [u64], key: LaneKey, item: u64) -> Answer
     requires { ⌜ SendRoom (now t) (length (now r)) (key .slot) ⌝ }
     ensures { λ a. ⌜ (a, now (t .exit), now (r .exit)) ≡ sendSignaled (now (t .entry)) (pushed (now (t .entry)) (now (r .entry)) key item) ⌝ }
 {
-    match push(t, r, key, item) {
+    let ring = Ring::new(key.slot, t[Header::CAPACITY]);
+    let l = Lane::load(t, key.slot);
+    match l.push_and_flush(ring, r, item) {
         Sent::Full { lane: _ } => Answer::Refused { why: Refusal::Full },
         Sent::Taken { lane } => take_signaled(t, lane),
     }
@@ -93,7 +86,9 @@ fn send_unsignaled(t: &mut [u64], r: &mut [u64], key: LaneKey, item: u64) -> Ans
     requires { ⌜ SendRoom (now t) (length (now r)) (key .slot) ⌝ }
     ensures { λ a. ⌜ (a, now (t .exit), now (r .exit)) ≡ sendUnsignaled (now (t .entry)) (pushed (now (t .entry)) (now (r .entry)) key item) ⌝ }
 {
-    match push(t, r, key, item) {
+    let ring = Ring::new(key.slot, t[Header::CAPACITY]);
+    let l = Lane::load(t, key.slot);
+    match l.push_and_flush(ring, r, item) {
         Sent::Full { lane: _ } => Answer::Refused { why: Refusal::Full },
         Sent::Taken { lane } => {
             lane.store(t);
@@ -129,7 +124,8 @@ fn drop_lane(t: &mut [u64], l: Lane)
     ensures { λ _. ⌜ now (t .exit) ≡ dropped (now (t .entry)) l ⌝ }
 {
     let living = t[Header::LIVING] - 1;
-    with_sender(l, 1, 0).store(t);
+    let marked = with_sender(l, 1, 0);
+    marked.store(t);
     mark_if_idle(t, l);
     t[Header::LIVING] = living;
 }

@@ -8,11 +8,11 @@ use Rattle.receiver.proofs.sender.take_signaled.Statement.{statement}
 use Rattle.receiver.proofs.sender.take_signaled.Tie as tie
 
 mark-if-idle-requires : tie.Need-mark-if-idle-requires
-mark-if-idle-requires c κs = rw (c .before .before .before .store .ensures) (simp frames (c .before .before .before .before .before .before .before .pre))
+mark-if-idle-requires c κs = rw (c .before .before .before .store .ensures) (simp frames (c .before .before .before .before .before .before .before .before .pre))
 
 returns : tie.Need-returns
 unfolding takenSignaled
-returns c = rw (c .before .before .before .mark-if-idle .ensures, c .before .before .before .before .before .before .before .store .ensures, c .before .before .before .before .before .before .before .before .before .with-sender .ensures)
+returns c = rw (c .before .before .mark-if-idle .ensures, c .before .before .before .before .before .before .store .ensures, c .before .before .before .before .before .before .before .before .with-sender .ensures)
 
 pub take-signaled-spec : {M : Type 1} → statement M
 take-signaled-spec =
