@@ -23,9 +23,9 @@ use Rattle.lane.specs.declared.consumer.Sent.the-variants as Sent
 use Rattle.lane.specs.Ring.{push}
 use Rattle.lane.specs.Lane.{sent, pushAndFlush}
 use Rattle.lane.specs.Order.{sentLane}
-use Rattle.lane.specs.Table.{setHead, laneAt}
+use Rattle.lane.specs.Table.{setHead}
 use Rattle.lane.proofs.TableLaws.{frames}
-use Rattle.ready.specs.Header.{Shaped, issued, slots, firstGeneration, freeCount, laneCount, livingCount}
+use Rattle.ready.specs.Header.{Shaped, issued, slots, freeCount, laneCount, livingCount}
 use Rattle.ready.specs.Registry.{lastFreed, reissued}
 use Rattle.ready.specs.Ready.{marked, openedPage}
 use Rattle.ready.proofs.MarkLaws.{length-marked}
@@ -121,9 +121,12 @@ some n h = omega arith
 -- the slot that is due
 pub due-in : (t : List ℕ) → Shaped t → FreeIssued t → SlotDue t → dueKey t .slot < slots t
 unfolding dueKey
-due-in t s f d =
-    cond-holds {A = LaneKey} (λ k. k .slot < slots t) (eqb (freeCount t) 0) (record { slot = issued t; generation = firstGeneration t }) (record { slot = lastFreed t; generation = laneAt t (lastFreed t) .key .generation + 1 })
-    (λ e. d (eqb-true _ _ e)) (λ e. omega (arith, f .freed-issued (some (freeCount t) (eqb-false _ _ e)), s .issued-most))
+due-in t s f d = go (eqb (freeCount t) 0) refl _ _
+  where
+    go : (b : Bool) → eqb (freeCount t) 0 ≡ b → (g h : ℕ)
+        → (cond {A = LaneKey} b (record { slot = issued t; generation = g }) (record { slot = lastFreed t; generation = h })) .slot < slots t
+    go true e g h = d (eqb-true _ _ e)
+    go false e g h = omega (arith, f .freed-issued (some (freeCount t) (eqb-false _ _ e)), s .issued-most)
 
 -- ---- lengths
 

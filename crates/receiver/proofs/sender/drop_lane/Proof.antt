@@ -9,7 +9,7 @@ use Rattle.receiver.proofs.sender.drop_lane.Statement.{statement}
 use Rattle.receiver.proofs.sender.drop_lane.Tie as tie
 
 mark-if-idle-requires : tie.Need-mark-if-idle-requires
-mark-if-idle-requires c κs = rw (c .before .before .before .store .ensures) (simp frames (c .before .before .before .before .before .before .before .before .pre .0, c .before .before .before .before .before .before .before .before .pre .1))
+mark-if-idle-requires c κs = rw (c .before .before .before .store .ensures) (simp (frames, c .before .before .before .before .before .with-sender .ensures) (c .before .before .before .before .before .before .before .before .pre .0, c .before .before .before .before .before .before .before .before .pre .1))
 
 returns : tie.Need-returns
 unfolding dropped

@@ -15,7 +15,7 @@ push-and-flush-requires : tie.Need-push-and-flush-requires
 push-and-flush-requires c κs = rw (c .before .before .before .new .ensures) (c .before .before .before .before .before .before .before .pre .ring-in)
 
 take-signaled-requires : tie.Need-take-signaled-requires
-take-signaled-requires c κs = (c .before .before .before .before .before .before .before .before .before .before .before .before .before .before .pre .shaped, rw (taken-key _ _ _ _ _ _ _ (c .before .before .before .before .before .before .push-and-flush .ensures) (c .before .before .lane .given .1), c .before .before .before .before .before .before .before .before .load .ensures, slot-of-lane _ _) (c .before .before .before .before .before .before .before .before .before .before .before .before .before .before .pre .slot-in))
+take-signaled-requires c κs = (c .before .before .before .before .before .before .before .before .before .before .before .before .before .before .pre .shaped, simp (taken-key _ _ _ _ _ _ _ (c .before .before .before .before .before .before .push-and-flush .ensures) (c .before .before .lane .given .1), c .before .before .before .before .before .before .before .before .load .ensures, slot-of-lane) (c .before .before .before .before .before .before .before .before .before .before .before .before .before .before .pre .slot-in))
 
 returns : tie.Need-returns
 unfolding sendSignaled
