@@ -11,4 +11,5 @@ pub mod SignalLaws
 pub mod SendLaws
 pub mod DropLaws
 pub mod RegisterLaws
+pub mod SenderLaws
 pub mod OpeningLaws

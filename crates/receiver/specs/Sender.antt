@@ -8,6 +8,8 @@ use Prim.Native.Nat.{ℕ, _+_, _-_, _≤_, _<_}
 use lib.Dec.{eqb, leb, ltb}
 use Rattle.model.specs.declared.LaneKey.{LaneKey}
 use Rattle.model.specs.declared.Refusal.the-variants as Refusal
+use Rattle.model.specs.declared.SenderCall.{SenderCall}
+use Rattle.model.specs.declared.SenderCall.the-variants.{RegisterSender, TrySend, TrySendUnsignaled, DropSender}
 use Rattle.model.specs.declared.Answer.{Answer}
 use Rattle.model.specs.declared.Answer.the-variants.{Done, Registered, Taken, Refused}
 use Rattle.lane.specs.declared.lane.Lane.{Lane}
@@ -135,3 +137,10 @@ registerVerdict t most = andThen (receiverVerdict t) (slotVerdict t most)
 unfoldable pub registerSender : List ℕ → List ℕ → ℕ → Words
 registerSender t r most =
     unlessRefused (registerVerdict t most) t r (Registered (dueKey t), registeredWith t (dueKey t), r)
+
+-- every sender call
+unfoldable pub senderWords : List ℕ → List ℕ → SenderCall → Words
+senderWords t r (RegisterSender most) = registerSender t r most
+senderWords t r (TrySend k v) = trySend t r k v
+senderWords t r (TrySendUnsignaled k v) = trySendUnsignaled t r k v
+senderWords t r (DropSender k) = dropSender t r k
