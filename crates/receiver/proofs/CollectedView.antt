@@ -187,3 +187,167 @@ module _ (t r : List ℕ) (c : Collects t) where
       where
         clash : _≡_ {A = ℕ} 1 0 → ⊥
         clash e = omega arith
+
+    -- the page bits after: none in the group, the others as they were
+    bits-after : (y : ℕ) → y < issued t → pageBit (collectedGroup t g) y ≡ if (eqb (groupOf y) g) 0 (pageBit t y)
+    unfolding groupOf
+    bits-after y l = elim (same? (y / 4096) g) [
+      | equal e p i ↦
+          rw (p, pages-taken t g (c .shaped) (c .names) (c .linked) (y / 64) (omega arith) (omega arith)) (bit-zero (y % 64))
+      | other d p i ↦ rw (p, other-pages-left t g (c .shaped) (c .names) (y / 64) (λ e. d (omega arith)))
+    ]
+
+    left : Left t (collectedGroup t g)
+    left = left-group t g (c .shaped) (c .names)
+
+    -- the table after, with the cursor just past the group
+    abbrev u : List ℕ
+    u = setGroupCursor (collectedGroup t g) (g + 1)
+
+    left-now : Left t u
+    left-now = left-then left (left-cursor (collectedGroup t g) (g + 1))
+
+    issued-now : issued u ≡ issued t
+    issued-now = left-now .heads 0 refl refl refl
+
+    issued-slot : (y : ℕ) → y < issued t → view u r .slotOf y ≡ if (eqb (groupOf y) g) (unmarked (view t r .slotOf y)) (view t r .slotOf y)
+    unfolding slotAt
+    issued-slot y l =
+        let same : pageBit u y ≡ pageBit (collectedGroup t g) y = simp frames in
+        slot-in u r y (rw issued-now l)
+        ∙ slot-left t u r left-now y
+        ∙ rw (same, bits-after y l, slot-in t r y l) (go (eqb (groupOf y) g))
+      where
+        go : (b : Bool) → slotOf (laneAt t y) (if b 0 (pageBit t y)) (held (ringOf y (capacity t)) r (laneAt t y)) ≡ if b (unmarked (slotAt t r y)) (slotAt t r y)
+        go true = refl
+        go false = refl
+
+    past-slot : (y : ℕ) → ltb y (issued t) ≡ false → view u r .slotOf y ≡ if (eqb (groupOf y) g) (unmarked (view t r .slotOf y)) (view t r .slotOf y)
+    unfolding vacant
+    past-slot y e = slot-out u r y (rw issued-now e) ∙ rw (slot-out t r y e) (go (eqb (groupOf y) g))
+      where
+        go : (b : Bool) → vacant ≡ if b (unmarked vacant) vacant
+        go true = refl
+        go false = refl
+
+    slots-now : (y : ℕ) → view u r .slotOf y ≡ if (eqb (groupOf y) g) (unmarked (view t r .slotOf y)) (view t r .slotOf y)
+    slots-now y = go (ltb y (issued t)) refl
+      where
+        go : (b : Bool) → ltb y (issued t) ≡ b → view u r .slotOf y ≡ if (eqb (groupOf y) g) (unmarked (view t r .slotOf y)) (view t r .slotOf y)
+        go true e = issued-slot y (ltb-true y (issued t) e)
+        go false e = past-slot y e
+
+    queue-now : queueOf u ≡ queueOf t ++ keep (isReady (view t r)) (marks (view t r) g)
+    queue-now =
+        simp queue-frames
+        (queue-collected t (view t r) (c .linked) (same-marks t r) (c .shaped) (c .names) g h
+        ∙ ap (λ (l : List ℕ). queueOf t ++ l) (keep-ready (marks (view t r) g)))
+
+    long-after : leb headerWords (length (collectedGroup t g)) ≡ true
+    long-after = header-in (collectedGroup t g) (kept-group t g (c .shaped) (c .names) .shaped)
+
+    view-now : view u r ≡ withCursor (suc g) (withQueue (view t r .queue ++ keep (isReady (view t r)) (marks (view t r) g))
+        (withSlots (λ y. if (eqb (groupOf y) g) (unmarked (view t r .slotOf y)) (view t r .slotOf y)) (view t r)))
+    unfolding view
+    view-now =
+        state-path _ _ slots-now queue-now (free-left t u r left-now) issued-now (left-now .heads 5 refl refl refl) (simp (frames, long-after) (add-one g))
+        (ap flag (left-now .heads 7 refl refl refl)) (left-now .heads 8 refl refl refl) (left-now .heads 4 refl refl refl) (left-now .heads 9 refl refl refl) (left-now .heads 11 refl refl refl)
+
+    -- a group that has bits is collected as the rules collect it
+    view-group : groupWord t g ≢ 0 → view u r ≡ collectGroup (view t r) g
+    unfolding collectGroup collectMarks
+    view-group n = view-now ∙ go (marks (view t r) g) (some-marked n)
+      where
+        go : (l : List ℕ) → nonEmpty l ≡ true
+            → withCursor (suc g) (withQueue (view t r .queue ++ keep (isReady (view t r)) l) (withSlots (λ y. if (eqb (groupOf y) g) (unmarked (view t r .slotOf y)) (view t r .slotOf y)) (view t r)))
+            ≡ collectMarks l (view t r) g
+        go [] e = let z : _≡_ {A = ℕ} 0 1 = cc in absurd (omega arith)
+        go (m ∷ ms) e = refl
+
+    -- one that has none is passed over
+    view-none : groupWord t g ≡ 0 → collectGroup (view t r) g ≡ view t r
+    unfolding collectGroup collectMarks
+    view-none z = ap (λ (l : List ℕ). collectMarks l (view t r) g) (none-marked z)
+
+    mark-words-now : MarkWords u
+    mark-words-now =
+        record {
+          pages-fit = λ p l. simp frames (elim (same? (p / 64) g) [
+            | equal e q i ↦ rw (pages-taken t g (c .shaped) (c .names) (c .linked) p e (rw issued-now at l)) (omega arith)
+            | other d q i ↦ rw (other-pages-left t g (c .shaped) (c .names) p d) (c .mark-words .pages-fit p (rw issued-now at l))
+          ]);
+          groups-fit = λ x l. simp frames (elim (same? x g) [
+            | equal e q i ↦ rw (ap (groupWord (collectedGroup t g)) e ∙ group-taken t g (c .shaped) (c .names) (omega (arith, c .shaped .issued-most, c .shaped .room))) (omega arith)
+            | other d q i ↦ rw (other-group-left t g (c .shaped) (c .names) x q) (c .mark-words .groups-fit x (rw issued-now at l))
+          ]);
+        }
+
+    -- what collecting needs is kept
+    collects-now : g + 1 ≤ 2 → Collects u
+    collects-now most =
+        let k = kept-group t g (c .shaped) (c .names) in
+        let k′ = kept-cursor (collectedGroup t g) (g + 1) most (k .shaped) (k .names) in
+        record {
+          shaped = k′ .shaped;
+          names = k′ .names;
+          linked = linked-cursor (collectedGroup t g) (g + 1) (linked-group t g (c .shaped) (c .names) (c .linked) h);
+          mark-words = mark-words-now;
+          paused-flags = λ y l. subst (λ (m : Lane). m .paused ≤ 1) (sym (left-now .lanes y)) (c .paused-flags y (rw issued-now at l));
+        }
+
+-- ---- the groups, from the cursor round
+
+-- k of n groups, from `next` on
+unfoldable roundFrom : ℕ → ℕ → ℕ → List ℕ
+roundFrom n zero next = []
+roundFrom n (suc k) next = groupAt n next ∷ roundFrom n k (groupAt n next + 1)
+
+at-below : (n next : ℕ) → next < n → groupAt n next ≡ next
+unfolding groupAt
+at-below n next h = rw (lt-ltb next n h)
+
+at-past : (n next : ℕ) → n ≤ next → groupAt n next ≡ 0
+unfolding groupAt
+at-past n next h = rw (le-ltb next n h)
+
+round-up : (n k next : ℕ) → next + k ≤ n → roundFrom n k next ≡ from next k
+unfolding roundFrom from
+round-up n zero next h = refl
+round-up n (suc k) next h =
+    rw (at-below n next (omega arith), add-one next) (ap (λ (l : List ℕ). next ∷ l) (round-up n k (suc next) (omega arith)))
+
+round-past : (n k next : ℕ) → n ≤ next → k ≤ n → roundFrom n k next ≡ from 0 k
+unfolding roundFrom from
+round-past n zero next h l = refl
+round-past n (suc k) next h l = rw (at-past n next h) (ap (λ (m : List ℕ). 0 ∷ m) (round-up n k 1 (omega arith)))
+
+round-on : (n a b next : ℕ) → next + a ≡ n → b ≤ n → roundFrom n (a + b) next ≡ from next a ++ from 0 b
+unfolding roundFrom from
+round-on n zero b next h l =
+    let e : 0 + b ≡ b = omega arith in
+    rw e (round-past n b next (omega arith) l)
+round-on n (suc a) b next h l =
+    let e : suc a + b ≡ suc (a + b) = omega arith in
+    rw (e, at-below n next (omega arith), add-one next) (ap (λ (m : List ℕ). next ∷ m) (round-on n a b (suc next) (omega arith) l))
+
+round-alike : (t r : List ℕ) → roundFrom (groupsOf (issued t)) (groupsOf (issued t)) (groupCursor t) ≡ groupsRound (view t r)
+unfolding groupsRound startGroup groupsIn view from
+round-alike t r = go (ltb (groupCursor t) (groupsOf (issued t))) refl
+  where
+    go : (b : Bool) → ltb (groupCursor t) (groupsOf (issued t)) ≡ b → roundFrom (groupsOf (issued t)) (groupsOf (issued t)) (groupCursor t) ≡ groupsRound (view t r)
+    go true e =
+        let n = groupsOf (issued t) in
+        let h : groupCursor t < n = ltb-true (groupCursor t) n e in
+        let parts : n - groupCursor t + groupCursor t ≡ n = omega arith in
+        rw e (sym (ap (λ (k : ℕ). roundFrom n k (groupCursor t)) parts) ∙ round-on n (n - groupCursor t) (groupCursor t) (groupCursor t) (omega arith) (omega arith))
+    go false e =
+        let n = groupsOf (issued t) in
+        let z : n - 0 ≡ n = omega arith in
+        rw (e, z) (round-past n n (groupCursor t) (omega (arith, ltb-false (groupCursor t) n e)) (omega arith) ∙ sym (append-nil (from 0 n)))
+
+-- ---- collecting
+
+-- the rules' collecting along a list of groups: all of them, or the first that has marks
+abbrev along : Bool → List ℕ → State → State
+along true gs s = collectEach gs s
+along false gs s = collectFirst gs s
