@@ -351,3 +351,77 @@ round-alike t r = go (ltb (groupCursor t) (groupsOf (issued t))) refl
 abbrev along : Bool → List ℕ → State → State
 along true gs s = collectEach gs s
 along false gs s = collectFirst gs s
+
+-- what a collection of any groups leaves
+record Collected (t u : List ℕ) : Type 0 where
+  left : Left t u
+  collects : Collects u
+  front : (y : ℕ) → take 1 (queueOf t) ≡ y ∷ [] → take 1 (queueOf u) ≡ y ∷ []
+
+collected-self : (t : List ℕ) → Collects t → Collected t t
+collected-self t c = record { left = left-self t; collects = c; front = λ y e. e }
+
+collected-then : {t u v : List ℕ} → Collected t u → Collected u v → Collected t v
+collected-then a b = record { left = left-then (a .left) (b .left); collects = b .collects; front = λ y e. b .front y (a .front y e) }
+
+still-first : (y : ℕ) (q w : List ℕ) → take 1 q ≡ y ∷ [] → take 1 (q ++ w) ≡ y ∷ []
+still-first y [] w e = let z : _≡_ {A = ℕ} 0 1 = ap length e in absurd (omega arith)
+still-first y (a ∷ q) w e = e
+
+collected-group : (t : List ℕ) (c : Collects t) (g : ℕ) → 4096 * g < issued t → g + 1 ≤ 2 → Collected t (setGroupCursor (collectedGroup t g) (g + 1))
+collected-group t c g h most =
+    record {
+      left = left-now t [] c g h;
+      collects = collects-now t [] c g h most;
+      front = λ y e. rw (queue-now t [] c g h) (still-first y (queueOf t) _ e);
+    }
+
+module _ (r : List ℕ) (n : ℕ) (most : n ≤ 2) where
+  -- a group that the round comes to exists
+  exists : (t : List ℕ) (next : ℕ) → n ≡ groupsOf (issued t) → 0 < n → (groupAt n next < n) × (4096 * groupAt n next < issued t)
+  exists t next e h = let b : groupAt n next < n = below in (b, omega arith)
+    where
+      below : groupAt n next < n
+      below = go (decLt next n)
+        where
+          go : Dec (next < n) → groupAt n next < n
+          go (yes l) = rw (at-below n next l) l
+          go (no l) = rw (at-past n next (omega arith)) h
+
+  from-alike : (all : Bool) (k : ℕ) (t : List ℕ) (next : ℕ) → Collects t → n ≡ groupsOf (issued t) → k ≤ n
+      → (view (collectedFrom n k all t next) r ≡ along all (roundFrom n k next) (view t r)) × Collected t (collectedFrom n k all t next)
+  unfolding collectedFrom roundFrom collectEach collectFirst
+  from-alike true zero t next c e l = (refl, collected-self t c)
+  from-alike false zero t next c e l = (refl, collected-self t c)
+  from-alike all (suc k) t next c e l =
+      let g = groupAt n next in
+      let x = exists t next e (omega arith) in
+      go all (eqb (groupWord t g) 0) refl
+      (from-alike all k t (g + 1) c e (omega arith))
+      (from-alike all k (setGroupCursor (collectedGroup t g) (g + 1)) (g + 1) (collects-now t r c g (x .1) (omega (arith, x .0))) (e ∙ ap groupsOf (sym (issued-now t r c g (x .1)))) (omega arith))
+    where
+      go : (all b : Bool) → eqb (groupWord t (groupAt n next)) 0 ≡ b
+          → (view (collectedFrom n k all t (groupAt n next + 1)) r ≡ along all (roundFrom n k (groupAt n next + 1)) (view t r)) × Collected t (collectedFrom n k all t (groupAt n next + 1))
+          → (view (collectedFrom n k all (setGroupCursor (collectedGroup t (groupAt n next)) (groupAt n next + 1)) (groupAt n next + 1)) r
+          ≡ along all (roundFrom n k (groupAt n next + 1)) (view (setGroupCursor (collectedGroup t (groupAt n next)) (groupAt n next + 1)) r))
+          × Collected (setGroupCursor (collectedGroup t (groupAt n next)) (groupAt n next + 1)) (collectedFrom n k all (setGroupCursor (collectedGroup t (groupAt n next)) (groupAt n next + 1)) (groupAt n next + 1))
+          → (view (collectedFrom n (suc k) all t next) r ≡ along all (roundFrom n (suc k) next) (view t r)) × Collected t (collectedFrom n (suc k) all t next)
+      go true true z passed taken =
+          let g = groupAt n next in
+          let x = exists t next e (omega arith) in
+          rw z (passed .0 ∙ ap (collectEach (roundFrom n k (g + 1))) (sym (view-none t r c g (x .1) (eqb-true _ 0 z))), passed .1)
+      go false true z passed taken =
+          let g = groupAt n next in
+          let x = exists t next e (omega arith) in
+          let none : marks (view t r) g ≡ [] = none-marked t r c g (x .1) (eqb-true _ 0 z) in
+          rw (z, none) passed
+      go true false z passed taken =
+          let g = groupAt n next in
+          let x = exists t next e (omega arith) in
+          rw z (taken .0 ∙ ap (collectEach (roundFrom n k (g + 1))) (view-group t r c g (x .1) (eqb-false _ 0 z)),
+          collected-then (collected-group t c g (x .1) (omega (arith, x .0))) (taken .1))
+      go false false z passed taken =
+          let g = groupAt n next in
+          let x = exists t next e (omega arith) in
+          rw (z, some-marked t r c g (x .1) (eqb-false _ 0 z))
+          (view-group t r c g (x .1) (eqb-false _ 0 z), collected-group t c g (x .1) (omega (arith, x .0)))
