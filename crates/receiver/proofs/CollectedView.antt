@@ -1,4 +1,4 @@
--- Collecting on the words is the rules' collecting on the view, and it leaves a store in order.
+-- Collecting on the words is the rules' collecting on the view.
 -- Assumes nothing.
 use mathlib.Core.Path.{_≡_, refl, sym, ap, ap₂, _∙_, subst}
 use mathlib.Core.Logic.{_≢_}
@@ -25,24 +25,24 @@ use Rattle.lane.specs.declared.lane.Lane.{Lane}
 use Rattle.lane.specs.Ring.{ringOf}
 use Rattle.lane.specs.Lane.{held}
 use Rattle.lane.specs.Order.{InOrder}
-use Rattle.lane.specs.Table.{HasRow, headerWords, head, setHead, cell, setCell, laneAt}
+use Rattle.lane.specs.Table.{HasRow, headerWords, rowWords, head, cellAt, cell, setCell, laneAt}
 use Rattle.lane.proofs.ListLaws.{tab-ext}
-use Rattle.lane.proofs.TableLaws.{frames}
+use Rattle.lane.proofs.TableLaws.{frames, has-row}
 use Rattle.ready.specs.Header.{Shaped, issued, slots, budget, groupCursor, alive, capacity, firstCursor, fastSlot, laneCount, livingCount, freeCount, setGroupCursor}
 use Rattle.ready.specs.Queue.{QueueNames, queueOf}
 use Rattle.ready.specs.Registry.{freeColumn, freeOf}
 use Rattle.ready.specs.Bits.{bit, bitsFrom}
-use Rattle.ready.specs.Ready.{pageColumn, groupColumn, pageWord, groupWord, pageBit, groupBit, nonZero, Linked, wantedLane, wanted, queuedLane, collectedPage, collectedGroup, groupsOf, groupAt, collectedFrom, collectReady}
+use Rattle.ready.specs.Ready.{pageColumn, groupColumn, pageWord, groupWord, pageBit, groupBit, nonZero, Linked, wantedLane, wanted, queuedLane, enqueued, offered, collectedPage, collectedGroup, groupsOf, groupAt, collectedFrom, collectReady}
 use Rattle.ready.proofs.BitLaws.{bits-next, bits-zero, bit-zero, tz-lt, tz-set}
 use Rattle.ready.proofs.QueueLaws.{queue-frames, header-in}
 use Rattle.ready.proofs.RegistryLaws.{registry-frames}
-use Rattle.ready.proofs.OfferLaws.{Rest}
+use Rattle.ready.proofs.OfferLaws.{Wants, wants, offered-case, shaped-offered, names-offered, other-enqueued}
 use Rattle.ready.proofs.CollectLaws.{Kept, kept-setCell, kept-page, kept-group, rest-page, group-taken, other-group-left, other-pages-left, pages-taken, linked-group}
 use Rattle.ready.proofs.CollectedQueue.{slotsOfPage, slotsOfPages, slotsOfGroup}
 use Rattle.ready.proofs.CollectedMarks.{SameMarks, group-marks, queue-collected}
 use Rattle.ready.proofs.Round.{kept-cursor, linked-cursor}
 use Rattle.receiver.specs.View.{flag, slotOf, slotAt, view}
-use Rattle.receiver.specs.Order.{Flags, Fast, MarkWords, Stores}
+use Rattle.receiver.specs.Order.{MarkWords, Stores}
 use Rattle.receiver.proofs.ViewLaws.{slot-in, slot-out, row-in}
 
 -- ---- what a collection leaves as it was
@@ -295,6 +295,42 @@ module _ (t r : List ℕ) (c : Collects t) where
           paused-flags = λ y l. subst (λ (m : Lane). m .paused ≤ 1) (sym (left-now .lanes y)) (c .paused-flags y (rw issued-now at l));
         }
 
+-- ---- a queued word stays a flag
+
+own-enqueued : (t : List ℕ) (x : ℕ) → leb (cellAt rowWords x) (length t) ≡ true → laneAt (enqueued t x) x ≡ queuedLane (laneAt t x)
+unfolding enqueued
+own-enqueued t x r = simp (queue-frames, frames, r)
+
+module _ (y : ℕ) where
+  queued-offered : (t : List ℕ) (x : ℕ) → Shaped t → laneAt t y .queued ≤ 1 → laneAt (offered t x) y .queued ≤ 1
+  queued-offered t x s h = offered-case (λ u. laneAt u y .queued ≤ 1) t x (λ e. now (wants t x e) (same? y x)) (λ e. h)
+    where
+      now : Wants t x → Same y x → laneAt (enqueued t x) y .queued ≤ 1
+      now w (equal e p i) = rw (e, own-enqueued t x (has-row t x (row-in t s x (w .is-issued)))) (omega arith)
+      now w (other d p i) = rw (other-enqueued t x y p) h
+
+  queued-offers : (l t : List ℕ) → Shaped t → QueueNames t → laneAt t y .queued ≤ 1 → laneAt (foldl offered t l) y .queued ≤ 1
+  queued-offers [] t s q h = h
+  queued-offers (x ∷ l) t s q h = queued-offers l (offered t x) (shaped-offered t x s q) (names-offered t x s q) (queued-offered t x s h)
+
+  queued-page : (t : List ℕ) (page : ℕ) → Shaped t → QueueNames t → laneAt t y .queued ≤ 1 → laneAt (collectedPage t page) y .queued ≤ 1
+  unfolding collectedPage
+  queued-page t page s q h =
+      let k = kept-setCell t pageColumn page 0 refl refl refl s q in
+      queued-offers (slotsOfPage t page) (setCell t pageColumn page 0) (k .shaped) (k .names) (simp frames h)
+
+  queued-pages : (l t : List ℕ) → Shaped t → QueueNames t → laneAt t y .queued ≤ 1 → laneAt (foldl collectedPage t l) y .queued ≤ 1
+  queued-pages [] t s q h = h
+  queued-pages (page ∷ l) t s q h =
+      let k = kept-page t page s q in
+      queued-pages l (collectedPage t page) (k .shaped) (k .names) (queued-page t page s q h)
+
+  queued-group : (t : List ℕ) (g : ℕ) → Shaped t → QueueNames t → laneAt t y .queued ≤ 1 → laneAt (collectedGroup t g) y .queued ≤ 1
+  unfolding collectedGroup
+  queued-group t g s q h =
+      let k = kept-setCell t groupColumn g 0 refl refl refl s q in
+      queued-pages (bitsFrom 64 (64 * g) (groupWord t g)) (setCell t groupColumn g 0) (k .shaped) (k .names) (simp frames h)
+
 -- ---- the groups, from the cursor round
 
 -- k of n groups, from `next` on
@@ -348,21 +384,28 @@ round-alike t r = go (ltb (groupCursor t) (groupsOf (issued t))) refl
 -- ---- collecting
 
 -- the rules' collecting along a list of groups: all of them, or the first that has marks
-abbrev along : Bool → List ℕ → State → State
+abbrev pub along : Bool → List ℕ → State → State
 along true gs s = collectEach gs s
 along false gs s = collectFirst gs s
 
 -- what a collection of any groups leaves
-record Collected (t u : List ℕ) : Type 0 where
-  left : Left t u
-  collects : Collects u
-  front : (y : ℕ) → take 1 (queueOf t) ≡ y ∷ [] → take 1 (queueOf u) ≡ y ∷ []
+pub record Collected (t u : List ℕ) : Type 0 where
+  pub left : Left t u
+  pub collects : Collects u
+  pub front : (y : ℕ) → take 1 (queueOf t) ≡ y ∷ [] → take 1 (queueOf u) ≡ y ∷ []
+  pub queued-flags : (y : ℕ) → laneAt t y .queued ≤ 1 → laneAt u y .queued ≤ 1
 
 collected-self : (t : List ℕ) → Collects t → Collected t t
-collected-self t c = record { left = left-self t; collects = c; front = λ y e. e }
+collected-self t c = record { left = left-self t; collects = c; front = λ y e. e; queued-flags = λ y h. h }
 
 collected-then : {t u v : List ℕ} → Collected t u → Collected u v → Collected t v
-collected-then a b = record { left = left-then (a .left) (b .left); collects = b .collects; front = λ y e. b .front y (a .front y e) }
+collected-then a b =
+    record {
+      left = left-then (a .left) (b .left);
+      collects = b .collects;
+      front = λ y e. b .front y (a .front y e);
+      queued-flags = λ y h. b .queued-flags y (a .queued-flags y h);
+    }
 
 still-first : (y : ℕ) (q w : List ℕ) → take 1 q ≡ y ∷ [] → take 1 (q ++ w) ≡ y ∷ []
 still-first y [] w e = let z : _≡_ {A = ℕ} 0 1 = ap length e in absurd (omega arith)
@@ -374,6 +417,7 @@ collected-group t c g h most =
       left = left-now t [] c g h;
       collects = collects-now t [] c g h most;
       front = λ y e. rw (queue-now t [] c g h) (still-first y (queueOf t) _ e);
+      queued-flags = λ y l. simp frames (queued-group y t g (c .shaped) (c .names) l);
     }
 
 module _ (r : List ℕ) (n : ℕ) (most : n ≤ 2) where
@@ -425,3 +469,30 @@ module _ (r : List ℕ) (n : ℕ) (most : n ≤ 2) where
           let x = exists t next e (omega arith) in
           rw (z, some-marked t r c g (x .1) (eqb-false _ 0 z))
           (view-group t r c g (x .1) (eqb-false _ 0 z), collected-group t c g (x .1) (omega (arith, x .0)))
+
+-- what a store in order gives
+pub collects-of : (t r : List ℕ) → Stores t r → Collects t
+collects-of t r o =
+    record { shaped = o .shaped; names = o .named; linked = o .linked; mark-words = o .mark-words; paused-flags = λ y h. o .flags y h .paused-flag }
+
+module _ (t r : List ℕ) (o : Stores t r) where
+  groups-most : groupsOf (issued t) ≤ 2
+  groups-most = omega (arith, o .shaped .issued-most, o .shaped .slots-most)
+
+  -- what is left of the table, too
+  pub collected : (all : Bool)
+      → (view (collectReady all t) r ≡ along all (groupsRound (view t r)) (view t r)) × Collected t (collectReady all t)
+  unfolding collectReady
+  collected all =
+      let a = from-alike r (groupsOf (issued t)) groups-most all (groupsOf (issued t)) t (groupCursor t) (collects-of t r o) refl (omega arith) in
+      (a .0 ∙ ap (λ (l : List ℕ). along all l (view t r)) (round-alike t r), a .1)
+
+  -- all groups are collected as the rules collect them
+  pub view-collect-all : view (collectReady true t) r ≡ rules.collectReady (view t r)
+  unfolding rules.collectReady
+  view-collect-all = collected true .0
+
+  -- and so is the first that has bits
+  pub view-collect-group : view (collectReady false t) r ≡ collectReadyGroup (view t r)
+  unfolding collectReadyGroup
+  view-collect-group = collected false .0

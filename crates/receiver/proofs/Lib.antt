@@ -5,3 +5,4 @@ pub mod CountLaws
 pub mod StoreLaws
 pub mod IssueLaws
 pub mod CollectedView
+pub mod CollectedStore
