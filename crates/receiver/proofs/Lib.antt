@@ -6,4 +6,4 @@ pub mod StoreLaws
 pub mod IssueLaws
 pub mod CollectedView
 pub mod CollectedStore
-pub mod SharedLaws
+pub mod RetireLaws
