@@ -2,20 +2,20 @@
 -- Assumes nothing.
 use mathlib.Core.Path.{_≡_, refl, sym, ap, ap₂, _∙_, subst}
 use mathlib.Core.Logic.{_≢_}
-use mathlib.Core.Bool.{Bool, true, false, cond, not, _&&_}
+use mathlib.Core.Bool.{Bool, true, false, not, _&&_}
 use mathlib.Core.List.{List, [], _∷_, _++_, foldl, append-nil}
-use Prim.Native.Nat.{ℕ, zero, suc, _+_, _-_, _*_, _/_, _%_, _^_, _≤_, _<_}
+use Prim.Native.Nat.{ℕ, zero, suc, _+_, _-_, _*_, _/_, _%_, _≤_, _<_}
 use native.Mathlib.Nat.{pos-of-ne-zero}
 use native.Mathlib.Numerals.{add-one}
 use native.Mathlib.Decide.{decLt}
 use native.Mathlib.Omega.{arith}
-use borrow.Author.Tests.{lt-ltb, le-ltb, ltb-true, ltb-false, eq-eqb, ne-eqb, eqb-true, eqb-false, le-leb, lt-leb}
+use borrow.Author.Tests.{lt-ltb, le-ltb, ltb-true, ltb-false, ne-eqb, eqb-true, eqb-false, le-leb}
 use lib.Dec.{eqb, ltb, leb}
 use lib.Count.{trailingZeros}
 use lib.Bits.{bitAnd}
 use lib.ListN.{length, take}
 use Rattle.model.specs.Lists.{if, both, nonEmpty, count, keep, from}
-use Rattle.model.specs.State.{Slot, State, vacant, queued, mayQueue, registeredLanes, livingSenders}
+use Rattle.model.specs.State.{State, vacant, queued, mayQueue}
 use Rattle.model.specs.Changes.{withSlots, withQueue, withCursor, unmarked}
 use Rattle.model.specs.Ready as rules
 use Rattle.model.specs.Ready.{groupOf, groupsIn, marks, isReady, collectMarks, collectGroup, startGroup, groupsRound, collectFirst, collectEach, collectReadyGroup}
@@ -24,21 +24,19 @@ use Rattle.model.proofs.Words.{state-path}
 use Rattle.lane.specs.declared.lane.Lane.{Lane}
 use Rattle.lane.specs.Ring.{ringOf}
 use Rattle.lane.specs.Lane.{held}
-use Rattle.lane.specs.Order.{InOrder}
-use Rattle.lane.specs.Table.{HasRow, headerWords, rowWords, head, cellAt, cell, setCell, laneAt}
+use Rattle.lane.specs.Table.{headerWords, rowWords, head, cellAt, cell, setCell, laneAt}
 use Rattle.lane.proofs.ListLaws.{tab-ext}
 use Rattle.lane.proofs.TableLaws.{frames, has-row}
-use Rattle.ready.specs.Header.{Shaped, issued, slots, budget, groupCursor, alive, capacity, firstCursor, fastSlot, laneCount, livingCount, freeCount, setGroupCursor}
+use Rattle.ready.specs.Header.{Shaped, issued, slots, groupCursor, capacity, freeCount, setGroupCursor}
 use Rattle.ready.specs.Queue.{QueueNames, queueOf}
 use Rattle.ready.specs.Registry.{freeColumn, freeOf}
 use Rattle.ready.specs.Bits.{bit, bitsFrom}
 use Rattle.ready.specs.Ready.{pageColumn, groupColumn, pageWord, groupWord, pageBit, groupBit, nonZero, Linked, wantedLane, wanted, queuedLane, enqueued, offered, collectedPage, collectedGroup, groupsOf, groupAt, collectedFrom, collectReady}
 use Rattle.ready.proofs.BitLaws.{bits-next, bits-zero, bit-zero, tz-lt, tz-set}
 use Rattle.ready.proofs.QueueLaws.{queue-frames, header-in}
-use Rattle.ready.proofs.RegistryLaws.{registry-frames}
 use Rattle.ready.proofs.OfferLaws.{Wants, wants, offered-case, shaped-offered, names-offered, other-enqueued}
-use Rattle.ready.proofs.CollectLaws.{Kept, kept-setCell, kept-page, kept-group, rest-page, group-taken, other-group-left, other-pages-left, pages-taken, linked-group}
-use Rattle.ready.proofs.CollectedQueue.{slotsOfPage, slotsOfPages, slotsOfGroup}
+use Rattle.ready.proofs.CollectLaws.{kept-setCell, kept-page, kept-group, rest-page, group-taken, other-group-left, other-pages-left, pages-taken, linked-group}
+use Rattle.ready.proofs.CollectedQueue.{slotsOfPage, slotsOfPages}
 use Rattle.ready.proofs.CollectedMarks.{SameMarks, group-marks, queue-collected}
 use Rattle.ready.proofs.Round.{kept-cursor, linked-cursor}
 use Rattle.receiver.specs.View.{flag, slotOf, slotAt, view}
@@ -462,8 +460,10 @@ module _ (r : List ℕ) (n : ℕ) (most : n ≤ 2) where
       go true false z passed taken =
           let g = groupAt n next in
           let x = exists t next e (omega arith) in
-          rw z (taken .0 ∙ ap (collectEach (roundFrom n k (g + 1))) (view-group t r c g (x .1) (eqb-false _ 0 z)),
-          collected-then (collected-group t c g (x .1) (omega (arith, x .0))) (taken .1))
+          rw z (
+            taken .0 ∙ ap (collectEach (roundFrom n k (g + 1))) (view-group t r c g (x .1) (eqb-false _ 0 z)),
+            collected-then (collected-group t c g (x .1) (omega (arith, x .0))) (taken .1),
+          )
       go false false z passed taken =
           let g = groupAt n next in
           let x = exists t next e (omega arith) in

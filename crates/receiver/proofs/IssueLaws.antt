@@ -3,13 +3,13 @@
 use mathlib.Core.Path.{_≡_, refl, sym, ap, ap₂, _∙_, subst}
 use mathlib.Core.Logic.{_≢_}
 use mathlib.Core.Bool.{Bool, true, false, cond}
-use mathlib.Core.List.{List, [], _∷_, _++_}
+use mathlib.Core.List.{List}
 use Prim.Native.Nat.{ℕ, zero, suc, _+_, _-_, _*_, _/_, _%_, _^_, _≤_, _<_}
 use native.Mathlib.Nat.{mod-lt, zero-lt-suc, mul-mod-left}
 use native.Mathlib.Numerals.{add-one}
 use native.Mathlib.Decide.{decLt}
 use native.Mathlib.Omega.{arith}
-use borrow.Author.Tests.{lt-ltb, le-ltb, eqb-true, eqb-false, ne-eqb, eq-eqb}
+use borrow.Author.Tests.{lt-ltb, le-ltb, eqb-true, eqb-false, ne-eqb}
 use lib.Dec.{eqb, ltb, leb}
 use lib.ListN.{length}
 use Rattle.model.specs.Lists.{if, count}
@@ -21,7 +21,7 @@ use Rattle.lane.specs.declared.lane.Lane.{Lane}
 use Rattle.lane.specs.Ring.{ringOf}
 use Rattle.lane.specs.Lane.{held}
 use Rattle.lane.specs.Order.{InOrder}
-use Rattle.lane.specs.Table.{HasRow, headerWords, rowWords, head, setHead, cell, setCell, laneAt, putLane}
+use Rattle.lane.specs.Table.{HasRow, headerWords, head, setHead, setCell, laneAt, putLane}
 use Rattle.lane.proofs.TableLaws.{frames, has-row, lane-own, other-lane-kept}
 use Rattle.ready.specs.Header.{Shaped, issued, slots, budget, capacity, fastSlot, laneCount, livingCount}
 use Rattle.ready.specs.Queue.{queueOf}
@@ -340,8 +340,14 @@ module _ (t r u : List ℕ) (o : Stores t r) (d : IssuedOne t u) (l : Lane) (e :
         let seen : view v r .slotOf (issued t) .registered ≡ true =
         registered-by v r (issued t) ∙ rw (lt-ltb (issued t) (issued v) (omega (arith, issued-now)), own-now, registered) in
         let own : one (view v r .slotOf (issued t) .registered) ≡ 1 = ap one seen in
-        omega (arith, stored, own, o .lanes-counted, registered-more (view t r) (view v r) issued-seen
-        (λ y h. registered-by v r y ∙ rw (lt-ltb y (issued v) (omega (arith, issued-now)), before-now y h) (sym (registered-by t r y ∙ rw (lt-ltb y (issued t) h)))))
+        omega (
+          arith,
+          stored,
+          own,
+          o .lanes-counted,
+          registered-more (view t r) (view v r) issued-seen
+              (λ y h. registered-by v r y ∙ rw (lt-ltb y (issued v) (omega (arith, issued-now)), before-now y h) (sym (registered-by t r y ∙ rw (lt-ltb y (issued t) h)))),
+        )
 
     living-now : livingCount v ≡ livingSenders (view v r)
     unfolding view
@@ -350,8 +356,14 @@ module _ (t r u : List ℕ) (o : Stores t r) (d : IssuedOne t u) (l : Lane) (e :
         let seen : view v r .slotOf (issued t) .living ≡ true =
         living-by v r (issued t) ∙ rw (lt-ltb (issued t) (issued v) (omega (arith, issued-now)), own-now, living) in
         let own : one (view v r .slotOf (issued t) .living) ≡ 1 = ap one seen in
-        omega (arith, stored, own, o .living-counted, living-more (view t r) (view v r) issued-seen
-        (λ y h. living-by v r y ∙ rw (lt-ltb y (issued v) (omega (arith, issued-now)), before-now y h) (sym (living-by t r y ∙ rw (lt-ltb y (issued t) h)))))
+        omega (
+          arith,
+          stored,
+          own,
+          o .living-counted,
+          living-more (view t r) (view v r) issued-seen
+              (λ y h. living-by v r y ∙ rw (lt-ltb y (issued v) (omega (arith, issued-now)), before-now y h) (sym (living-by t r y ∙ rw (lt-ltb y (issued t) h)))),
+        )
 
     stores-now : Stores v r
     stores-now =

@@ -4,24 +4,24 @@ use mathlib.Core.Path.{_≡_, refl, sym, ap, ap₂, _∙_}
 use mathlib.Core.Logic.{_≢_}
 use mathlib.Core.Bool.{Bool, true, false, cond, not}
 use mathlib.Core.List.{List, [], _∷_, _++_}
-use Prim.Native.Nat.{ℕ, suc, _+_, _-_, _*_, _/_, _%_, _≤_, _<_}
+use Prim.Native.Nat.{ℕ, _+_, _-_, _/_, _<_}
 use native.Mathlib.Omega.{arith}
-use borrow.Author.Tests.{lt-ltb, le-ltb, ltb-true, ltb-false, eq-eqb, ne-eqb}
-use lib.Dec.{eqb, ltb, leb}
+use borrow.Author.Tests.{lt-ltb, ltb-true, eq-eqb, ne-eqb}
+use lib.Dec.{eqb, ltb}
 use lib.ListN.{length, set}
 use Rattle.model.specs.Lists as rules
 use Rattle.model.specs.Lists.{if}
 use Rattle.model.specs.State.{Slot, State, vacant}
-use Rattle.model.specs.Changes.{withSlots, withQueue, withFree, withIssued, withBudget, withCursor, withOpen, put, withFlags, withSignal, withRing}
+use Rattle.model.specs.Changes.{withQueue, withFree, withBudget, withCursor, withOpen, put, withFlags, withSignal, withRing}
 use Rattle.model.proofs.Counting.{Same, equal, other, same?}
 use Rattle.model.proofs.Words.{state-path}
 use Rattle.model.specs.declared.LaneKey.{LaneKey}
 use Rattle.lane.specs.declared.lane.Lane.{Lane}
-use Rattle.lane.specs.Cursor.{Capacity, distance}
-use Rattle.lane.specs.Ring.{ringOf, place, items, Within, push}
+use Rattle.lane.specs.Cursor.{distance}
+use Rattle.lane.specs.Ring.{ringOf, place, Within, push}
 use Rattle.lane.specs.Lane.{held, pushAndFlush, sent}
 use Rattle.lane.specs.Order.{InOrder, sentLane}
-use Rattle.lane.specs.Table.{HasRow, head, setHead, cellAt, rowWords, headerWords, cell, laneAt, putLane}
+use Rattle.lane.specs.Table.{HasRow, head, setHead, headerWords, laneAt, putLane}
 use Rattle.lane.proofs.TableLaws.{frames, lane-own, other-lane-kept, slot-of-lane, has-row}
 use Rattle.lane.proofs.RingLaws.{other-ring-kept}
 use Rattle.lane.proofs.HeldLaws.{held-by-ends, push-and-flush-appends}
@@ -29,7 +29,7 @@ use Rattle.ready.specs.Header.{Shaped, issued, slots, budget, groupCursor, aliv
 use Rattle.ready.specs.Queue as words
 use Rattle.ready.specs.Queue.{queueOf, pushedBack, poppedFront, rotated, removed}
 use Rattle.ready.specs.Registry.{freeOf, freed, lastFreed, reissued}
-use Rattle.ready.specs.Ready.{pageBit, marked, queuedLane, enqueued, openedPage, openedGroup}
+use Rattle.ready.specs.Ready.{pageBit, marked, queuedLane, enqueued}
 use Rattle.ready.proofs.QueueLaws.{queue-frames, header-in, queue-pushed-back, queue-popped-front, queue-rotated, queue-removed, shaped-putLane}
 use Rattle.ready.proofs.RegistryLaws.{registry-frames, length-free, free-freed, free-reissued}
 use Rattle.ready.proofs.MarkLaws.{head-marked, lane-marked, queue-marked, free-marked, own-bit-marked, other-bit-marked}
