@@ -7,3 +7,4 @@ pub mod IssueLaws
 pub mod CollectedView
 pub mod CollectedStore
 pub mod RetireLaws
+pub mod FrontLaws

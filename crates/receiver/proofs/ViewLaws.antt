@@ -227,6 +227,33 @@ module _ (t r : List ℕ) (s : Shaped t) (x : ℕ) (h : x < issued t) (l : Lane)
   unfolding slotAt
   view-put-counts a b c d = view-put-same-ends ∙ rw (slot-in t r x h, a, b, c, d)
 
+-- a lane stored whose flags are as they were and that holds the items vs: items were taken, or counts changed
+pub view-put-holding : (t r : List ℕ) → Shaped t → (x : ℕ) → x < issued t → (l : Lane) → l .key ≡ laneAt t x .key → (vs : List ℕ) → held (ringOf x (capacity t)) r l ≡ vs
+    → l .registered ≡ laneAt t x .registered → l .living ≡ laneAt t x .living → l .paused ≡ laneAt t x .paused → l .pending ≡ laneAt t x .pending
+    → view (putLane t l) r ≡ put x (withRing vs (l .unreleased - l .window) (l .burst - l .window) (view t r .slotOf x)) (view t r)
+unfolding slotAt
+view-put-holding t r s x h l key vs e a b c d =
+    view-put-lane t s l x (ap (λ (k : LaneKey). k .slot) key ∙ slot-of-lane t x) h r
+    ∙ ap (λ (m : Slot). put x m (view t r))
+    (ap₂ (λ (g : ℕ) (ws : List ℕ). by (l .registered) (l .living) (l .paused) (l .pending) g ws) (ap (λ (k : LaneKey). k .generation) key) e
+    ∙ ap₂ (λ (i j : ℕ). by i j (l .paused) (l .pending) (laneAt t x .key .generation) vs) a b
+    ∙ ap₂ (λ (i j : ℕ). by (laneAt t x .registered) (laneAt t x .living) i j (laneAt t x .key .generation) vs) c d
+    ∙ rw (slot-in t r x h))
+  where
+    by : ℕ → ℕ → ℕ → ℕ → ℕ → List ℕ → Slot
+    by registered living paused pending g ws =
+        record {
+          registered = flag registered;
+          living = flag living;
+          paused = flag paused;
+          pending = flag pending;
+          marked = flag (pageBit t x);
+          generation = g;
+          ring = ws;
+          unreleased = l .unreleased - l .window;
+          burst = l .burst - l .window;
+        }
+
 -- the queued word alone is not seen
 pub view-put-queued : (t r : List ℕ) → Shaped t → (x : ℕ) → x < issued t → view (putLane t (queuedLane (laneAt t x))) r ≡ view t r
 unfolding slotAt
