@@ -6,5 +6,4 @@ pub mod StoreLaws
 pub mod IssueLaws
 pub mod CollectedView
 pub mod CollectedStore
-pub mod RetireLaws
 pub mod FrontLaws
