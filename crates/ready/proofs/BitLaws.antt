@@ -3,7 +3,8 @@
 use mathlib.Core.Path.{_≡_, refl, sym, ap, ap₂, _∙_, subst}
 use mathlib.Core.List.{List, [], _∷_}
 use Prim.Native.Nat.{ℕ, zero, suc, _+_, _-_, _*_, _/_, _%_, _^_, _≤_, _<_, min, max, suc-le-suc}
-use native.Mathlib.Nat.{pow-suc, pow-succ', div-lt-iff-lt-mul, zero-lt-suc, div-div-eq-div-mul, div-one, min-zero, zero-min, le-of-suc-le-suc, not-suc-le-zero, add-zero, one-mul, div-self, zero-div, max-zero, max-eq-right, max-le, mul-mod-left, mul-div-cancel, mod-lt}
+use native.Mathlib.Nat.{pow-suc, pow-succ', div-lt-iff-lt-mul, zero-lt-suc, div-div-eq-div-mul, div-one, min-zero, zero-min, le-of-suc-le-suc, not-suc-le-zero, le-refl, le-trans, add-zero, one-mul, div-self, zero-div, max-zero, max-eq-right, max-le, mul-mod-left, mul-div-cancel, mod-lt}
+use native.Mathlib.Numerals.{add-one}
 use native.Mathlib.Omega.{arith}
 use lib.Arith.{digits-mod}
 use lib.Bits.{bitAnd, bitOr, and-step, and-self, and-le-r, or-step, or-shr}
@@ -211,3 +212,23 @@ bits-in (suc k) p w (suc b) q i l e = go (w % 2) (bits-in k (p + 1) (w / 2) b q 
     go : (d : ℕ) → In q (bitsFrom k (p + 1) (w / 2)) → In q (keepIf d p (bitsFrom k (p + 1) (w / 2)))
     go zero r = r
     go (suc d) r = there r
+
+-- ---- a list that ascends, from a on
+
+pub data Ascends : ℕ → List ℕ → Type 0 where
+  end : {a : ℕ} → Ascends a []
+  next : {a x : ℕ} {l : List ℕ} → a ≤ x → Ascends (suc x) l → Ascends a (x ∷ l)
+
+pub ascends-below : {a b : ℕ} {l : List ℕ} → a ≤ b → Ascends b l → Ascends a l
+ascends-below h end = end
+ascends-below h (next g r) = next (le-trans h g) r
+
+-- the set bits ascend
+pub bits-ascend : (k p w : ℕ) → Ascends p (bitsFrom k p w)
+unfolding bitsFrom
+bits-ascend zero p w = end
+bits-ascend (suc k) p w = go (w % 2) (bits-ascend k (p + 1) (w / 2))
+  where
+    go : (d : ℕ) → Ascends (p + 1) (bitsFrom k (p + 1) (w / 2)) → Ascends p (keepIf d p (bitsFrom k (p + 1) (w / 2)))
+    go zero r = ascends-below (omega arith) r
+    go (suc d) r = next (le-refl p) (subst (λ (a : ℕ). Ascends a (bitsFrom k (p + 1) (w / 2))) (add-one p) r)

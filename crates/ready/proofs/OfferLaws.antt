@@ -64,7 +64,7 @@ module _ (t : List ℕ) (x : ℕ) where
   unfolding enqueued
   lane-enqueued r = simp (queue-frames, frames, r)
 
-  other-enqueued : (y : ℕ) → eqb y x ≡ false → laneAt (enqueued t x) y ≡ laneAt t y
+  pub other-enqueued : (y : ℕ) → eqb y x ≡ false → laneAt (enqueued t x) y ≡ laneAt t y
   unfolding enqueued
   other-enqueued y n = simp (queue-frames, frames, n)
 
@@ -128,7 +128,7 @@ module _ (t : List ℕ) (x : ℕ) (s : Shaped t) where
       unfolding enqueued
       shaped-enqueued = shaped-pushed-back (putLane t (queuedLane (laneAt t x))) (shaped-putLane t s _) x (simp frames (wants-room t x s q w))
 
-      queue-enqueued : queueOf (enqueued t x) ≡ queueOf t ++ (x ∷ [])
+      pub queue-enqueued : queueOf (enqueued t x) ≡ queueOf t ++ (x ∷ [])
       unfolding enqueued
       queue-enqueued =
           queue-pushed-back (putLane t (queuedLane (laneAt t x))) (shaped-putLane t s _) x (simp frames (wants-room t x s q w)) ∙ simp queue-frames

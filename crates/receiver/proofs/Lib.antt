@@ -1,3 +1,11 @@
+pub mod ViewLaws
+pub mod RefusalLaws
+pub mod StepLaws
+pub mod CountLaws
+pub mod StoreLaws
+pub mod IssueLaws
+pub mod SenderBounds
+pub mod OpeningBounds
 pub mod ControlBounds
 pub mod EnqueueLaws
 pub mod RetireFrames

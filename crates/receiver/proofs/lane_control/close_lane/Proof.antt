@@ -1,7 +1,8 @@
 -- `receiver::lane_control::close_lane` meets its contract.
 -- Assumes nothing.
-use Rattle.receiver.proofs.ControlBounds.{names, free-room, some-lanes}
+use Rattle.receiver.proofs.StoreLaws.{lane-counted, room-in-free}
 use Rattle.receiver.specs.Control.{closeLane}
+use Rattle.receiver.proofs.RefusalLaws.{id-passes}
 use Rattle.receiver.specs.Words.{unlessRefused}
 use Rattle.lane.proofs.TableLaws.{slot-of-lane}
 use native.Mathlib.Omega.{arith}
@@ -13,13 +14,13 @@ use Rattle.receiver.proofs.lane_control.close_lane.Tie as tie
 load-requires : tie.Need-load-requires
 load-requires c κs =
     let s = c .before .before .before .before .before .before .before .pre .stores .shaped in
-    omega (arith, names _ _ (sym (c .before .before .before .id-verdict .ensures) ∙ c .before .enum-told .given .1) .is-issued, s .issued-most, s .room)
+    omega (arith, id-passes _ _ (sym (c .before .before .before .id-verdict .ensures) ∙ c .before .enum-told .given .1) .1 .is-issued, s .issued-most, s .room)
 
 close-requires : tie.Need-close-requires
 close-requires c κs =
     let s = c .before .before .before .before .before .before .before .before .before .pre .stores .shaped in
-    let p = names _ _ (sym (c .before .before .before .before .before .id-verdict .ensures) ∙ c .before .before .before .enum-told .given .1) in
-    rw (c .before .load .ensures, slot-of-lane _ _) (s, omega (arith, p .is-issued, s .issued-most), free-room _ _ (c .before .before .before .before .before .before .before .before .before .pre) _ (p .is-issued) (p .registered), some-lanes _ _ (c .before .before .before .before .before .before .before .before .before .pre) _ (p .is-issued) (p .registered))
+    let p = id-passes _ _ (sym (c .before .before .before .before .before .id-verdict .ensures) ∙ c .before .before .before .enum-told .given .1) .1 in
+    rw (c .before .load .ensures, slot-of-lane _ _) (s, omega (arith, p .is-issued, s .issued-most), room-in-free _ _ (c .before .before .before .before .before .before .before .before .before .pre .stores) _ (p .is-issued) (p .registered) (c .before .before .before .before .before .before .before .before .before .pre .ordered), lane-counted _ _ (c .before .before .before .before .before .before .before .before .before .pre .stores) _ (p .is-issued) (p .registered))
 
 returns : tie.Need-returns
 unfolding closeLane unlessRefused

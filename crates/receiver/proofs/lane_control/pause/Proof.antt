@@ -1,7 +1,8 @@
 -- `receiver::lane_control::pause` meets its contract.
 -- Assumes nothing.
-use Rattle.receiver.proofs.ControlBounds.{names, all-refundable}
+use Rattle.receiver.proofs.ControlBounds.{all-refundable}
 use Rattle.receiver.specs.Control.{pause}
+use Rattle.receiver.proofs.RefusalLaws.{id-passes}
 use Rattle.receiver.specs.Words.{unlessRefused}
 use Rattle.lane.proofs.TableLaws.{slot-of-lane}
 use native.Mathlib.Omega.{arith}
@@ -13,12 +14,12 @@ use Rattle.receiver.proofs.lane_control.pause.Tie as tie
 load-requires : tie.Need-load-requires
 load-requires c κs =
     let s = c .before .before .before .before .before .before .before .pre .stores .shaped in
-    omega (arith, names _ _ (sym (c .before .before .before .id-verdict .ensures) ∙ c .before .enum-told .given .1) .is-issued, s .issued-most, s .room)
+    omega (arith, id-passes _ _ (sym (c .before .before .before .id-verdict .ensures) ∙ c .before .enum-told .given .1) .1 .is-issued, s .issued-most, s .room)
 
 pause-lane-requires : tie.Need-pause-lane-requires
 pause-lane-requires c κs =
     let s = c .before .before .before .before .before .before .before .before .before .pre .stores .shaped in
-    let p = names _ _ (sym (c .before .before .before .before .before .id-verdict .ensures) ∙ c .before .before .before .enum-told .given .1) in (
+    let p = id-passes _ _ (sym (c .before .before .before .before .before .id-verdict .ensures) ∙ c .before .before .before .enum-told .given .1) .1 in (
       s,
       rw (c .before .load .ensures, slot-of-lane _ _) (omega (arith, p .is-issued, s .issued-most)),
       rw (c .before .load .ensures) (all-refundable _ _ (c .before .before .before .before .before .before .before .before .before .pre) _ (p .is-issued) (p .registered)),

@@ -1,8 +1,9 @@
 -- `receiver::lane_control::resume` meets its contract.
 -- Assumes nothing.
 use Rattle.lane.specs.declared.lane.Lane.{Lane}
-use Rattle.receiver.proofs.ControlBounds.{names, queue-room}
+use Rattle.receiver.proofs.ControlBounds.{paused-room}
 use Rattle.receiver.specs.Control.{resume}
+use Rattle.receiver.proofs.RefusalLaws.{id-passes}
 use Rattle.receiver.specs.Words.{unlessRefused}
 use Rattle.lane.proofs.TableLaws.{slot-of-lane}
 use native.Mathlib.Omega.{arith}
@@ -14,15 +15,15 @@ use Rattle.receiver.proofs.lane_control.resume.Tie as tie
 load-requires : tie.Need-load-requires
 load-requires c κs =
     let s = c .before .before .before .before .before .before .before .pre .stores .shaped in
-    omega (arith, names _ _ (sym (c .before .before .before .id-verdict .ensures) ∙ c .before .enum-told .given .1) .is-issued, s .issued-most, s .room)
+    omega (arith, id-passes _ _ (sym (c .before .before .before .id-verdict .ensures) ∙ c .before .enum-told .given .1) .1 .is-issued, s .issued-most, s .room)
 
 resume-lane-requires : tie.Need-resume-lane-requires
 resume-lane-requires c κs =
     let s = c .before .before .before .before .before .before .before .before .before .pre .stores .shaped in
-    let p = names _ _ (sym (c .before .before .before .before .before .id-verdict .ensures) ∙ c .before .before .before .enum-told .given .1) in (
+    let p = id-passes _ _ (sym (c .before .before .before .before .before .id-verdict .ensures) ∙ c .before .before .before .enum-told .given .1) .1 in (
       s,
       rw (c .before .load .ensures, slot-of-lane _ _) (omega (arith, p .is-issued, s .issued-most)),
-      λ e. queue-room _ _ (c .before .before .before .before .before .before .before .before .before .pre) _ (p .is-issued) (p .registered) (ap (λ (l : Lane). l .paused) (sym (c .before .load .ensures)) ∙ e),
+      λ e. paused-room _ _ (c .before .before .before .before .before .before .before .before .before .pre) _ (p .is-issued) (ap (λ (l : Lane). l .paused) (sym (c .before .load .ensures)) ∙ e),
     )
 
 returns : tie.Need-returns
