@@ -11,3 +11,7 @@ pub mod EnqueueLaws
 pub mod RetireFrames
 pub mod SignalFrames
 pub mod SlotLoops
+pub mod CloseReceiverLaws
+pub mod CountHeldLaws
+pub mod CreditLaws
+pub mod PauseLaws
