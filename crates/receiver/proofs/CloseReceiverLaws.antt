@@ -22,7 +22,7 @@ use Rattle.receiver.specs.Refusal.{receiverVerdict}
 use Rattle.receiver.specs.Control.{closeReceiver}
 use Rattle.receiver.proofs.ViewLaws.{view-alive}
 use Rattle.receiver.proofs.RefusalLaws.{seen, receiver-verdict, refused-alike, unless-refused-case}
-use Rattle.receiver.proofs.StepLaws.{linked-by}
+use Rattle.receiver.proofs.StepLaws.{linked-by, mark-words-by}
 
 pub close-receiver-as-ruled : (t r : List ℕ) → StoreInOrder t r → seen (closeReceiver t r) ≡ (rules.closeReceiver (view t r)) .1
 unfolding closeReceiver rules.closeReceiver
@@ -48,10 +48,12 @@ stores-closed t r o =
       power = simp frames (o .power);
       rings-room = simp frames (o .rings-room);
       alive-flag = simp (frames, header-in t (o .shaped)) (omega arith);
+      first-cursor = simp frames (o .first-cursor);
       flags = λ x h. rw (same x) (o .flags x (simp frames at h));
       lanes = λ x h g. rw (same x) (simp frames (o .lanes x (simp frames at h) (rw (same x) at g)));
       named = names-by t (setHead t 7 0) (simp queue-frames) (simp frames) same (o .named);
       linked = linked-by t (setHead t 7 0) (simp frames) (λ p. simp frames) (λ g. simp frames) (o .linked);
+      mark-words = mark-words-by t (setHead t 7 0) (simp frames) (λ p. simp frames) (λ g. simp frames) (o .mark-words);
       windows = λ x h g w. rw (same x) (simp (frames, queue-frames) (o .windows x (simp frames at h) (rw (same x) at g) (rw (same x) at w)));
       lanes-counted = rw (view-alive t r (o .shaped) 0) (simp frames (o .lanes-counted) ∙ sym (lanes-open (view t r)));
       living-counted = rw (view-alive t r (o .shaped) 0) (simp frames (o .living-counted) ∙ sym (living-open (view t r)));

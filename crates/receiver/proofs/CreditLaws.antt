@@ -66,3 +66,11 @@ pub credited-by : (s : Slot) (a b c : Bool) (u v : ℕ) (p : Bool) → a ≡ s .
 credited-by s a b c u v p i j k g m n =
     rw (i, j, k, m, n)
     (ap (λ (y : ℕ). withFlags (s .registered) (s .living) p (withRing (s .ring) y (s .burst) s)) (sym (if-true (s .registered) g 0 (s .unreleased))))
+
+-- the same with no flag changed
+pub given-back : (s : Slot) (u v : ℕ) → s .registered ≡ true → u ≡ 0 → v ≡ s .burst → withRing (s .ring) u v s ≡ credited s
+given-back s u v g m n = rw (m, n) (ap (λ (y : ℕ). withRing (s .ring) y (s .burst) s) (sym (if-true (s .registered) g 0 (s .unreleased))))
+
+-- a slot without a lane
+pub nothing-back : (s : Slot) → s .registered ≡ false → credited s ≡ s
+nothing-back s e = ap (λ (b : Bool). withRing (s .ring) (if b 0 (s .unreleased)) (s .burst) s) e

@@ -1,6 +1,6 @@
 -- A slot issued for the first time: its page and group, the view, and the store in order that it leaves.
 -- Assumes nothing.
-use mathlib.Core.Path.{_≡_, refl, sym, ap, ap₂, _∙_}
+use mathlib.Core.Path.{_≡_, refl, sym, ap, ap₂, _∙_, subst}
 use mathlib.Core.Logic.{_≢_}
 use mathlib.Core.Bool.{Bool, true, false, cond}
 use mathlib.Core.List.{List, [], _∷_, _++_}
@@ -12,17 +12,18 @@ use native.Mathlib.Omega.{arith}
 use borrow.Author.Tests.{lt-ltb, le-ltb, eqb-true, eqb-false, ne-eqb, eq-eqb}
 use lib.Dec.{eqb, ltb, leb}
 use lib.ListN.{length}
-use Rattle.model.specs.Lists.{if}
-use Rattle.model.specs.State.{Slot, State, vacant}
+use Rattle.model.specs.Lists.{if, count}
+use Rattle.model.specs.State.{vacant, registeredLanes, livingSenders}
 use Rattle.model.specs.Changes.{withIssued, put}
 use Rattle.model.proofs.Counting.{Same, equal, other, same?}
 use Rattle.model.proofs.Words.{state-path}
 use Rattle.lane.specs.declared.lane.Lane.{Lane}
 use Rattle.lane.specs.Ring.{ringOf}
 use Rattle.lane.specs.Lane.{held}
+use Rattle.lane.specs.Order.{InOrder}
 use Rattle.lane.specs.Table.{HasRow, headerWords, rowWords, head, setHead, cell, setCell, laneAt, putLane}
-use Rattle.lane.proofs.TableLaws.{frames, has-row}
-use Rattle.ready.specs.Header.{Shaped, issued, slots, capacity}
+use Rattle.lane.proofs.TableLaws.{frames, has-row, lane-own, other-lane-kept}
+use Rattle.ready.specs.Header.{Shaped, issued, slots, budget, capacity, fastSlot, laneCount, livingCount}
 use Rattle.ready.specs.Queue.{queueOf}
 use Rattle.ready.specs.Registry.{freeOf}
 use Rattle.ready.specs.Bits.{bit}
@@ -31,7 +32,11 @@ use Rattle.ready.proofs.BitLaws.{bit-zero}
 use Rattle.ready.proofs.QueueLaws.{queue-frames, header-in}
 use Rattle.ready.proofs.RegistryLaws.{registry-frames}
 use Rattle.receiver.specs.View.{flag, slotOf, slotAt, view}
-use Rattle.receiver.proofs.ViewLaws.{view-put-lane, put-put}
+use Rattle.receiver.specs.Order.{Flags, Fast, MarkWords, Stores}
+use Rattle.receiver.proofs.ViewLaws.{row-in, view-put-lane, put-put}
+use Rattle.receiver.proofs.CountLaws.{one, registered-more, living-more}
+use Rattle.receiver.proofs.StepLaws.{linked-by, mark-words-by}
+use Rattle.receiver.proofs.StoreLaws.{registered-by, living-by}
 
 -- ---- the page and the group of a slot opened
 
@@ -219,6 +224,30 @@ module _ (t : List ℕ) (s : Shaped t) (k : Linked t) (below : issued t < slots 
             omega arith
       ]
 
+  -- and are u64
+  pub mark-words-issued-next : MarkWords t → MarkWords u
+  mark-words-issued-next m =
+      record {
+        pages-fit = λ p h. page p (rw issued-next at h);
+        groups-fit = λ g h. group g (rw issued-next at h);
+      }
+    where
+      page : (p : ℕ) → 64 * p < n + 1 → pageWord u p < 2 ^ 64
+      page p h = elim (same? (64 * p) n) [
+        | equal z q i ↦
+            let at : p ≡ n / 64 = omega arith in
+            rw (page-same p ∙ ap (pageWord (openedPage t n)) at ∙ page-opened t n row (omega arith)) (omega arith)
+        | other d q i ↦ rw (page-same p ∙ page-left t n p (λ z f. d (omega arith))) (m .pages-fit p (omega arith))
+      ]
+
+      group : (g : ℕ) → 4096 * g < n + 1 → groupWord u g < 2 ^ 64
+      group g h = elim (same? (4096 * g) n) [
+        | equal z q i ↦
+            let at : g ≡ n / 64 / 64 = omega arith in
+            rw (group-same g ∙ ap (groupWord (openedPage t n)) at ∙ group-opened t n row (omega arith)) (omega arith)
+        | other d q i ↦ rw (group-same g ∙ group-left t n g (λ z f. d (omega arith))) (m .groups-fit g (omega arith))
+      ]
+
   -- ---- the view
 
   slot-before : (r : List ℕ) (y : ℕ) → y < n → slotAt u r y ≡ slotAt t r y
@@ -245,3 +274,136 @@ module _ (t : List ℕ) (s : Shaped t) (k : Linked t) (below : issued t < slots 
       ∙ ap₂ (λ (b c : ℕ). put n (slotOf l b (held (ringOf n c) r l)) (view u r)) page-bit-next (head-issued-next 8 refl refl)
       ∙ ap (put n (slotOf l 0 (held (ringOf n (capacity t)) r l))) (view-issued-next r)
       ∙ ap (withIssued (suc n)) (put-put n (slotOf l 0 (held (ringOf n (capacity t)) r l)) (slotAt u r n) (view t r))
+
+-- ---- the store in order that it leaves
+
+-- what is known of the table with one more slot issued
+record IssuedOne (t u : List ℕ) : Type 0 where
+  shaped : Shaped u
+  linked : Linked u
+  mark-words : MarkWords u
+  issued-is : issued u ≡ issued t + 1
+  heads : (j : ℕ) → ltb j headerWords ≡ true → eqb 0 j ≡ false → head u j ≡ head t j
+  lanes : (y : ℕ) → laneAt u y ≡ laneAt t y
+  queue : queueOf u ≡ queueOf t
+
+-- a lane newly registered in it, with the two counts one more
+module _ (t r u : List ℕ) (o : Stores t r) (d : IssuedOne t u) (l : Lane) (e : l .key .slot ≡ issued t) where
+  abbrev v : List ℕ
+  v = setHead (setHead (putLane u l) 13 (laneCount t + 1)) 14 (livingCount t + 1)
+
+  at-end : leb headerWords (length u) ≡ true
+  at-end = header-in u (d .shaped)
+
+  heads-now : (j : ℕ) → ltb j headerWords ≡ true → eqb 0 j ≡ false → eqb 13 j ≡ false → eqb 14 j ≡ false → head v j ≡ head t j
+  heads-now j p a b c = simp (frames, p, b, c) (d .heads j p a)
+
+  issued-now : issued v ≡ issued t + 1
+  issued-now = simp frames (d .issued-is)
+
+  own-now : laneAt v (issued t) ≡ l
+  own-now = simp frames (lane-own u l (issued t) e (has-row u (issued t) (row-in u (d .shaped) (issued t) (omega (arith, d .issued-is)))))
+
+  before-now : (y : ℕ) → y < issued t → laneAt v y ≡ laneAt t y
+  before-now y h = simp frames (other-lane-kept u l y (λ p. omega (arith, e)) ∙ d .lanes y)
+
+  queue-now : queueOf v ≡ queueOf t
+  queue-now = simp queue-frames (d .queue)
+
+  -- what holds of the new lane, and of the lanes before, holds of every issued lane now
+  each-now : (P : ℕ → Lane → Type 0) → P (issued t) l → ((y : ℕ) → y < issued t → P y (laneAt t y)) → (y : ℕ) → y < issued v → P y (laneAt v y)
+  each-now P a b y h = elim (same? (issued t) y) [
+    | equal p q i ↦ subst (λ (z : ℕ). P z (laneAt v z)) p (subst (P (issued t)) (sym own-now) a)
+    | other n q i ↦ let c : y < issued t = omega (arith, issued-now) in subst (P y) (sym (before-now y c)) (b y c)
+  ]
+
+  linked-now : Linked v
+  linked-now = linked-by u v (simp frames) (λ p. simp frames) (λ g. simp frames) (d .linked)
+
+  issued-seen : view v r .issued ≡ suc (view t r .issued)
+  unfolding view
+  issued-seen = issued-now ∙ add-one (issued t)
+
+  module _ (flags : Flags l) (order : InOrder (capacity t) l) (registered : l .registered ≡ 1) (living : l .living ≡ 1) (unqueued : l .queued ≡ 0) (closed : l .window ≡ 0) where
+    -- nothing in the queue is past the slots issued before
+    unnamed : count (issued t) (queueOf t) ≡ 0
+    unnamed = go (count (issued t) (queueOf t)) (o .named .issued-only (issued t))
+      where
+        go : (c : ℕ) → (1 ≤ c → issued t < issued t) → c ≡ 0
+        go zero f = refl
+        go (suc c) f = absurd (omega (arith, f (omega arith)))
+
+    lanes-now : laneCount v ≡ registeredLanes (view v r)
+    unfolding view
+    lanes-now =
+        let stored : laneCount v ≡ laneCount t + 1 = simp (frames, at-end) in
+        let seen : view v r .slotOf (issued t) .registered ≡ true =
+        registered-by v r (issued t) ∙ rw (lt-ltb (issued t) (issued v) (omega (arith, issued-now)), own-now, registered) in
+        let own : one (view v r .slotOf (issued t) .registered) ≡ 1 = ap one seen in
+        omega (
+          arith,
+          stored,
+          own,
+          o .lanes-counted,
+          registered-more (view t r) (view v r) issued-seen
+              (λ y h. registered-by v r y ∙ rw (lt-ltb y (issued v) (omega (arith, issued-now)), before-now y h) (sym (registered-by t r y ∙ rw (lt-ltb y (issued t) h)))),
+        )
+
+    living-now : livingCount v ≡ livingSenders (view v r)
+    unfolding view
+    living-now =
+        let stored : livingCount v ≡ livingCount t + 1 = simp (frames, at-end) in
+        let seen : view v r .slotOf (issued t) .living ≡ true =
+        living-by v r (issued t) ∙ rw (lt-ltb (issued t) (issued v) (omega (arith, issued-now)), own-now, living) in
+        let own : one (view v r .slotOf (issued t) .living) ≡ 1 = ap one seen in
+        omega (
+          arith,
+          stored,
+          own,
+          o .living-counted,
+          living-more (view t r) (view v r) issued-seen
+              (λ y h. living-by v r y ∙ rw (lt-ltb y (issued v) (omega (arith, issued-now)), before-now y h) (sym (living-by t r y ∙ rw (lt-ltb y (issued t) h)))),
+        )
+
+    stores-now : Stores v r
+    stores-now =
+        record {
+          shaped = simp frames (d .shaped);
+          fast-below = rw (heads-now 12 refl refl refl refl, heads-now 4 refl refl refl refl) (o .fast-below);
+          power = rw (heads-now 8 refl refl refl refl) (o .power);
+          rings-room = rw (heads-now 8 refl refl refl refl, heads-now 4 refl refl refl refl) (o .rings-room);
+          alive-flag = rw (heads-now 7 refl refl refl refl) (o .alive-flag);
+          first-cursor = rw (heads-now 10 refl refl refl refl) (o .first-cursor);
+          flags = each-now (λ y j. Flags j) flags (o .flags);
+          lanes = rw (heads-now 8 refl refl refl refl) (each-now (λ y j. j .registered ≡ 1 → InOrder (capacity t) j) (λ z. order) (o .lanes));
+          named =
+              record {
+                once = λ y. rw queue-now (o .named .once y);
+                issued-only = λ y c. omega (arith, issued-now, o .named .issued-only y (rw queue-now at c));
+                flagged = rw queue-now (each-now (λ y j. j .registered ≡ 1 → j .queued ≡ count y (queueOf t)) (λ z. unqueued ∙ sym unnamed) (o .named .flagged));
+              };
+          linked = linked-now;
+          mark-words = mark-words-by u v (simp frames) (λ p. simp frames) (λ g. simp frames) (d .mark-words);
+          windows = rw (queue-now, heads-now 5 refl refl refl refl, heads-now 12 refl refl refl refl)
+              (each-now (λ y j. j .registered ≡ 1 → 0 < j .window → Fast y (fastSlot t) (queueOf t) (j .window) (budget t)) (λ z c. absurd (omega arith)) (o .windows));
+          lanes-counted = lanes-now;
+          living-counted = living-now;
+        }
+
+module _ (t r : List ℕ) (o : Stores t r) (below : issued t < slots t) where
+  issued-one : IssuedOne t (issuedNext t)
+  issued-one =
+      record {
+        shaped = shaped-issued-next t (o .shaped) (o .linked) below;
+        linked = linked-issued-next t (o .shaped) (o .linked) below;
+        mark-words = mark-words-issued-next t (o .shaped) (o .linked) below (o .mark-words);
+        issued-is = issued-next t (o .shaped) (o .linked) below;
+        heads = head-issued-next t (o .shaped) (o .linked) below;
+        lanes = lane-issued-next t (o .shaped) (o .linked) below;
+        queue = queue-issued-next t (o .shaped) (o .linked) below;
+      }
+
+  -- a lane newly registered in the next slot, with the two counts one more, leaves a store in order
+  pub stores-registered-next : (l : Lane) → l .key .slot ≡ issued t → Flags l → InOrder (capacity t) l → l .registered ≡ 1 → l .living ≡ 1 → l .queued ≡ 0 → l .window ≡ 0
+      → Stores (setHead (setHead (putLane (issuedNext t) l) 13 (laneCount t + 1)) 14 (livingCount t + 1)) r
+  stores-registered-next l e = stores-now t r (issuedNext t) o issued-one l e

@@ -4,6 +4,7 @@ pub mod StepLaws
 pub mod CountLaws
 pub mod StoreLaws
 pub mod IssueLaws
+pub mod CollectedView
 pub mod SenderBounds
 pub mod OpeningBounds
 pub mod ControlBounds
@@ -15,3 +16,10 @@ pub mod CloseReceiverLaws
 pub mod CountHeldLaws
 pub mod CreditLaws
 pub mod PauseLaws
+pub mod SignalLaws
+pub mod SendLaws
+pub mod DropLaws
+pub mod ResumeLaws
+pub mod RetireLaws
+pub mod CloseLaneLaws
+pub mod ReleaseConsumedLaws

@@ -83,7 +83,7 @@ module _ (t r : List ℕ) (o : StoreInOrder t r) (x : ℕ) (h : x < issued t) (g
   step-paused : Step t (paused t old) x new (lists.without x (queueOf t)) (fastSlot t) (budget t) (laneCount t) (livingCount t)
   step-paused =
       subst (λ (u : List ℕ). Step t u x new (lists.without x (queueOf t)) (fastSlot t) (budget t) (laneCount t) (livingCount t)) (sym paused-is)
-      (step-removed (step-put-lane (step-start t (o .stores .shaped) (o .stores .linked) x) new own-slot h) x)
+      (step-removed (step-put-lane (step-start t r (o .stores) x) new own-slot h) x)
 
   flags-paused : Flags new
   unfolding pausedLane

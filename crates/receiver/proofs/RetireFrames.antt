@@ -3,7 +3,7 @@
 use mathlib.Core.Path.{_≡_, refl, _∙_}
 use mathlib.Core.List.{List}
 use Prim.Native.Nat.{ℕ, _-_, _<_}
-use borrow.Author.Tests.{eq-eqb}
+use borrow.Author.Tests.{eq-eqb, ne-eqb}
 use lib.Dec.{eqb}
 use lib.ListN.{length}
 use Rattle.lane.specs.declared.lane.Lane.{Lane}
@@ -39,6 +39,10 @@ module _ (t : List ℕ) (l : Lane) where
   pub resumed-paused : l .paused ≡ 1 → resumed t l ≡ pushedBack (markedIfIdle (putLane t (withTurn 1 1 0 l)) l) (l .key .slot)
   unfolding resumed
   resumed-paused e = rw (eq-eqb (l .paused) 1 e)
+
+  pub resumed-unpaused : (l .paused ≡ 1 → ⊥) → resumed t l ≡ t
+  unfolding resumed
+  resumed-unpaused n = rw (ne-eqb (l .paused) 1 n)
 
 pub length-retire-lane : (t : List ℕ) (l : Lane) → length (retireLane t l) ≡ length t
 unfolding retireLane

@@ -4,13 +4,17 @@ use mathlib.Core.Path.{_≡_, refl, sym, ap, _∙_}
 use mathlib.Core.Logic.{_≢_}
 use mathlib.Core.Bool.{true, false}
 use mathlib.Core.List.{List, [], _∷_, _++_}
-use Prim.Native.Nat.{ℕ, _+_, _-_, _*_, _≤_, _<_}
+use Prim.Native.Nat.{ℕ, suc, _+_, _-_, _*_, _/_, _%_, _^_, _≤_, _<_}
+use native.Mathlib.Nat.{pow-suc}
 use native.Mathlib.Omega.{arith}
 use lib.Dec.{eqb, ltb}
 use lib.ListN.{length}
+use lib.Bits.{or-lt}
+use lib.Pow.{pow-mono, pow-pos}
 use Rattle.model.specs.Lists as rules
+use Rattle.model.proofs.Counting.{Same, equal, other, same?}
 use Rattle.lane.specs.declared.lane.Lane.{Lane}
-use Rattle.lane.specs.Table.{setHead, laneAt, putLane, headerWords}
+use Rattle.lane.specs.Table.{HasRow, setHead, laneAt, putLane}
 use Rattle.lane.proofs.TableLaws.{frames, lane-own, other-lane-kept, has-row}
 use Rattle.ready.specs.Header.{Shaped, issued, slots, budget, alive, capacity, firstCursor, fastSlot, laneCount, livingCount, freeCount, queueCount}
 use Rattle.ready.specs.Queue.{queueOf, pushedBack, poppedFront, rotated, removed}
@@ -18,7 +22,8 @@ use Rattle.ready.specs.Registry.{freed, reissued}
 use Rattle.ready.specs.Ready.{pageWord, groupWord, Linked, marked}
 use Rattle.ready.proofs.QueueLaws.{queue-frames, header-in, length-queue, queue-pushed-back, queue-popped-front, queue-rotated, queue-removed, shaped-pushed-back, shaped-popped-front, shaped-rotated, shaped-removed, shaped-putLane}
 use Rattle.ready.proofs.RegistryLaws.{registry-frames, shaped-freed, shaped-reissued}
-use Rattle.ready.proofs.MarkLaws.{marked-case, head-marked, lane-marked, queue-marked, linked-marked}
+use Rattle.ready.proofs.MarkLaws.{marked-case, head-marked, lane-marked, queue-marked, page-marked, other-page-marked, linked-marked}
+use Rattle.receiver.specs.Order.{MarkWords, Stores}
 use Rattle.receiver.proofs.ViewLaws.{row-in, without-alike}
 
 -- marks stay linked where page words, group words and the number of issued slots stay
@@ -30,14 +35,52 @@ linked-by t u e p g k =
       of-pages = λ y h b. rw e (k .of-pages y (rw e at h) (rw (g _) at b));
     }
 
+-- and are u64
+pub mark-words-by : (t u : List ℕ) → issued u ≡ issued t → ((p : ℕ) → pageWord u p ≡ pageWord t p) → ((g : ℕ) → groupWord u g ≡ groupWord t g) → MarkWords t → MarkWords u
+mark-words-by t u e p g k =
+    record {
+      pages-fit = λ y h. rw (p y) (k .pages-fit y (rw e at h));
+      groups-fit = λ y h. rw (g y) (k .groups-fit y (rw e at h));
+    }
+
+pow-below : (b : ℕ) → b < 64 → 2 ^ b < 2 ^ 64
+pow-below b h =
+    let e : 2 ^ suc b ≤ 2 ^ 64 = pow-mono h in
+    omega (arith, e, pow-suc 2 b, pow-pos b)
+
+pub mark-words-marked : (t : List ℕ) (x : ℕ) → Shaped t → x < issued t → MarkWords t → MarkWords (marked t x)
+mark-words-marked t x s h k =
+    let row : HasRow (x / 64) (length t) = omega (arith, s .room, s .issued-most) in
+    let row′ : HasRow (x / 64 / 64) (length t) = omega (arith, s .room, s .issued-most) in
+    let same : issued (marked t x) ≡ issued t = head-marked t x 0 refl in
+    record {
+      pages-fit = λ p l. elim (same? p (x / 64)) [
+        | equal e q i ↦
+            rw (e, page-marked t x row)
+            (or-lt 64 (pageWord t (x / 64)) (2 ^ (x % 64)) (k .pages-fit (x / 64) (omega arith)) (pow-below (x % 64) (omega arith)))
+        | other d q i ↦ rw (other-page-marked t x p q) (k .pages-fit p (rw same at l))
+      ];
+      groups-fit = λ g l.
+          marked-case t x (λ u. groupWord u g < 2 ^ 64)
+          (λ z. elim (same? g (x / 64 / 64)) [
+            | equal e q i ↦
+                rw e (simp (frames, has-row t (x / 64 / 64) row′)
+                (or-lt 64 (groupWord t (x / 64 / 64)) (2 ^ (x / 64 % 64)) (k .groups-fit (x / 64 / 64) (omega arith)) (pow-below (x / 64 % 64) (omega arith))))
+            | other d q i ↦ simp (frames, q) (k .groups-fit g (rw same at l))
+          ])
+          (λ z. simp frames (k .groups-fit g (rw same at l)));
+    }
+
 -- From t to u lane x became l and no other lane changed; the queue is now w, `fast_slot` f, the budget b, the counts of lanes and living senders n and m.
 pub record Step (t u : List ℕ) (x : ℕ) (l : Lane) (w : List ℕ) (f b n m : ℕ) : Type 0 where
   pub shaped : Shaped u
   pub linked : Linked u
+  pub mark-words : MarkWords u
   pub same-issued : issued u ≡ issued t
   pub same-slots : slots u ≡ slots t
   pub same-capacity : capacity u ≡ capacity t
   pub same-alive : alive u ≡ alive t
+  pub same-cursor : firstCursor u ≡ firstCursor t
   pub own : laneAt u x ≡ l
   pub others : (y : ℕ) → x ≢ y → laneAt u y ≡ laneAt t y
   pub queue : queueOf u ≡ w
@@ -46,15 +89,17 @@ pub record Step (t u : List ℕ) (x : ℕ) (l : Lane) (w : List ℕ) (f b n m : 
   pub lanes : laneCount u ≡ n
   pub living : livingCount u ≡ m
 
-pub step-start : (t : List ℕ) → Shaped t → Linked t → (x : ℕ) → Step t t x (laneAt t x) (queueOf t) (fastSlot t) (budget t) (laneCount t) (livingCount t)
-step-start t s k x =
+pub step-start : (t r : List ℕ) → Stores t r → (x : ℕ) → Step t t x (laneAt t x) (queueOf t) (fastSlot t) (budget t) (laneCount t) (livingCount t)
+step-start t r o x =
     record {
-      shaped = s;
-      linked = k;
+      shaped = o .shaped;
+      linked = o .linked;
+      mark-words = o .mark-words;
       same-issued = refl;
       same-slots = refl;
       same-capacity = refl;
       same-alive = refl;
+      same-cursor = refl;
       own = refl;
       others = λ y n. refl;
       queue = refl;
@@ -71,10 +116,12 @@ module _ {t u : List ℕ} {x : ℕ} {l : Lane} {w : List ℕ} {f b n m : ℕ} (k
       record {
         shaped = shaped-putLane u (k .shaped) o;
         linked = linked-by u (putLane u o) (simp frames) (λ p. simp frames) (λ g. simp frames) (k .linked);
+        mark-words = mark-words-by u (putLane u o) (simp frames) (λ p. simp frames) (λ g. simp frames) (k .mark-words);
         same-issued = simp frames (k .same-issued);
         same-slots = simp frames (k .same-slots);
         same-capacity = simp frames (k .same-capacity);
         same-alive = simp frames (k .same-alive);
+        same-cursor = simp frames (k .same-cursor);
         own = lane-own u o x e (has-row u x (row-in u (k .shaped) x (rw (k .same-issued) h)));
         others = λ y d. other-lane-kept u o y (λ p. d (sym (p ∙ e))) ∙ k .others y d;
         queue = simp queue-frames (k .queue);
@@ -91,10 +138,12 @@ module _ {t u : List ℕ} {x : ℕ} {l : Lane} {w : List ℕ} {f b n m : ℕ} (k
       record {
         shaped = marked-case u z Shaped (λ e. simp frames (k .shaped)) (λ e. simp frames (k .shaped));
         linked = linked-marked u z (k .shaped) (rw (k .same-issued) h) (k .linked);
+        mark-words = mark-words-marked u z (k .shaped) (rw (k .same-issued) h) (k .mark-words);
         same-issued = hd 0 refl ∙ k .same-issued;
         same-slots = hd 4 refl ∙ k .same-slots;
         same-capacity = hd 8 refl ∙ k .same-capacity;
         same-alive = hd 7 refl ∙ k .same-alive;
+        same-cursor = hd 10 refl ∙ k .same-cursor;
         own = lane-marked u z x ∙ k .own;
         others = λ y d. lane-marked u z y ∙ k .others y d;
         queue = queue-marked u z ∙ k .queue;
@@ -111,10 +160,12 @@ module _ {t u : List ℕ} {x : ℕ} {l : Lane} {w : List ℕ} {f b n m : ℕ} (k
       record {
         shaped = shaped-pushed-back u (k .shaped) z room;
         linked = linked-by u (pushedBack u z) (simp queue-frames) (λ p. simp queue-frames) (λ g. simp queue-frames) (k .linked);
+        mark-words = mark-words-by u (pushedBack u z) (simp queue-frames) (λ p. simp queue-frames) (λ g. simp queue-frames) (k .mark-words);
         same-issued = simp queue-frames (k .same-issued);
         same-slots = simp queue-frames (k .same-slots);
         same-capacity = simp queue-frames (k .same-capacity);
         same-alive = simp queue-frames (k .same-alive);
+        same-cursor = simp queue-frames (k .same-cursor);
         own = simp queue-frames (k .own);
         others = λ y d. simp queue-frames (k .others y d);
         queue = queue-pushed-back u (k .shaped) z room ∙ ap (λ (q : List ℕ). q ++ (z ∷ [])) (k .queue);
@@ -130,10 +181,12 @@ module _ {t u : List ℕ} {x : ℕ} {l : Lane} {w : List ℕ} {f b n m : ℕ} (k
       record {
         shaped = shaped-removed u (k .shaped) z;
         linked = linked-by u (removed u z) (simp queue-frames) (λ p. simp queue-frames) (λ g. simp queue-frames) (k .linked);
+        mark-words = mark-words-by u (removed u z) (simp queue-frames) (λ p. simp queue-frames) (λ g. simp queue-frames) (k .mark-words);
         same-issued = simp queue-frames (k .same-issued);
         same-slots = simp queue-frames (k .same-slots);
         same-capacity = simp queue-frames (k .same-capacity);
         same-alive = simp queue-frames (k .same-alive);
+        same-cursor = simp queue-frames (k .same-cursor);
         own = simp queue-frames (k .own);
         others = λ y d. simp queue-frames (k .others y d);
         queue = queue-removed u (k .shaped) z ∙ without-alike z (queueOf u) ∙ ap (rules.without z) (k .queue);
@@ -150,10 +203,12 @@ module _ {t u : List ℕ} {x : ℕ} {l : Lane} {w : List ℕ} {f b n m : ℕ} (k
         record {
           shaped = shaped-popped-front u (k .shaped);
           linked = linked-by u (poppedFront u) (simp queue-frames) (λ p. simp queue-frames) (λ g. simp queue-frames) (k .linked);
+          mark-words = mark-words-by u (poppedFront u) (simp queue-frames) (λ p. simp queue-frames) (λ g. simp queue-frames) (k .mark-words);
           same-issued = simp queue-frames (k .same-issued);
           same-slots = simp queue-frames (k .same-slots);
           same-capacity = simp queue-frames (k .same-capacity);
           same-alive = simp queue-frames (k .same-alive);
+          same-cursor = simp queue-frames (k .same-cursor);
           own = simp queue-frames (k .own);
           others = λ y d. simp queue-frames (k .others y d);
           queue = queue-popped-front u (k .shaped) z q (k .queue ∙ e);
@@ -169,10 +224,12 @@ module _ {t u : List ℕ} {x : ℕ} {l : Lane} {w : List ℕ} {f b n m : ℕ} (k
         record {
           shaped = shaped-rotated u (k .shaped);
           linked = linked-by u (rotated u) (simp queue-frames) (λ p. simp queue-frames) (λ g. simp queue-frames) (k .linked);
+          mark-words = mark-words-by u (rotated u) (simp queue-frames) (λ p. simp queue-frames) (λ g. simp queue-frames) (k .mark-words);
           same-issued = simp queue-frames (k .same-issued);
           same-slots = simp queue-frames (k .same-slots);
           same-capacity = simp queue-frames (k .same-capacity);
           same-alive = simp queue-frames (k .same-alive);
+          same-cursor = simp queue-frames (k .same-cursor);
           own = simp queue-frames (k .own);
           others = λ y d. simp queue-frames (k .others y d);
           queue = queue-rotated u (k .shaped) z q (k .queue ∙ e);
@@ -188,10 +245,12 @@ module _ {t u : List ℕ} {x : ℕ} {l : Lane} {w : List ℕ} {f b n m : ℕ} (k
       record {
         shaped = shaped-freed u (k .shaped) z room;
         linked = linked-by u (freed u z) (simp registry-frames) (λ p. simp registry-frames) (λ g. simp registry-frames) (k .linked);
+        mark-words = mark-words-by u (freed u z) (simp registry-frames) (λ p. simp registry-frames) (λ g. simp registry-frames) (k .mark-words);
         same-issued = simp registry-frames (k .same-issued);
         same-slots = simp registry-frames (k .same-slots);
         same-capacity = simp registry-frames (k .same-capacity);
         same-alive = simp registry-frames (k .same-alive);
+        same-cursor = simp registry-frames (k .same-cursor);
         own = simp registry-frames (k .own);
         others = λ y d. simp registry-frames (k .others y d);
         queue = simp registry-frames (k .queue);
@@ -207,10 +266,12 @@ module _ {t u : List ℕ} {x : ℕ} {l : Lane} {w : List ℕ} {f b n m : ℕ} (k
       record {
         shaped = shaped-reissued u (k .shaped);
         linked = linked-by u (reissued u) (simp registry-frames) (λ p. simp registry-frames) (λ g. simp registry-frames) (k .linked);
+        mark-words = mark-words-by u (reissued u) (simp registry-frames) (λ p. simp registry-frames) (λ g. simp registry-frames) (k .mark-words);
         same-issued = simp registry-frames (k .same-issued);
         same-slots = simp registry-frames (k .same-slots);
         same-capacity = simp registry-frames (k .same-capacity);
         same-alive = simp registry-frames (k .same-alive);
+        same-cursor = simp registry-frames (k .same-cursor);
         own = simp registry-frames (k .own);
         others = λ y d. simp registry-frames (k .others y d);
         queue = simp registry-frames (k .queue);
@@ -226,10 +287,12 @@ module _ {t u : List ℕ} {x : ℕ} {l : Lane} {w : List ℕ} {f b n m : ℕ} (k
       record {
         shaped = simp frames (k .shaped);
         linked = linked-by u (setHead u 5 v) (simp frames) (λ p. simp frames) (λ g. simp frames) (k .linked);
+        mark-words = mark-words-by u (setHead u 5 v) (simp frames) (λ p. simp frames) (λ g. simp frames) (k .mark-words);
         same-issued = simp frames (k .same-issued);
         same-slots = simp frames (k .same-slots);
         same-capacity = simp frames (k .same-capacity);
         same-alive = simp frames (k .same-alive);
+        same-cursor = simp frames (k .same-cursor);
         own = simp frames (k .own);
         others = λ y d. simp frames (k .others y d);
         queue = simp queue-frames (k .queue);
@@ -245,10 +308,12 @@ module _ {t u : List ℕ} {x : ℕ} {l : Lane} {w : List ℕ} {f b n m : ℕ} (k
       record {
         shaped = simp frames (k .shaped);
         linked = linked-by u (setHead u 12 v) (simp frames) (λ p. simp frames) (λ g. simp frames) (k .linked);
+        mark-words = mark-words-by u (setHead u 12 v) (simp frames) (λ p. simp frames) (λ g. simp frames) (k .mark-words);
         same-issued = simp frames (k .same-issued);
         same-slots = simp frames (k .same-slots);
         same-capacity = simp frames (k .same-capacity);
         same-alive = simp frames (k .same-alive);
+        same-cursor = simp frames (k .same-cursor);
         own = simp frames (k .own);
         others = λ y d. simp frames (k .others y d);
         queue = simp queue-frames (k .queue);
@@ -264,10 +329,12 @@ module _ {t u : List ℕ} {x : ℕ} {l : Lane} {w : List ℕ} {f b n m : ℕ} (k
       record {
         shaped = simp frames (k .shaped);
         linked = linked-by u (setHead u 13 v) (simp frames) (λ p. simp frames) (λ g. simp frames) (k .linked);
+        mark-words = mark-words-by u (setHead u 13 v) (simp frames) (λ p. simp frames) (λ g. simp frames) (k .mark-words);
         same-issued = simp frames (k .same-issued);
         same-slots = simp frames (k .same-slots);
         same-capacity = simp frames (k .same-capacity);
         same-alive = simp frames (k .same-alive);
+        same-cursor = simp frames (k .same-cursor);
         own = simp frames (k .own);
         others = λ y d. simp frames (k .others y d);
         queue = simp queue-frames (k .queue);
@@ -283,10 +350,12 @@ module _ {t u : List ℕ} {x : ℕ} {l : Lane} {w : List ℕ} {f b n m : ℕ} (k
       record {
         shaped = simp frames (k .shaped);
         linked = linked-by u (setHead u 14 v) (simp frames) (λ p. simp frames) (λ g. simp frames) (k .linked);
+        mark-words = mark-words-by u (setHead u 14 v) (simp frames) (λ p. simp frames) (λ g. simp frames) (k .mark-words);
         same-issued = simp frames (k .same-issued);
         same-slots = simp frames (k .same-slots);
         same-capacity = simp frames (k .same-capacity);
         same-alive = simp frames (k .same-alive);
+        same-cursor = simp frames (k .same-cursor);
         own = simp frames (k .own);
         others = λ y d. simp frames (k .others y d);
         queue = simp queue-frames (k .queue);

@@ -2,8 +2,7 @@
 -- Assumes nothing.
 use mathlib.Core.Path.{_≡_}
 use mathlib.Core.List.{List, [], _∷_}
-use Prim.Native.Nat.{ℕ, _+_, _*_, _/_, _≤_, _<_}
-use lib.Dec.{eqb}
+use Prim.Native.Nat.{ℕ, _*_, _^_, _≤_, _<_}
 use lib.ListN.{length, take}
 use Rattle.model.specs.State.{registeredLanes, livingSenders}
 use Rattle.model.specs.Order.{Ordered}
@@ -11,9 +10,9 @@ use Rattle.lane.specs.declared.lane.Lane.{Lane}
 use Rattle.lane.specs.Cursor.{Capacity}
 use Rattle.lane.specs.Order.{InOrder}
 use Rattle.lane.specs.Table.{laneAt}
-use Rattle.ready.specs.Header.{Shaped, issued, slots, budget, alive, capacity, fastSlot, laneCount, livingCount}
+use Rattle.ready.specs.Header.{Shaped, issued, slots, budget, alive, capacity, firstCursor, fastSlot, laneCount, livingCount}
 use Rattle.ready.specs.Queue.{QueueNames, queueOf}
-use Rattle.ready.specs.Ready.{Linked}
+use Rattle.ready.specs.Ready.{pageWord, groupWord, Linked}
 use Rattle.receiver.specs.View.{view}
 
 -- a word that is 0 or 1
@@ -34,6 +33,11 @@ pub record Fast (x fast : ℕ) (queue : List ℕ) (window budget : ℕ) : Type 0
   pub in-front : take 1 queue ≡ x ∷ []
   pub within : window ≤ budget
 
+-- the words of pages and groups that exist are u64
+pub record MarkWords (t : List ℕ) : Type 0 where
+  pub pages-fit : (page : ℕ) → 64 * page < issued t → pageWord t page < 2 ^ 64
+  pub groups-fit : (group : ℕ) → 4096 * group < issued t → groupWord t group < 2 ^ 64
+
 -- what the words have beside what the rules' state shows
 pub record Stores (t r : List ℕ) : Type 0 where
   pub shaped : Shaped t
@@ -43,6 +47,8 @@ pub record Stores (t r : List ℕ) : Type 0 where
   -- "a ring store of at least S × C u64 words"
   pub rings-room : slots t * capacity t ≤ length r
   pub alive-flag : Flag (alive t)
+  -- "first cursor and first generation are ones an opening takes": any u64
+  pub first-cursor : firstCursor t < 2 ^ 64
   pub flags : (x : ℕ) → x < issued t → Flags (laneAt t x)
   -- "Per registered lane, in wrapped distances, each at most C, and sums that do not wrap"
   pub lanes : (x : ℕ) → x < issued t → laneAt t x .registered ≡ 1 → InOrder (capacity t) (laneAt t x)
@@ -50,6 +56,7 @@ pub record Stores (t r : List ℕ) : Type 0 where
   pub named : QueueNames t
   -- "a page is non-zero exactly if its group bit is set"; "a page bit is of an issued slot"
   pub linked : Linked t
+  pub mark-words : MarkWords t
   pub windows : (x : ℕ) → x < issued t → laneAt t x .registered ≡ 1 → 0 < laneAt t x .window → Fast x (fastSlot t) (queueOf t) (laneAt t x .window) (budget t)
   -- "counts of lanes and living senders are true"
   pub lanes-counted : laneCount t ≡ registeredLanes (view t r)

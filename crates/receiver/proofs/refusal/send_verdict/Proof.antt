@@ -1,6 +1,6 @@
 -- `receiver::refusal::send_verdict` meets its contract.
 -- Assumes nothing.
-use Rattle.receiver.proofs.SenderBounds.{sender-passes}
+use Rattle.receiver.proofs.RefusalLaws.{sender-passes}
 use Rattle.receiver.specs.Refusal.{sendVerdict, andThen}
 use mathlib.Core.Path.{_∙_, sym}
 use native.Mathlib.Omega.{arith}

@@ -1,6 +1,7 @@
 -- `receiver::sender::drop_sender` meets its contract.
 -- Assumes nothing.
-use Rattle.receiver.proofs.SenderBounds.{sender-passes, living-some}
+use Rattle.receiver.proofs.RefusalLaws.{sender-passes}
+use Rattle.receiver.proofs.StoreLaws.{living-counted}
 use Rattle.receiver.specs.Words.{unlessRefused}
 use Rattle.receiver.specs.Sender.{dropSender}
 use Rattle.lane.proofs.TableLaws.{slot-of-lane}
@@ -17,7 +18,7 @@ drop-lane-requires : tie.Need-drop-lane-requires
 drop-lane-requires c κs =
     let p = sender-passes _ _ (sym (c .before .before .before .before .before .sender-verdict .ensures) ∙ c .before .before .before .enum-told .given .1) in
     rw (c .before .load .ensures, slot-of-lane _ _)
-    (c .before .before .before .before .before .before .before .before .before .pre .stores .shaped, omega (arith, p .is-issued, c .before .before .before .before .before .before .before .before .before .pre .stores .shaped .issued-most), living-some _ _ (c .before .before .before .before .before .before .before .before .before .pre .stores) _ (p .is-issued) (p .is-living))
+    (c .before .before .before .before .before .before .before .before .before .pre .stores .shaped, omega (arith, p .is-issued, c .before .before .before .before .before .before .before .before .before .pre .stores .shaped .issued-most), living-counted _ _ (c .before .before .before .before .before .before .before .before .before .pre .stores) _ (p .is-issued) (p .living))
 
 returns : tie.Need-returns
 unfolding dropSender unlessRefused
