@@ -19,7 +19,9 @@ pub mod PauseLaws
 pub mod SignalLaws
 pub mod SendLaws
 pub mod DropLaws
+pub mod BackLaws
 pub mod ResumeLaws
 pub mod RetireLaws
 pub mod CloseLaneLaws
 pub mod ReleaseConsumedLaws
+pub mod PollAllLaws

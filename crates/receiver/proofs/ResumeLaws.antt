@@ -16,8 +16,6 @@ use Rattle.model.specs.State.{Slot, State}
 use Rattle.model.specs.Changes.{withQueue, put, withFlags, withSignal, withPaused, signalled}
 use Rattle.model.specs.Outcome.{says}
 use Rattle.model.specs.Control as rules
-use Rattle.model.proofs.Counting.{count-append}
-use Rattle.model.proofs.OrderKept.{first-own, first-other}
 use Rattle.lane.specs.declared.lane.Lane.{Lane}
 use Rattle.lane.specs.Order.{InOrder}
 use Rattle.lane.specs.Table.{laneAt, putLane}
@@ -36,6 +34,7 @@ use Rattle.receiver.proofs.StepLaws.{Step, step-start, step-put-lane, s
 use Rattle.receiver.proofs.StoreLaws.{Owes, stores-after, windows-pushed-back}
 use Rattle.receiver.proofs.SignalLaws.{idle-flag, markedIf, view-put-marked-if-idle, step-marked-if-idle}
 use Rattle.receiver.proofs.SignalFrames.{shaped-marked-if-idle, head-marked-if-idle}
+use Rattle.receiver.proofs.BackLaws.{back-own, back-other}
 use Rattle.receiver.proofs.ControlBounds.{paused-unqueued, paused-room}
 use Rattle.receiver.proofs.RetireFrames.{resumed-paused, resumed-unpaused}
 
@@ -43,15 +42,6 @@ use Rattle.receiver.proofs.RetireFrames.{resumed-paused, resumed-unpaus
 signalled-by : (s : Slot) (a b idle : Bool) → a ≡ s .registered → b ≡ s .living → idle ≡ not (s .pending)
     → markedIf idle (withFlags a b false (withSignal true (s .marked) s)) ≡ signalled (withPaused false s)
 signalled-by s a b idle i j k = rw (i, j, k)
-
--- one more at the back
-back-own : (x : ℕ) (q : List ℕ) → count x q ≡ 0 → count x (q ++ (x ∷ [])) ≡ 1
-unfolding count
-back-own x q z = omega (arith, count-append x q (x ∷ []), first-own x [], z)
-
-back-other : (x y : ℕ) (q : List ℕ) → x ≢ y → count y (q ++ (x ∷ [])) ≡ count y q
-unfolding count
-back-other x y q n = omega (arith, count-append y q (x ∷ []), first-other x y [] n)
 
 module _ (t r : List ℕ) (o : StoreInOrder t r) (x : ℕ) (h : x < issued t) (g : laneAt t x .registered ≡ 1) where
   abbrev old : Lane
