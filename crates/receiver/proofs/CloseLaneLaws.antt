@@ -81,14 +81,14 @@ module _ (t r : List ℕ) (o : StoreInOrder t r) (x : ℕ) (h : x < issued t) (g
   stores-closed : Stores (closed t old) r
   stores-closed = stores-after t r (closed t old) r (o .stores) x h (retired old) _ _ _ _ _ step-closed owes-closed (o .stores .rings-room)
 
-pub close-lane-as-ruled : (t r : List ℕ) (i : LaneId) → StoreInOrder t r → seen (closeLane t r i) ≡ (rules.closeLane (view t r) i) .1
+pub close-lane-alike : (t r : List ℕ) (i : LaneId) → StoreInOrder t r → seen (closeLane t r i) ≡ (rules.closeLane (view t r) i) .1
 unfolding closeLane rules.closeLane
-close-lane-as-ruled t r i o =
+close-lane-alike t r i o =
     refused-alike (idVerdict t i) _ t r (Done, closed t (laneAt t (i .key .slot)), r) (says Done _) (id-verdict t r i)
     (λ e. let k = id-passes t i e .1 in ap (λ (s : State). (Done, s)) (view-closed t r o (i .key .slot) (k .is-issued) (k .registered)))
 
-pub close-lane-stores : (t r : List ℕ) (i : LaneId) → StoreInOrder t r → Stores ((closeLane t r i) .1) ((closeLane t r i) .2)
+pub close-lane-keeps : (t r : List ℕ) (i : LaneId) → StoreInOrder t r → Stores ((closeLane t r i) .1) ((closeLane t r i) .2)
 unfolding closeLane
-close-lane-stores t r i o =
+close-lane-keeps t r i o =
     unless-refused-case (λ w. Stores (w .1) (w .2)) (idVerdict t i) t r (Done, closed t (laneAt t (i .key .slot)), r) (λ why e. o .stores)
     (λ e. let k = id-passes t i e .1 in stores-closed t r o (i .key .slot) (k .is-issued) (k .registered))

@@ -24,9 +24,9 @@ use Rattle.receiver.proofs.ViewLaws.{view-alive}
 use Rattle.receiver.proofs.RefusalLaws.{seen, receiver-verdict, refused-alike, unless-refused-case}
 use Rattle.receiver.proofs.StepLaws.{linked-by, mark-words-by}
 
-pub close-receiver-as-ruled : (t r : List ℕ) → StoreInOrder t r → seen (closeReceiver t r) ≡ (rules.closeReceiver (view t r)) .1
+pub close-receiver-alike : (t r : List ℕ) → StoreInOrder t r → seen (closeReceiver t r) ≡ (rules.closeReceiver (view t r)) .1
 unfolding closeReceiver rules.closeReceiver
-close-receiver-as-ruled t r o =
+close-receiver-alike t r o =
     refused-alike (receiverVerdict t) _ t r (Done, setHead t 7 0, r) (says Done (withOpen false (view t r))) (receiver-verdict t r)
     (λ e. ap (λ (s : State). (Done, s)) (view-alive t r (o .stores .shaped) 0))
 
@@ -59,8 +59,8 @@ stores-closed t r o =
       living-counted = rw (view-alive t r (o .shaped) 0) (simp frames (o .living-counted) ∙ sym (living-open (view t r)));
     }
 
-pub close-receiver-stores : (t r : List ℕ) → StoreInOrder t r → Stores ((closeReceiver t r) .1) ((closeReceiver t r) .2)
+pub close-receiver-keeps : (t r : List ℕ) → StoreInOrder t r → Stores ((closeReceiver t r) .1) ((closeReceiver t r) .2)
 unfolding closeReceiver
-close-receiver-stores t r o =
+close-receiver-keeps t r o =
     unless-refused-case (λ w. Stores (w .1) (w .2)) (receiverVerdict t) t r (Done, setHead t 7 0, r) (λ why e. o .stores)
     (λ e. stores-closed t r (o .stores))

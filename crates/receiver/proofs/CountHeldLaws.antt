@@ -63,10 +63,10 @@ module _ (t r : List ℕ) where
       let own : heldIn (laneAt t a) ≡ part (view t r .slotOf a) = held-slot a (omega arith) in
       rw next (ap₂ _+_ own rest ∙ sym (total-first items-of a (keep is-registered (from (suc a) n)) (is-registered a)))
 
-pub count-held-as-ruled : (t r : List ℕ) → seen (countHeld t r) ≡ (rules.countHeld (view t r)) .1
+pub count-held-alike : (t r : List ℕ) → seen (countHeld t r) ≡ (rules.countHeld (view t r)) .1
 unfolding countHeld rules.countHeld view
-count-held-as-ruled t r = ap (λ (n : ℕ). (Held n, view t r)) (held-total t r (issued t) 0 (omega arith))
+count-held-alike t r = ap (λ (n : ℕ). (Held n, view t r)) (held-total t r (issued t) 0 (omega arith))
 
-pub count-held-stores : (t r : List ℕ) → StoreInOrder t r → Stores ((countHeld t r) .1) ((countHeld t r) .2)
+pub count-held-keeps : (t r : List ℕ) → StoreInOrder t r → Stores ((countHeld t r) .1) ((countHeld t r) .2)
 unfolding countHeld
-count-held-stores t r o = o .stores
+count-held-keeps t r o = o .stores

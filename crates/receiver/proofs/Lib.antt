@@ -25,3 +25,4 @@ pub mod RetireLaws
 pub mod CloseLaneLaws
 pub mod ReleaseConsumedLaws
 pub mod PollAllLaws
+pub mod ControlLaws

@@ -123,14 +123,14 @@ module _ (t r : List ℕ) (o : StoreInOrder t r) (x : ℕ) (h : x < issued t) (g
   stores-paused =
       stores-after t r (paused t old) r (o .stores) x h new _ _ _ _ _ step-paused owes-paused (o .stores .rings-room)
 
-pub pause-as-ruled : (t r : List ℕ) (i : LaneId) → StoreInOrder t r → seen (pause t r i) ≡ (rules.pause (view t r) i) .1
+pub pause-alike : (t r : List ℕ) (i : LaneId) → StoreInOrder t r → seen (pause t r i) ≡ (rules.pause (view t r) i) .1
 unfolding pause rules.pause
-pause-as-ruled t r i o =
+pause-alike t r i o =
     refused-alike (idVerdict t i) _ t r (Done, paused t (laneAt t (i .key .slot)), r) (says Done _) (id-verdict t r i)
     (λ e. let k = id-passes t i e .1 in ap (λ (s : State). (Done, s)) (view-paused t r o (i .key .slot) (k .is-issued) (k .registered)))
 
-pub pause-stores : (t r : List ℕ) (i : LaneId) → StoreInOrder t r → Stores ((pause t r i) .1) ((pause t r i) .2)
+pub pause-keeps : (t r : List ℕ) (i : LaneId) → StoreInOrder t r → Stores ((pause t r i) .1) ((pause t r i) .2)
 unfolding pause
-pause-stores t r i o =
+pause-keeps t r i o =
     unless-refused-case (λ w. Stores (w .1) (w .2)) (idVerdict t i) t r (Done, paused t (laneAt t (i .key .slot)), r) (λ why e. o .stores)
     (λ e. let k = id-passes t i e .1 in stores-paused t r o (i .key .slot) (k .is-issued) (k .registered))

@@ -162,14 +162,14 @@ module _ (t r : List ℕ) (o : Stores t r) where
       rw zero-sum at
       (poll-from (issued t) 0 t (view t r .queue) (record { stores = o; same-issued = refl; sees = refl; later = λ y l. refl }) (omega arith))
 
-pub poll-all-lanes-as-ruled : (t r : List ℕ) → StoreInOrder t r → seen (pollAllLanes t r) ≡ (rules.pollAllLanes (view t r)) .1
+pub poll-all-lanes-alike : (t r : List ℕ) → StoreInOrder t r → seen (pollAllLanes t r) ≡ (rules.pollAllLanes (view t r)) .1
 unfolding pollAllLanes rules.pollAllLanes view
-poll-all-lanes-as-ruled t r o =
+poll-all-lanes-alike t r o =
     refused-alike (receiverVerdict t) _ t r (Done, pollAll t, r) (says Done _) (receiver-verdict t r)
     (λ e. ap (λ (s : State). (Done, s)) (polled-all t r (o .stores) .sees))
 
-pub poll-all-lanes-stores : (t r : List ℕ) → StoreInOrder t r → Stores ((pollAllLanes t r) .1) ((pollAllLanes t r) .2)
+pub poll-all-lanes-keeps : (t r : List ℕ) → StoreInOrder t r → Stores ((pollAllLanes t r) .1) ((pollAllLanes t r) .2)
 unfolding pollAllLanes
-poll-all-lanes-stores t r o =
+poll-all-lanes-keeps t r o =
     unless-refused-case (λ w. Stores (w .1) (w .2)) (receiverVerdict t) t r (Done, pollAll t, r) (λ why e. o .stores)
     (λ e. polled-all t r (o .stores) .stores)

@@ -183,14 +183,14 @@ module _ (t r : List ℕ) (o : Stores t r) where
   unfolding releaseAll
   stores-release-all = stores-release-from r (issued t) 0 t o (omega arith)
 
-pub release-consumed-as-ruled : (t r : List ℕ) → StoreInOrder t r → seen (releaseConsumed t r) ≡ (rules.releaseConsumed (view t r)) .1
+pub release-consumed-alike : (t r : List ℕ) → StoreInOrder t r → seen (releaseConsumed t r) ≡ (rules.releaseConsumed (view t r)) .1
 unfolding releaseConsumed rules.releaseConsumed
-release-consumed-as-ruled t r o =
+release-consumed-alike t r o =
     refused-alike (receiverVerdict t) _ t r (Done, releaseAll t, r) (says Done (receives.releaseAll (view t r))) (receiver-verdict t r)
     (λ e. ap (λ (s : State). (Done, s)) (view-release-all t r (o .stores)))
 
-pub release-consumed-stores : (t r : List ℕ) → StoreInOrder t r → Stores ((releaseConsumed t r) .1) ((releaseConsumed t r) .2)
+pub release-consumed-keeps : (t r : List ℕ) → StoreInOrder t r → Stores ((releaseConsumed t r) .1) ((releaseConsumed t r) .2)
 unfolding releaseConsumed
-release-consumed-stores t r o =
+release-consumed-keeps t r o =
     unless-refused-case (λ w. Stores (w .1) (w .2)) (receiverVerdict t) t r (Done, releaseAll t, r) (λ why e. o .stores)
     (λ e. stores-release-all t r (o .stores))

@@ -135,14 +135,14 @@ module _ (t r : List ℕ) (o : StoreInOrder t r) (x : ℕ) (h : x < issued t) (g
       go true e = stores-resumed (eqb-true _ 1 e)
       go false e = subst (λ (u : List ℕ). Stores u r) (sym (resumed-unpaused t old (eqb-false _ 1 e))) (o .stores)
 
-pub resume-as-ruled : (t r : List ℕ) (i : LaneId) → StoreInOrder t r → seen (resume t r i) ≡ (rules.resume (view t r) i) .1
+pub resume-alike : (t r : List ℕ) (i : LaneId) → StoreInOrder t r → seen (resume t r i) ≡ (rules.resume (view t r) i) .1
 unfolding resume rules.resume
-resume-as-ruled t r i o =
+resume-alike t r i o =
     refused-alike (idVerdict t i) _ t r (Done, resumed t (laneAt t (i .key .slot)), r) (says Done _) (id-verdict t r i)
     (λ e. let k = id-passes t i e .1 in ap (λ (s : State). (Done, s)) (resumed-as-ruled t r o (i .key .slot) (k .is-issued) (k .registered)))
 
-pub resume-stores : (t r : List ℕ) (i : LaneId) → StoreInOrder t r → Stores ((resume t r i) .1) ((resume t r i) .2)
+pub resume-keeps : (t r : List ℕ) (i : LaneId) → StoreInOrder t r → Stores ((resume t r i) .1) ((resume t r i) .2)
 unfolding resume
-resume-stores t r i o =
+resume-keeps t r i o =
     unless-refused-case (λ w. Stores (w .1) (w .2)) (idVerdict t i) t r (Done, resumed t (laneAt t (i .key .slot)), r) (λ why e. o .stores)
     (λ e. let k = id-passes t i e .1 in resumed-stores t r o (i .key .slot) (k .is-issued) (k .registered))
