@@ -1,37 +1,35 @@
 -- Dropping a sender: what the rules see of the words after is the rules' step, and it leaves a store in order.
 -- Assumes nothing.
-use mathlib.Core.Path.{_≡_, refl, sym, ap, _∙_}
-use mathlib.Core.Bool.{Bool, not}
+use mathlib.Core.Path.{_≡_, refl, ap, _∙_}
+use mathlib.Core.Bool.{not}
 use mathlib.Core.List.{List, [], _∷_}
-use Prim.Native.Nat.{ℕ, _+_, _-_, _≤_, _<_}
+use Prim.Native.Nat.{ℕ, _+_, _-_, _<_}
 use native.Mathlib.Omega.{arith}
-use lib.Dec.{eqb}
 use Rattle.model.specs.declared.LaneKey.{LaneKey}
 use Rattle.model.specs.declared.Refusal.the-variants.{NoSuchSender}
 use Rattle.model.specs.declared.Answer.the-variants.{Done}
 use Rattle.model.specs.declared.SenderCall.the-variants.{DropSender}
 use Rattle.model.specs.declared.Call.the-variants.{Sender}
-use Rattle.model.specs.State.{Slot, State, senderLives}
+use Rattle.model.specs.State.{State, senderLives}
 use Rattle.model.specs.Changes as rules
 use Rattle.model.specs.Changes.{put}
 use Rattle.model.specs.Outcome.{says}
 use Rattle.model.specs.Sender as rules-sender
 use Rattle.model.specs.Rules.{outcome}
 use Rattle.lane.specs.declared.lane.Lane.{Lane}
-use Rattle.lane.specs.Table.{setHead, laneAt, putLane}
+use Rattle.lane.specs.Table.{laneAt, putLane}
 use Rattle.lane.proofs.TableLaws.{frames, slot-of-lane}
-use Rattle.ready.specs.Header.{Shaped, issued, budget, fastSlot, laneCount, livingCount}
+use Rattle.ready.specs.Header.{issued, budget, fastSlot, laneCount, livingCount}
 use Rattle.ready.specs.Queue.{queueOf}
 use Rattle.ready.proofs.QueueLaws.{shaped-putLane}
 use Rattle.receiver.specs.View.{slotAt, view}
 use Rattle.receiver.specs.Order.{Stores, StoreInOrder}
 use Rattle.receiver.specs.Refusal.{senderVerdict}
-use Rattle.receiver.specs.Words.{unlessRefused}
 use Rattle.receiver.specs.Sender.{withSender, markedIfIdle, dropped, dropSender}
 use Rattle.receiver.proofs.ViewLaws.{slot-in, view-put-flags, view-living-count}
 use Rattle.receiver.proofs.RefusalLaws.{seen, unless-refused-case, refused-alike, sender-verdict, Lives, sender-passes}
 use Rattle.receiver.proofs.StepLaws.{Step, step-start, step-put-lane, step-living-count}
-use Rattle.receiver.proofs.StoreLaws.{living-counted, store-in-order-after, Owes, stores-after, windows-kept}
+use Rattle.receiver.proofs.StoreLaws.{living-counted, store-in-order-after, stores-after, windows-kept}
 use Rattle.receiver.proofs.SignalLaws.{idle-flag, view-put-marked-if-idle, step-marked-if-idle}
 
 -- ---- of a living sender

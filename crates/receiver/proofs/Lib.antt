@@ -26,3 +26,5 @@ pub mod CloseLaneLaws
 pub mod ReleaseConsumedLaws
 pub mod PollAllLaws
 pub mod ControlLaws
+pub mod RegisterLaws
+pub mod OpeningLaws

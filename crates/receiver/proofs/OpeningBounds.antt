@@ -12,7 +12,7 @@ use Rattle.model.specs.Opening.{doubledUntil, nextPowerOfTwo}
 use Rattle.lane.specs.Table.{headerWords, rowWords}
 use Rattle.receiver.specs.declared.refusal.Verdict.the-variants.{Pass}
 use Rattle.receiver.specs.Opening.{sizesVerdict, storesVerdict}
-use Rattle.receiver.proofs.SenderBounds.{pass-if}
+use Rattle.receiver.proofs.RefusalLaws.{passes}
 
 -- the sizes of an opening that is not refused for them
 pub record Sized (o : Opening) : Type 0 where
@@ -24,10 +24,10 @@ pub record Sized (o : Opening) : Type 0 where
 pub sizes-pass : (o : Opening) → sizesVerdict o ≡ Pass → Sized o
 unfolding sizesVerdict
 sizes-pass o e =
-    let a = pass-if (leb 1 (o .capacity)) _ _ e in
-    let b = pass-if (leb (o .capacity) 65536) _ _ (a .1) in
-    let c = pass-if (leb 1 (o .slots)) _ _ (b .1) in
-    let d = pass-if (leb (o .slots) 8192) _ _ (c .1) in
+    let a = passes (leb 1 (o .capacity)) _ _ e in
+    let b = passes (leb (o .capacity) 65536) _ _ (a .1) in
+    let c = passes (leb 1 (o .slots)) _ _ (b .1) in
+    let d = passes (leb (o .slots) 8192) _ _ (c .1) in
     record {
       capacity-some = leb-true _ _ (a .0);
       capacity-most = leb-true _ _ (b .0);
@@ -38,8 +38,8 @@ sizes-pass o e =
 pub stores-pass : (S C table rings : ℕ) → storesVerdict S C table rings ≡ Pass → (S * C ≤ rings) × (rowWords * S + headerWords ≤ table)
 unfolding storesVerdict
 stores-pass S C table rings e =
-    let a = pass-if (leb (S * C) rings) _ _ e in
-    let b = pass-if (leb (rowWords * S + headerWords) table) _ _ (a .1) in
+    let a = passes (leb (S * C) rings) _ _ e in
+    let b = passes (leb (rowWords * S + headerWords) table) _ _ (a .1) in
     (leb-true _ _ (a .0), leb-true _ _ (b .0))
 
 -- a capacity is rounded up by doublings, of which `left` may still come

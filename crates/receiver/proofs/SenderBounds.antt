@@ -1,12 +1,12 @@
 -- What the sender calls need of the words, from a store in order and a test that passed.
 -- Assumes nothing.
 use mathlib.Core.Path.{_≡_, refl, sym, ap, _∙_}
-use mathlib.Core.Bool.{Bool, true, false, cond}
+use mathlib.Core.Bool.{Bool, true, false, cond, not}
 use mathlib.Core.Logic.{_≢_}
 use mathlib.Core.List.{List, _∷_}
 use Prim.Native.Nat.{ℕ, zero, suc, _+_, _≤_, _<_}
 use native.Mathlib.Omega.{arith}
-use borrow.Author.Tests.{ltb-true, eqb-true, eqb-false, eq-eqb}
+use borrow.Author.Tests.{eqb-true, eqb-false, eq-eqb, ltb-true, ltb-false, le-leb, lt-leb}
 use lib.Dec.{eqb, ltb, leb}
 use lib.ListN.{length}
 use Rattle.model.specs.declared.LaneKey.{LaneKey}
@@ -35,21 +35,22 @@ use Rattle.receiver.specs.View.{view}
 use Rattle.receiver.specs.Order.{Stores, StoreInOrder}
 use Rattle.receiver.specs.Refusal.{sendVerdict, receiverVerdict}
 use Rattle.receiver.specs.Sender.{markedIfIdle, SendRoom, pushed, unusedVerdict, slotVerdict, registerVerdict, FreeIssued, SlotDue, RegisterRoom, dueKey, slotTaken}
-use Rattle.receiver.proofs.RefusalLaws.{and-then-passes, send-passes}
+use Rattle.receiver.proofs.RefusalLaws.{passes, and-then-passes, send-passes}
 use Rattle.receiver.proofs.StoreLaws.{below-slots, issued-ring-in, last-freed-slot}
 use Rattle.receiver.proofs.IssueLaws.{length-opened-page}
 
 -- ---- tests that passed
 
-pub refused : {A : Type 0} {why : Refusal} → Refuse why ≡ Pass → A
-refused e = let z : _≡_ {A = ℕ} 0 1 = cc in absurd (omega arith)
-
-pub pass-if : (b : Bool) (v : Verdict) (why : Refusal) → cond b v (Refuse why) ≡ Pass → (b ≡ true) × (v ≡ Pass)
-pass-if true v why e = (refl, e)
-pass-if false v why e = refused e
+-- two tests of the same two numbers
+pub not-below : (a b : ℕ) → leb b a ≡ not (ltb a b)
+not-below a b = go (ltb a b) refl
+  where
+    go : (c : Bool) → ltb a b ≡ c → leb b a ≡ not c
+    go true e = lt-leb b a (ltb-true a b e)
+    go false e = le-leb b a (omega (arith, ltb-false a b e))
 
 pub pass-unless : (b : Bool) (v : Verdict) (why : Refusal) → cond b (Refuse why) v ≡ Pass → (b ≡ false) × (v ≡ Pass)
-pass-unless true v why e = refused e
+pass-unless true v why e = let z : _≡_ {A = ℕ} 0 1 = cc in absurd (omega arith)
 pass-unless false v why e = (refl, e)
 
 -- ---- a send
@@ -110,7 +111,7 @@ module _ (t r : List ℕ) (o : StoreInOrder t r) where
       let b = pass-unless (leb most (laneCount t)) _ _ (a .1) in
       record {
         shaped = o .stores .shaped;
-        due = λ z. ltb-true _ _ (pass-if (ltb (issued t) (slots t)) _ _ (rw (eq-eqb _ _ z) at (b .1)) .0);
+        due = λ z. ltb-true _ _ (passes (ltb (issued t) (slots t)) _ _ (rw (eq-eqb _ _ z) at (b .1)) .0);
         lanes-most = lanes-most t r (o .stores);
         living-most = living-most t r (o .stores);
       }
