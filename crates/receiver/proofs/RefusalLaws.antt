@@ -189,7 +189,7 @@ pub record Knows (t : List ℕ) (i : LaneId) : Type 0 where
   pub registered : laneAt t (i .key .slot) .registered ≡ 1
   pub generation : laneAt t (i .key .slot) .key .generation ≡ i .key .generation
 
-passes : (b : Bool) (why : Refusal) (v : Verdict) → cond b v (Refuse why) ≡ Pass → (b ≡ true) × (v ≡ Pass)
+pub passes : (b : Bool) (why : Refusal) (v : Verdict) → cond b v (Refuse why) ≡ Pass → (b ≡ true) × (v ≡ Pass)
 passes true why v e = (refl, e)
 passes false why v e = let z : _≡_ {A = ℕ} 0 1 = cc in absurd (omega arith)
 

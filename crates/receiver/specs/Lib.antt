@@ -6,3 +6,4 @@ pub mod Sender
 pub mod Registry
 pub mod Control
 pub mod Batch
+pub mod Opening

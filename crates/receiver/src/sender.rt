@@ -1,13 +1,17 @@
 // The sender calls: src/mpsc/sender.rs, and `register_sender` of src/mpsc.rs.
 ghost use mathlib.Core.Path.{_≡_};
-ghost use mathlib.Core.List.{_∷_};
-ghost use Prim.Native.Nat.{_+_, _*_, _≤_, _<_};
+ghost use Prim.Native.Nat.{_<_};
 ghost use lib.ListN.{length};
-ghost use Rattle.ready.specs.Header.{Shaped, issued, slots, freeCount, livingCount, laneCount, capacity};
+ghost use Rattle.ready.specs.Header.{Shaped, slots, livingCount};
 ghost use Rattle.receiver.specs.Order.{StoreInOrder};
 ghost use Rattle.receiver.specs.Sender.{
   withSender,
   markedIfIdle,
+  takenSignaled,
+  SendRoom,
+  pushed,
+  sendSignaled,
+  sendUnsignaled,
   trySend,
   trySendUnsignaled,
   dropped,
@@ -15,8 +19,10 @@ ghost use Rattle.receiver.specs.Sender.{
   unusedVerdict,
   olderVerdict,
   slotVerdict,
+  registerVerdict,
   FreeIssued,
   SlotDue,
+  RegisterRoom,
   dueKey,
   slotTaken,
   registeredWith,
@@ -52,6 +58,50 @@ pub fn mark_if_idle(t: &mut [u64], l: Lane)
     }
 }
 
+// The lane that a send left is stored and marked; answers whether its signal went from idle to pending.
+fn take_signaled(t: &mut [u64], l: Lane) -> Answer
+    requires { ⌜ Shaped (now t) × (l .key .slot < slots (now t)) ⌝ }
+    ensures { λ a. ⌜ (a, now (t .exit)) ≡ takenSignaled (now (t .entry)) l ⌝ }
+{
+    with_sender(l, 1, l.living).store(t);
+    mark_if_idle(t, l);
+    Answer::Taken {
+        woken: l.pending == 0,
+    }
+}
+
+// What the ring of a key's slot answers to an item.
+fn push(t: &[u64], r: &mut [u64], key: LaneKey, item: u64) -> Sent
+    requires { ⌜ SendRoom (now t) (length (now r)) (key .slot) ⌝ }
+    ensures { λ s. ⌜ (s, now (r .exit)) ≡ pushed (now (t .entry)) (now (r .entry)) key item ⌝ }
+{
+    let ring = Ring::new(key.slot, t[Header::CAPACITY]);
+    Lane::load(t, key.slot).push_and_flush(ring, r, item)
+}
+
+fn send_signaled(t: &mut [u64], r: &mut [u64], key: LaneKey, item: u64) -> Answer
+    requires { ⌜ SendRoom (now t) (length (now r)) (key .slot) ⌝ }
+    ensures { λ a. ⌜ (a, now (t .exit), now (r .exit)) ≡ sendSignaled (now (t .entry)) (pushed (now (t .entry)) (now (r .entry)) key item) ⌝ }
+{
+    match push(t, r, key, item) {
+        Sent::Full { lane: _ } => Answer::Refused { why: Refusal::Full },
+        Sent::Taken { lane } => take_signaled(t, lane),
+    }
+}
+
+fn send_unsignaled(t: &mut [u64], r: &mut [u64], key: LaneKey, item: u64) -> Answer
+    requires { ⌜ SendRoom (now t) (length (now r)) (key .slot) ⌝ }
+    ensures { λ a. ⌜ (a, now (t .exit), now (r .exit)) ≡ sendUnsignaled (now (t .entry)) (pushed (now (t .entry)) (now (r .entry)) key item) ⌝ }
+{
+    match push(t, r, key, item) {
+        Sent::Full { lane: _ } => Answer::Refused { why: Refusal::Full },
+        Sent::Taken { lane } => {
+            lane.store(t);
+            Answer::Taken { woken: false }
+        }
+    }
+}
+
 // Stores one item and marks the lane; answers whether its signal went from idle to pending.
 pub fn try_send(t: &mut [u64], r: &mut [u64], key: LaneKey, item: u64) -> Answer
     requires { ⌜ StoreInOrder (now t) (now r) ⌝ }
@@ -59,19 +109,7 @@ pub fn try_send(t: &mut [u64], r: &mut [u64], key: LaneKey, item: u64) -> Answer
 {
     match refusal::send_verdict(t, key) {
         Verdict::Refuse { why } => Answer::Refused { why: why },
-        Verdict::Pass => {
-            let ring = Ring::new(key.slot, t[Header::CAPACITY]);
-            match Lane::load(t, key.slot).push_and_flush(ring, r, item) {
-                Sent::Full { lane: _ } => Answer::Refused { why: Refusal::Full },
-                Sent::Taken { lane } => {
-                    with_sender(lane, 1, lane.living).store(t);
-                    mark_if_idle(t, lane);
-                    Answer::Taken {
-                        woken: lane.pending == 0,
-                    }
-                }
-            }
-        }
+        Verdict::Pass => send_signaled(t, r, key, item),
     }
 }
 
@@ -82,16 +120,7 @@ pub fn try_send_unsignaled(t: &mut [u64], r: &mut [u64], key: LaneKey, item: u64
 {
     match refusal::send_verdict(t, key) {
         Verdict::Refuse { why } => Answer::Refused { why: why },
-        Verdict::Pass => {
-            let ring = Ring::new(key.slot, t[Header::CAPACITY]);
-            match Lane::load(t, key.slot).push_and_flush(ring, r, item) {
-                Sent::Full { lane: _ } => Answer::Refused { why: Refusal::Full },
-                Sent::Taken { lane } => {
-                    lane.store(t);
-                    Answer::Taken { woken: false }
-                }
-            }
-        }
+        Verdict::Pass => send_unsignaled(t, r, key, item),
     }
 }
 
@@ -134,6 +163,17 @@ fn slot_verdict(t: &[u64], most: u64) -> Verdict
         return unused_verdict(t[Header::ISSUED], t[Header::SLOTS]);
     }
     older_verdict(Lane::load(t, registry::last_freed(t)))
+}
+
+// Refusals 6 to 9 of a registration.
+fn register_verdict(t: &[u64], most: u64) -> Verdict
+    requires { ⌜ Shaped (now t) × FreeIssued (now t) ⌝ }
+    ensures { λ r. ⌜ r ≡ registerVerdict (now (t .entry)) most ⌝ }
+{
+    match refusal::receiver_verdict(t) {
+        Verdict::Refuse { why } => Verdict::Refuse { why: why },
+        Verdict::Pass => slot_verdict(t, most),
+    }
 }
 
 fn unused_verdict(issued: u64, slots: u64) -> Verdict
@@ -189,4 +229,33 @@ fn take_slot(t: &mut [u64])
         return;
     }
     registry::reissue(t);
+}
+
+// The lane of the slot that is due, registered.
+fn register_lane(t: &mut [u64], key: LaneKey)
+    requires { ⌜ RegisterRoom (now t) × (key .slot < slots (now t)) ⌝ }
+    ensures { λ _. ⌜ now (t .exit) ≡ registeredWith (now (t .entry)) key ⌝ }
+{
+    let lanes = t[Header::LANES] + 1;
+    let living = t[Header::LIVING] + 1;
+    let l = Lane::new(key, t[Header::CURSOR]);
+    take_slot(t);
+    l.store(t);
+    t[Header::LANES] = lanes;
+    t[Header::LIVING] = living;
+}
+
+// Registers a sender: the slot freed last, or else the next unused one, gets a new lane.
+pub fn register_sender(t: &mut [u64], r: &[u64], most: u64) -> Answer
+    requires { ⌜ StoreInOrder (now t) (now r) ⌝ }
+    ensures { λ a. ⌜ (a, now (t .exit), now (r .entry)) ≡ registerSender (now (t .entry)) (now (r .entry)) most ⌝ }
+{
+    match register_verdict(t, most) {
+        Verdict::Refuse { why } => Answer::Refused { why: why },
+        Verdict::Pass => {
+            let key = due_key(t);
+            register_lane(t, key);
+            Answer::Registered { key: key }
+        }
+    }
 }
