@@ -6,7 +6,7 @@ pub mod StoreLaws
 pub mod IssueLaws
 pub mod CollectedView
 pub mod CollectedStore
-pub mod FrontLaws
+pub mod BetweenTurns
 pub mod SenderBounds
 pub mod OpeningBounds
 pub mod ControlBounds
