@@ -13,7 +13,6 @@ use Rattle.model.specs.declared.LaneKey.{LaneKey}
 use Rattle.model.specs.declared.Refusal.{Refusal}
 use Rattle.model.specs.Lists.{if, keep, from}
 use Rattle.model.specs.State.{registeredLanes, livingSenders}
-use Rattle.lane.proofs.OrderLaws.{cond-holds}
 use Rattle.lane.specs.declared.lane.Lane.{Lane}
 use Rattle.lane.specs.declared.ring.Push.{Push}
 use Rattle.lane.specs.declared.ring.Push.the-variants.{Pushed, Full}
@@ -24,17 +23,17 @@ use Rattle.lane.specs.Ring.{push}
 use Rattle.lane.specs.Lane.{sent, pushAndFlush}
 use Rattle.lane.specs.Order.{sentLane}
 use Rattle.lane.specs.Table.{setHead}
+use Rattle.lane.proofs.OrderLaws.{cond-holds}
 use Rattle.lane.proofs.TableLaws.{frames}
 use Rattle.ready.specs.Header.{Shaped, issued, slots, freeCount, laneCount, livingCount}
 use Rattle.ready.specs.Registry.{lastFreed, reissued}
-use Rattle.ready.specs.Ready.{marked, openedPage}
-use Rattle.ready.proofs.MarkLaws.{length-marked}
+use Rattle.ready.specs.Ready.{openedPage}
 use Rattle.receiver.specs.declared.refusal.Verdict.{Verdict}
 use Rattle.receiver.specs.declared.refusal.Verdict.the-variants.{Pass, Refuse}
 use Rattle.receiver.specs.View.{view}
 use Rattle.receiver.specs.Order.{Stores, StoreInOrder}
 use Rattle.receiver.specs.Refusal.{sendVerdict, receiverVerdict}
-use Rattle.receiver.specs.Sender.{markedIfIdle, SendRoom, unusedVerdict, slotVerdict, registerVerdict, FreeIssued, SlotDue, RegisterRoom, dueKey, slotTaken}
+use Rattle.receiver.specs.Sender.{SendRoom, unusedVerdict, slotVerdict, registerVerdict, FreeIssued, SlotDue, RegisterRoom, dueKey, slotTaken}
 use Rattle.receiver.proofs.RefusalLaws.{passes, and-then-passes, send-passes}
 use Rattle.receiver.proofs.StoreLaws.{below-slots, issued-ring-in, last-freed-slot}
 use Rattle.receiver.proofs.IssueLaws.{length-opened-page}
@@ -129,11 +128,6 @@ due-in t s f d = go (eqb (freeCount t) 0) refl _ _
     go false e g h = omega (arith, f .freed-issued (some (freeCount t) (eqb-false _ _ e)), s .issued-most)
 
 -- ---- lengths
-
-pub length-marked-if-idle : (t : List ℕ) (l : Lane) → length (markedIfIdle t l) ≡ length t
-unfolding markedIfIdle
-length-marked-if-idle t l =
-    cond-holds (λ u. length u ≡ length t) (eqb (l .pending) 0) (marked t (l .key .slot)) t (λ e. length-marked t (l .key .slot)) (λ e. refl)
 
 pub length-taken : (t : List ℕ) → length (slotTaken t) ≡ length t
 unfolding slotTaken reissued

@@ -1,7 +1,7 @@
 -- `receiver::mpsc::next_power_of_two` meets its contract.
 -- Assumes nothing.
-use Rattle.receiver.proofs.OpeningBounds.{Doubling, doubling-start, doubling-most, doubling-next, doubling-ends, doubling-stops}
 use native.Mathlib.Omega.{arith}
+use Rattle.receiver.proofs.OpeningBounds.{Doubling, doubling-start, doubling-most, doubling-next, doubling-ends, doubling-stops}
 use borrow.Author.Needs.{needs}
 use Rattle.receiver.proofs.mpsc.next_power_of_two.Statement.{statement}
 use Rattle.receiver.proofs.mpsc.next_power_of_two.Tie as tie

@@ -1,9 +1,9 @@
 -- `receiver::mpsc::open` meets its contract.
 -- Assumes nothing.
-use Rattle.receiver.proofs.OpeningBounds.{sizes-pass}
+use mathlib.Core.Path.{_∙_, sym}
 use Rattle.receiver.specs.Opening.{openStore}
 use Rattle.receiver.specs.Words.{unlessRefused}
-use mathlib.Core.Path.{_∙_, sym}
+use Rattle.receiver.proofs.OpeningBounds.{sizes-pass}
 use borrow.Author.Needs.{needs}
 use Rattle.receiver.proofs.mpsc.open.Statement.{statement}
 use Rattle.receiver.proofs.mpsc.open.Tie as tie

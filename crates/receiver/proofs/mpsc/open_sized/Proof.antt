@@ -1,10 +1,10 @@
 -- `receiver::mpsc::open_sized` meets its contract.
 -- Assumes nothing.
-use Rattle.receiver.proofs.OpeningBounds.{stores-pass}
-use Rattle.receiver.specs.Opening.{openSized}
-use Rattle.receiver.specs.Words.{unlessRefused}
 use mathlib.Core.Path.{_∙_, sym}
 use native.Mathlib.Omega.{arith}
+use Rattle.receiver.specs.Opening.{openSized}
+use Rattle.receiver.specs.Words.{unlessRefused}
+use Rattle.receiver.proofs.OpeningBounds.{stores-pass}
 use borrow.Author.Needs.{needs}
 use Rattle.receiver.proofs.mpsc.open_sized.Statement.{statement}
 use Rattle.receiver.proofs.mpsc.open_sized.Tie as tie

@@ -1,7 +1,7 @@
 -- `receiver::mpsc::sizes_verdict` meets its contract.
 -- Assumes nothing.
-use Rattle.receiver.specs.Opening.{sizesVerdict}
 use borrow.Author.Tests.{le-leb, lt-leb}
+use Rattle.receiver.specs.Opening.{sizesVerdict}
 use Rattle.receiver.proofs.mpsc.sizes_verdict.Statement.{statement}
 use Rattle.receiver.proofs.mpsc.sizes_verdict.Tie as tie
 

@@ -1,9 +1,9 @@
 -- `receiver::mpsc::stores_verdict` meets its contract.
 -- Assumes nothing.
-use Rattle.receiver.specs.Opening.{storesVerdict}
-use borrow.Author.Tests.{le-leb, lt-leb}
 use native.Mathlib.Nat.{mul-le-mul}
 use native.Mathlib.Omega.{arith}
+use borrow.Author.Tests.{le-leb, lt-leb}
+use Rattle.receiver.specs.Opening.{storesVerdict}
 use borrow.Author.Needs.{needs}
 use Rattle.receiver.proofs.mpsc.stores_verdict.Statement.{statement}
 use Rattle.receiver.proofs.mpsc.stores_verdict.Tie as tie

@@ -1,7 +1,7 @@
 -- `receiver::refusal::closed_verdict` meets its contract.
 -- Assumes nothing.
-use Rattle.receiver.specs.Refusal.{closedVerdict}
 use borrow.Author.Tests.{eq-eqb, ne-eqb}
+use Rattle.receiver.specs.Refusal.{closedVerdict}
 use borrow.Author.Needs.{needs}
 use Rattle.receiver.proofs.refusal.closed_verdict.Statement.{statement}
 use Rattle.receiver.proofs.refusal.closed_verdict.Tie as tie

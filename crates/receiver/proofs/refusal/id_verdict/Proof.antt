@@ -1,7 +1,7 @@
 -- `receiver::refusal::id_verdict` meets its contract.
 -- Assumes nothing.
-use Rattle.receiver.specs.Refusal.{idVerdict, andThen}
 use mathlib.Core.Path.{_∙_, sym}
+use Rattle.receiver.specs.Refusal.{idVerdict, andThen}
 use borrow.Author.Needs.{needs}
 use Rattle.receiver.proofs.refusal.id_verdict.Statement.{statement}
 use Rattle.receiver.proofs.refusal.id_verdict.Tie as tie

@@ -1,9 +1,9 @@
 -- `receiver::refusal::lane_verdict` meets its contract.
 -- Assumes nothing.
-use Rattle.receiver.specs.Refusal.{laneVerdict}
-use Rattle.lane.specs.declared.lane.Lane.{Lane}
 use mathlib.Core.Path.{_∙_, ap, sym}
 use borrow.Author.Tests.{lt-ltb, le-ltb, eq-eqb, ne-eqb}
+use Rattle.lane.specs.declared.lane.Lane.{Lane}
+use Rattle.receiver.specs.Refusal.{laneVerdict}
 use borrow.Author.Needs.{needs}
 use Rattle.receiver.proofs.refusal.lane_verdict.Statement.{statement}
 use Rattle.receiver.proofs.refusal.lane_verdict.Tie as tie

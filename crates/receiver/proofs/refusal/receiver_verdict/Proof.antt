@@ -1,7 +1,7 @@
 -- `receiver::refusal::receiver_verdict` meets its contract.
 -- Assumes nothing.
-use Rattle.receiver.specs.Refusal.{receiverVerdict}
 use borrow.Author.Tests.{eq-eqb, ne-eqb}
+use Rattle.receiver.specs.Refusal.{receiverVerdict}
 use borrow.Author.Needs.{needs}
 use Rattle.receiver.proofs.refusal.receiver_verdict.Statement.{statement}
 use Rattle.receiver.proofs.refusal.receiver_verdict.Tie as tie

@@ -1,9 +1,9 @@
 -- `receiver::refusal::send_verdict` meets its contract.
 -- Assumes nothing.
-use Rattle.receiver.proofs.RefusalLaws.{sender-passes}
-use Rattle.receiver.specs.Refusal.{sendVerdict, andThen}
 use mathlib.Core.Path.{_∙_, sym}
 use native.Mathlib.Omega.{arith}
+use Rattle.receiver.specs.Refusal.{sendVerdict, andThen}
+use Rattle.receiver.proofs.RefusalLaws.{sender-passes}
 use borrow.Author.Needs.{needs}
 use Rattle.receiver.proofs.refusal.send_verdict.Statement.{statement}
 use Rattle.receiver.proofs.refusal.send_verdict.Tie as tie

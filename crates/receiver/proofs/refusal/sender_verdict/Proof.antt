@@ -1,9 +1,9 @@
 -- `receiver::refusal::sender_verdict` meets its contract.
 -- Assumes nothing.
-use Rattle.receiver.specs.Refusal.{senderVerdict}
-use Rattle.lane.specs.declared.lane.Lane.{Lane}
 use mathlib.Core.Path.{_∙_, ap, sym}
 use borrow.Author.Tests.{lt-ltb, le-ltb, eq-eqb, ne-eqb}
+use Rattle.lane.specs.declared.lane.Lane.{Lane}
+use Rattle.receiver.specs.Refusal.{senderVerdict}
 use borrow.Author.Needs.{needs}
 use Rattle.receiver.proofs.refusal.sender_verdict.Statement.{statement}
 use Rattle.receiver.proofs.refusal.sender_verdict.Tie as tie

@@ -1,9 +1,9 @@
 -- `receiver::sender::drop_lane` meets its contract.
 -- Assumes nothing.
-use Rattle.receiver.specs.Sender.{dropped}
+use native.Mathlib.Omega.{arith}
 use lib.ListN.{length-set}
 use Rattle.lane.proofs.TableLaws.{frames}
-use native.Mathlib.Omega.{arith}
+use Rattle.receiver.specs.Sender.{dropped}
 use borrow.Author.Needs.{needs}
 use Rattle.receiver.proofs.sender.drop_lane.Statement.{statement}
 use Rattle.receiver.proofs.sender.drop_lane.Tie as tie

@@ -1,12 +1,12 @@
 -- `receiver::sender::drop_sender` meets its contract.
 -- Assumes nothing.
-use Rattle.receiver.proofs.RefusalLaws.{sender-passes}
-use Rattle.receiver.proofs.StoreLaws.{living-counted}
-use Rattle.receiver.specs.Words.{unlessRefused}
-use Rattle.receiver.specs.Sender.{dropSender}
-use Rattle.lane.proofs.TableLaws.{slot-of-lane}
 use mathlib.Core.Path.{_∙_, sym}
 use native.Mathlib.Omega.{arith}
+use Rattle.lane.proofs.TableLaws.{slot-of-lane}
+use Rattle.receiver.specs.Words.{unlessRefused}
+use Rattle.receiver.specs.Sender.{dropSender}
+use Rattle.receiver.proofs.RefusalLaws.{sender-passes}
+use Rattle.receiver.proofs.StoreLaws.{living-counted}
 use borrow.Author.Needs.{needs}
 use Rattle.receiver.proofs.sender.drop_sender.Statement.{statement}
 use Rattle.receiver.proofs.sender.drop_sender.Tie as tie

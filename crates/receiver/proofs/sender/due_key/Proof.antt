@@ -1,12 +1,12 @@
 -- `receiver::sender::due_key` meets its contract.
 -- Assumes nothing.
-use Rattle.receiver.proofs.SenderBounds.{some}
-use Rattle.receiver.specs.Sender.{dueKey}
+use mathlib.Core.Path.{_≡_, _∙_, ap, sym}
+use native.Mathlib.Omega.{arith}
 use borrow.Author.Tests.{eq-eqb, ne-eqb}
 use Rattle.lane.specs.Table.{laneAt}
 use Rattle.lane.specs.declared.lane.Lane.{Lane}
-use mathlib.Core.Path.{_≡_, _∙_, ap, sym}
-use native.Mathlib.Omega.{arith}
+use Rattle.receiver.specs.Sender.{dueKey}
+use Rattle.receiver.proofs.SenderBounds.{some}
 use borrow.Author.Needs.{needs}
 use Rattle.receiver.proofs.sender.due_key.Statement.{statement}
 use Rattle.receiver.proofs.sender.due_key.Tie as tie

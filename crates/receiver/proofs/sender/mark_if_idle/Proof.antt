@@ -1,7 +1,7 @@
 -- `receiver::sender::mark_if_idle` meets its contract.
 -- Assumes nothing.
-use Rattle.receiver.specs.Sender.{markedIfIdle}
 use borrow.Author.Tests.{eq-eqb, ne-eqb}
+use Rattle.receiver.specs.Sender.{markedIfIdle}
 use borrow.Author.Needs.{needs}
 use Rattle.receiver.proofs.sender.mark_if_idle.Statement.{statement}
 use Rattle.receiver.proofs.sender.mark_if_idle.Tie as tie

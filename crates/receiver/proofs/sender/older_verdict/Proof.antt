@@ -1,7 +1,7 @@
 -- `receiver::sender::older_verdict` meets its contract.
 -- Assumes nothing.
-use Rattle.receiver.specs.Sender.{olderVerdict}
 use borrow.Author.Tests.{eq-eqb, ne-eqb}
+use Rattle.receiver.specs.Sender.{olderVerdict}
 use Rattle.receiver.proofs.sender.older_verdict.Statement.{statement}
 use Rattle.receiver.proofs.sender.older_verdict.Tie as tie
 

@@ -1,9 +1,9 @@
 -- `receiver::sender::register_lane` meets its contract.
 -- Assumes nothing.
-use Rattle.receiver.proofs.SenderBounds.{length-taken}
-use Rattle.receiver.specs.Sender.{registeredWith}
-use lib.ListN.{length-set}
 use native.Mathlib.Omega.{arith}
+use lib.ListN.{length-set}
+use Rattle.receiver.specs.Sender.{registeredWith}
+use Rattle.receiver.proofs.SenderBounds.{length-taken}
 use borrow.Author.Needs.{needs}
 use Rattle.receiver.proofs.sender.register_lane.Statement.{statement}
 use Rattle.receiver.proofs.sender.register_lane.Tie as tie

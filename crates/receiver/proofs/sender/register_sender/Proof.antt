@@ -1,9 +1,9 @@
 -- `receiver::sender::register_sender` meets its contract.
 -- Assumes nothing.
-use Rattle.receiver.proofs.SenderBounds.{free-issued, register-room, due-in}
+use mathlib.Core.Path.{_∙_, sym}
 use Rattle.receiver.specs.Words.{unlessRefused}
 use Rattle.receiver.specs.Sender.{registerSender}
-use mathlib.Core.Path.{_∙_, sym}
+use Rattle.receiver.proofs.SenderBounds.{free-issued, register-room, due-in}
 use borrow.Author.Needs.{needs}
 use Rattle.receiver.proofs.sender.register_sender.Statement.{statement}
 use Rattle.receiver.proofs.sender.register_sender.Tie as tie

@@ -1,8 +1,8 @@
 -- `receiver::sender::register_verdict` meets its contract.
 -- Assumes nothing.
+use mathlib.Core.Path.{_∙_, sym}
 use Rattle.receiver.specs.Sender.{registerVerdict}
 use Rattle.receiver.specs.Refusal.{andThen}
-use mathlib.Core.Path.{_∙_, sym}
 use borrow.Author.Needs.{needs}
 use Rattle.receiver.proofs.sender.register_verdict.Statement.{statement}
 use Rattle.receiver.proofs.sender.register_verdict.Tie as tie

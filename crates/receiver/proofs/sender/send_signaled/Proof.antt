@@ -1,12 +1,12 @@
 -- `receiver::sender::send_signaled` meets its contract.
 -- Assumes nothing.
-use Rattle.receiver.proofs.SenderBounds.{taken-key}
-use Rattle.receiver.specs.Sender.{sendSignaled}
-use Rattle.lane.proofs.TableLaws.{slot-of-lane}
+use mathlib.Core.Path.{_∙_, ap₂}
 use Rattle.lane.specs.Lane.{pushAndFlush}
 use Rattle.lane.specs.declared.ring.Ring.{Ring}
 use Rattle.lane.specs.declared.lane.Lane.{Lane}
-use mathlib.Core.Path.{_∙_, ap₂}
+use Rattle.lane.proofs.TableLaws.{slot-of-lane}
+use Rattle.receiver.specs.Sender.{sendSignaled}
+use Rattle.receiver.proofs.SenderBounds.{taken-key}
 use borrow.Author.Needs.{needs}
 use Rattle.receiver.proofs.sender.send_signaled.Statement.{statement}
 use Rattle.receiver.proofs.sender.send_signaled.Tie as tie

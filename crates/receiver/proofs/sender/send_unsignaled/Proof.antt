@@ -1,13 +1,13 @@
 -- `receiver::sender::send_unsignaled` meets its contract.
 -- Assumes nothing.
-use Rattle.receiver.proofs.SenderBounds.{taken-key}
-use Rattle.receiver.specs.Sender.{sendUnsignaled}
+use mathlib.Core.Path.{_∙_, ap₂}
 use native.Mathlib.Omega.{arith}
-use Rattle.lane.proofs.TableLaws.{slot-of-lane}
 use Rattle.lane.specs.Lane.{pushAndFlush}
 use Rattle.lane.specs.declared.ring.Ring.{Ring}
 use Rattle.lane.specs.declared.lane.Lane.{Lane}
-use mathlib.Core.Path.{_∙_, ap₂}
+use Rattle.lane.proofs.TableLaws.{slot-of-lane}
+use Rattle.receiver.specs.Sender.{sendUnsignaled}
+use Rattle.receiver.proofs.SenderBounds.{taken-key}
 use borrow.Author.Needs.{needs}
 use Rattle.receiver.proofs.sender.send_unsignaled.Statement.{statement}
 use Rattle.receiver.proofs.sender.send_unsignaled.Tie as tie

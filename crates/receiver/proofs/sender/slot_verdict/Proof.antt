@@ -1,9 +1,9 @@
 -- `receiver::sender::slot_verdict` meets its contract.
 -- Assumes nothing.
-use Rattle.receiver.proofs.SenderBounds.{some}
-use Rattle.receiver.specs.Sender.{slotVerdict}
-use borrow.Author.Tests.{eq-eqb, ne-eqb, le-leb, lt-leb}
 use native.Mathlib.Omega.{arith}
+use borrow.Author.Tests.{eq-eqb, ne-eqb, le-leb, lt-leb}
+use Rattle.receiver.specs.Sender.{slotVerdict}
+use Rattle.receiver.proofs.SenderBounds.{some}
 use borrow.Author.Needs.{needs}
 use Rattle.receiver.proofs.sender.slot_verdict.Statement.{statement}
 use Rattle.receiver.proofs.sender.slot_verdict.Tie as tie

@@ -1,8 +1,8 @@
 -- `receiver::sender::take_signaled` meets its contract.
 -- Assumes nothing.
-use Rattle.receiver.specs.Sender.{takenSignaled}
-use Rattle.lane.proofs.TableLaws.{frames}
 use native.Mathlib.Omega.{arith}
+use Rattle.lane.proofs.TableLaws.{frames}
+use Rattle.receiver.specs.Sender.{takenSignaled}
 use borrow.Author.Needs.{needs}
 use Rattle.receiver.proofs.sender.take_signaled.Statement.{statement}
 use Rattle.receiver.proofs.sender.take_signaled.Tie as tie

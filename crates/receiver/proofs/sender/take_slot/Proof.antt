@@ -1,8 +1,8 @@
 -- `receiver::sender::take_slot` meets its contract.
 -- Assumes nothing.
-use Rattle.receiver.specs.Sender.{slotTaken}
-use borrow.Author.Tests.{eq-eqb, ne-eqb}
 use native.Mathlib.Omega.{arith}
+use borrow.Author.Tests.{eq-eqb, ne-eqb}
+use Rattle.receiver.specs.Sender.{slotTaken}
 use borrow.Author.Needs.{needs}
 use Rattle.receiver.proofs.sender.take_slot.Statement.{statement}
 use Rattle.receiver.proofs.sender.take_slot.Tie as tie

@@ -1,9 +1,9 @@
 -- `receiver::sender::try_send` meets its contract.
 -- Assumes nothing.
-use Rattle.receiver.proofs.SenderBounds.{send-room}
+use mathlib.Core.Path.{_∙_, sym}
 use Rattle.receiver.specs.Words.{unlessRefused}
 use Rattle.receiver.specs.Sender.{trySend}
-use mathlib.Core.Path.{_∙_, sym}
+use Rattle.receiver.proofs.SenderBounds.{send-room}
 use borrow.Author.Needs.{needs}
 use Rattle.receiver.proofs.sender.try_send.Statement.{statement}
 use Rattle.receiver.proofs.sender.try_send.Tie as tie

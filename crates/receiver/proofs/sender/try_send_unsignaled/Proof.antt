@@ -1,9 +1,9 @@
 -- `receiver::sender::try_send_unsignaled` meets its contract.
 -- Assumes nothing.
-use Rattle.receiver.proofs.SenderBounds.{send-room}
+use mathlib.Core.Path.{_∙_, sym}
 use Rattle.receiver.specs.Words.{unlessRefused}
 use Rattle.receiver.specs.Sender.{trySendUnsignaled}
-use mathlib.Core.Path.{_∙_, sym}
+use Rattle.receiver.proofs.SenderBounds.{send-room}
 use borrow.Author.Needs.{needs}
 use Rattle.receiver.proofs.sender.try_send_unsignaled.Statement.{statement}
 use Rattle.receiver.proofs.sender.try_send_unsignaled.Tie as tie

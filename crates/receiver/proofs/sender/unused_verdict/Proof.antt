@@ -1,7 +1,7 @@
 -- `receiver::sender::unused_verdict` meets its contract.
 -- Assumes nothing.
-use Rattle.receiver.specs.Sender.{unusedVerdict}
 use borrow.Author.Tests.{lt-ltb, le-ltb}
+use Rattle.receiver.specs.Sender.{unusedVerdict}
 use Rattle.receiver.proofs.sender.unused_verdict.Statement.{statement}
 use Rattle.receiver.proofs.sender.unused_verdict.Tie as tie
 
