@@ -1,0 +1,7 @@
+// The receiver's calls on a store in order.
+pub mod batch;
+pub mod lane_control;
+pub mod mpsc;
+pub mod refusal;
+pub mod registry;
+pub mod sender;
