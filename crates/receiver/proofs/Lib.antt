@@ -30,3 +30,4 @@ pub mod PollAllLaws
 pub mod ControlLaws
 pub mod RegisterLaws
 pub mod OpeningLaws
+pub mod LaneView
