@@ -20,7 +20,7 @@ use Rattle.lane.specs.declared.lane.LanePoll.{LanePoll}
 use Rattle.lane.specs.declared.lane.LanePoll.the-variants as LanePoll
 use Rattle.lane.specs.declared.lane.Popped.{Popped}
 use Rattle.lane.specs.declared.lane.Popped.the-variants as Popped
-use Rattle.lane.specs.Lane.{held, closeFast, prefetch, reload, openFor, grantFast, windowPop, popFast, headOn, charged, addBurst, endBurst, released, releaseAtBatch, targeted, popTargeted, polled, pollItem, pollRefilled, poll, readyOrIdle, refill, settleEmpty, fairWindow, burstOfWindow, fairly, popFair}
+use Rattle.lane.specs.Lane.{held, closeFast, prefetch, reload, openFor, grantFast, windowPop, popFast, headOn, charged, addBurst, endBurst, released, releaseAtBatch, targeted, popTargeted, polled, pollItem, pollRefilled, poll, readyOrIdle, refill, releaseAny, releasePending, emptied, settleEmpty, fairWindow, burstOfWindow, fairly, popFair}
 use Rattle.lane.specs.Order.{Counts, InOrder}
 use Rattle.lane.specs.Ring.{itemAt}
 use Rattle.lane.proofs.OrderLaws.{cond-holds}
@@ -115,3 +115,87 @@ module _ (ring : Ring) (store : List ℕ) (l : Lane) (closed : l .window ≡ 0) 
       go : (t : Bool) → (after t .lane .unreleased ≡ if t 0 (l .unreleased + 1)) × (after t .lane .burst ≡ l .burst) × (after t .lane .window ≡ 0)
       go true = (refl, refl, closed)
       go false = (refl, refl, closed)
+
+-- a turn ends with every item of a fair receive, else at a burst of 64
+turn-ends : (fair : Bool) (n : ℕ) → n ≤ 63 → (fair || eqb (n + 1) 64) ≡ either fair (leb 63 n)
+turn-ends true n h = refl
+turn-ends false n h = go (eqb (n + 1) 64) refl
+  where
+    go : (b : Bool) → eqb (n + 1) 64 ≡ b → b ≡ leb 63 n
+    go true e = sym (le-leb 63 n (omega (arith, eqb-true (n + 1) 64 e)))
+    go false e = sym (lt-leb 63 n (omega (arith, eqb-false (n + 1) 64 e)))
+
+-- what a poll that gives an item leaves of the counts
+pub record Polled (C : ℕ) (fair : Bool) (l : Lane) (rotate : Bool) (m : Lane) : Type 0 where
+  pub turn-over : rotate ≡ either fair (leb 63 (burstSeen l))
+  pub unreleased-is : m .unreleased ≡ unreleasedAfter C (unreleasedSeen l)
+  pub burst-is : m .burst ≡ if rotate 0 (burstSeen l + 1)
+  pub closed : m .window ≡ 0
+
+module _ (ring : Ring) (store : List ℕ) (fair : Bool) where
+  poll-item-counts : (l : Lane) → l .window ≡ 0 → l .burst ≤ 63 → (item : ℕ) (rotate gave : Bool) (m : Lane)
+      → pollItem ring store fair l ≡ LanePoll.Item item rotate gave m
+      → (rotate ≡ either fair (leb 63 (l .burst))) × (m .unreleased ≡ unreleasedAfter (ring .capacity) (l .unreleased)) × (m .burst ≡ if rotate 0 (l .burst + 1)) × (m .window ≡ 0)
+  unfolding pollItem polled
+  poll-item-counts l w h item rotate gave m e =
+      let k : Lane = popTargeted ring store l .lane in
+      let c = pop-targeted-counts ring store l w in
+      let over : (fair || eqb (k .burst + 1) 64) ≡ rotate = cc in
+      let rest : endBurst (fair || eqb (k .burst + 1) 64) (addBurst 1 k) ≡ m = cc in
+      let same : endBurst rotate (addBurst 1 k) ≡ m = sym (ap (λ (b : Bool). endBurst b (addBurst 1 k)) over) ∙ rest in
+      let now = ended rotate k in
+      (sym over ∙ ap (λ (n : ℕ). fair || eqb (n + 1) 64) (c .1) ∙ turn-ends fair (l .burst) h,
+      ap (λ (j : Lane). j .unreleased) (sym same) ∙ now .0 ∙ c .0,
+      ap (λ (j : Lane). j .burst) (sym same) ∙ now .1 ∙ ap (λ (n : ℕ). if rotate 0 (n + 1)) (c .1),
+      ap (λ (j : Lane). j .window) (sym same) ∙ now .2 ∙ c .2)
+    where
+      ended : (b : Bool) (k : Lane) → (endBurst b (addBurst 1 k) .unreleased ≡ k .unreleased) × (endBurst b (addBurst 1 k) .burst ≡ if b 0 (k .burst + 1)) × (endBurst b (addBurst 1 k) .window ≡ k .window)
+      ended true k = (refl, refl, refl)
+      ended false k = (refl, refl, refl)
+
+  -- a lane in order that gives an item
+  pub poll-counts : (l : Lane) → InOrder (ring .capacity) l → (item : ℕ) (rotate gave : Bool) (m : Lane) → poll ring store fair l ≡ LanePoll.Item item rotate gave m
+      → Polled (ring .capacity) fair l rotate m
+  unfolding poll pollRefilled refill readyOrIdle
+  poll-counts l o item rotate gave m e = go (eqb (looked l .cached) 0) e
+    where
+      most : {B t m c u b w : ℕ} → Counts B t m c u b w → b - w ≤ 63
+      most k = omega arith
+
+      go : (t : Bool) → pollRefilled ring store fair (cond t (Refill.Idle (settleEmpty (looked l))) (Refill.Ready (looked l))) ≡ LanePoll.Item item rotate gave m
+          → Polled (ring .capacity) fair l rotate m
+      go true f = let z : _≡_ {A = ℕ} 0 1 = cc in absurd (omega arith)
+      go false f =
+          let c = looked-counts l in
+          let p = poll-item-counts (looked l) (c .2) (rw (c .1) (most (o .counts))) item rotate gave m f in
+          record {
+            turn-over = p .0 ∙ ap (λ (n : ℕ). either fair (leb 63 n)) (c .1);
+            unreleased-is = p .1 ∙ ap (unreleasedAfter (ring .capacity)) (c .0);
+            burst-is = p .2 ∙ ap (λ (n : ℕ). if rotate 0 (n + 1)) (c .1);
+            closed = p .3;
+          }
+
+-- ---- a lane found empty
+
+-- it holds nothing, its counts are 0, it is idle and in no queue; what it held and its sender are as they were
+pub record FoundIdle (ring : Ring) (store : List ℕ) (l : Lane) (found : EmptyLane) : Type 0 where
+  pub holds-none : held ring store l ≡ []
+  pub same-ends : held ring store (found .lane) ≡ held ring store l
+  pub unreleased-none : found .lane .unreleased ≡ 0
+  pub burst-none : found .lane .burst ≡ 0
+  pub closed : found .lane .window ≡ 0
+  pub idle : found .lane .pending ≡ 0
+  pub unqueued : found .lane .queued ≡ 0
+  pub dropped : found .disconnected ≡ eqb (l .living) 0
+
+-- a lane settled: its window was closed
+module _ (l : Lane) (closed : l .window ≡ 0) where
+  settle-cases : (P : EmptyLane → Type 0) → (l .unreleased ≡ 0 → P (emptied (record { lane = closeFast l; released = false })))
+      → P (emptied (record { lane = released (closeFast l); released = true })) → P (settleEmpty l)
+  unfolding settleEmpty releasePending releaseAny
+  settle-cases P f g = go (eqb (l .unreleased - l .window) 0) refl
+    where
+      go : (t : Bool) → eqb (l .unreleased - l .window) 0 ≡ t
+          → P (emptied (cond t (record { lane = closeFast l; released = false }) (record { lane = released (closeFast l); released = true })))
+      go true e = f (omega (arith, closed, eqb-true (l .unreleased - l .window) 0 e))
+      go false e = g
