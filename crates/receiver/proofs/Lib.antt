@@ -31,3 +31,4 @@ pub mod ControlLaws
 pub mod RegisterLaws
 pub mod SenderLaws
 pub mod OpeningLaws
+pub mod LaneView

@@ -1,0 +1,201 @@
+-- What a lane's methods do to the counts that the rules see: the unreleased count and the burst, each less the window.
+-- Assumes nothing.
+use mathlib.Core.Path.{_≡_, refl, sym, ap, ap₂, _∙_}
+use mathlib.Core.Bool.{Bool, true, false, cond, _||_}
+use mathlib.Core.List.{List, []}
+use Prim.Native.Nat.{ℕ, _+_, _-_, _≤_, _<_}
+use native.Mathlib.Nat.{pos-of-ne-zero}
+use native.Mathlib.Omega.{arith}
+use borrow.Author.Tests.{eqb-true, eqb-false, eq-eqb, ne-eqb, le-leb, lt-leb}
+use lib.Dec.{eqb, leb}
+use Rattle.model.specs.Lists.{if, either}
+use Rattle.model.specs.State.{releaseBatch}
+use Rattle.lane.specs.declared.ring.Ring.{Ring}
+use Rattle.lane.specs.declared.lane.Lane.{Lane}
+use Rattle.lane.specs.declared.lane.Released.{Released}
+use Rattle.lane.specs.declared.lane.EmptyLane.{EmptyLane}
+use Rattle.lane.specs.declared.lane.Refill.{Refill}
+use Rattle.lane.specs.declared.lane.Refill.the-variants as Refill
+use Rattle.lane.specs.declared.lane.LanePoll.{LanePoll}
+use Rattle.lane.specs.declared.lane.LanePoll.the-variants as LanePoll
+use Rattle.lane.specs.declared.lane.Popped.{Popped}
+use Rattle.lane.specs.declared.lane.Popped.the-variants as Popped
+use Rattle.lane.specs.Lane.{held, closeFast, prefetch, reload, openFor, grantFast, windowPop, popFast, headOn, charged, addBurst, endBurst, released, releaseAtBatch, targeted, popTargeted, polled, pollItem, pollRefilled, poll, readyOrIdle, refill, releaseAny, releasePending, emptied, settleEmpty, fairWindow, burstOfWindow, fairly, popFair}
+use Rattle.lane.specs.Order.{Counts, InOrder}
+use Rattle.lane.specs.Ring.{itemAt}
+use Rattle.lane.proofs.OrderLaws.{cond-holds}
+use Rattle.lane.proofs.HeldLaws.{reload-holds}
+
+abbrev pub unreleasedSeen : Lane → ℕ
+unreleasedSeen l = l .unreleased - l .window
+
+abbrev pub burstSeen : Lane → ℕ
+burstSeen l = l .burst - l .window
+
+-- ---- a look, and a window opened
+
+-- a lane that was looked at, its window closed
+abbrev pub looked : Lane → Lane
+looked l = reload (closeFast l)
+
+pub looked-counts : (l : Lane) → (looked l .unreleased ≡ unreleasedSeen l) × (looked l .burst ≡ burstSeen l) × (looked l .window ≡ 0)
+unfolding reload
+looked-counts l =
+    cond-holds (λ m. (m .unreleased ≡ unreleasedSeen l) × (m .burst ≡ burstSeen l) × (m .window ≡ 0)) (eqb (l .cached + l .window) 0) (prefetch (closeFast l)) (closeFast l)
+    (λ e. (refl, refl, refl)) (λ e. (refl, refl, refl))
+
+pub looked-seen : (l : Lane) → (unreleasedSeen (looked l) ≡ unreleasedSeen l) × (burstSeen (looked l) ≡ burstSeen l)
+looked-seen l = let c = looked-counts l in (omega (arith, c .0, c .2), omega (arith, c .1, c .2))
+
+-- a window opened is not seen
+pub grant-seen : (C budget : ℕ) (l : Lane) → (unreleasedSeen (grantFast C budget l) ≡ unreleasedSeen l) × (burstSeen (grantFast C budget l) ≡ burstSeen l)
+unfolding grantFast openFor
+grant-seen C budget l = let c = looked-counts l in (omega (arith, c .0), omega (arith, c .1))
+
+pub grant-holds : (ring : Ring) (store : List ℕ) (C budget : ℕ) (l : Lane) → held ring store (grantFast C budget l) ≡ held ring store l
+unfolding grantFast openFor held
+grant-holds ring store C budget l = reload-holds ring store l
+
+-- ---- an item of the window
+
+-- one more is unreleased and one more taken in this turn, and neither count is full
+pub record OneMore (C : ℕ) (l m : Lane) : Type 0 where
+  pub unreleased-more : unreleasedSeen m ≡ unreleasedSeen l + 1
+  pub burst-more : burstSeen m ≡ burstSeen l + 1
+  pub below-batch : unreleasedSeen l + 1 < releaseBatch C
+  pub below-turn : burstSeen l < 63
+
+one-back : (u w : ℕ) → 0 < w → w ≤ u → u - (w - 1) ≡ u - w + 1
+one-back u w h k = omega arith
+
+still-below : (u w B : ℕ) → 0 < w → w ≤ u → u < B → u - w + 1 < B
+still-below u w B h k l = omega arith
+
+window-unreleased : {B t m c u b w : ℕ} → Counts B t m c u b w → w ≤ u
+window-unreleased k = omega arith
+
+window-more : (C : ℕ) (l : Lane) → InOrder C l → 0 < l .window → OneMore C l (windowPop l)
+window-more C l o n =
+    let w : l .window ≤ l .unreleased = window-unreleased (o .counts) in
+    record {
+      unreleased-more = one-back (l .unreleased) (l .window) n w;
+      burst-more = one-back (l .burst) (l .window) n (o .counts .window-most);
+      below-batch = still-below (l .unreleased) (l .window) (releaseBatch C) n w (o .counts .unreleased-below);
+      below-turn = turn (l .burst) (l .window) n (o .counts .burst-most);
+    }
+  where
+    turn : (b w : ℕ) → 0 < w → b ≤ 63 → b - w < 63
+    turn b w h k = omega arith
+
+module _ (C : ℕ) (ring : Ring) (store : List ℕ) (l : Lane) (o : InOrder C l) where
+  pub pop-fast-more : (item : ℕ) (m : Lane) → popFast ring store l ≡ Popped.Item item m → OneMore C l m
+  unfolding popFast
+  pop-fast-more item m e = go (eqb (l .window) 0) refl e
+    where
+      go : (t : Bool) → eqb (l .window) 0 ≡ t → cond t (Popped.Nothing l) (Popped.Item (itemAt ring store (l .head)) (windowPop l)) ≡ Popped.Item item m → OneMore C l m
+      go true s f = let z : _≡_ {A = ℕ} 0 1 = cc in absurd (omega arith)
+      go false s f = let same : windowPop l ≡ m = cc in rw (← same) (window-more C l o (pos-of-ne-zero (eqb-false (l .window) 0 s)))
+
+-- ---- an item with full counting
+
+-- the credit after one more item
+abbrev pub unreleasedAfter : ℕ → ℕ → ℕ
+unreleasedAfter C n = if (eqb (n + 1) (releaseBatch C)) 0 (n + 1)
+
+module _ (ring : Ring) (store : List ℕ) (l : Lane) (closed : l .window ≡ 0) where
+  -- of a lane whose window is closed
+  pub pop-targeted-counts : (popTargeted ring store l .lane .unreleased ≡ unreleasedAfter (ring .capacity) (l .unreleased))
+      × (popTargeted ring store l .lane .burst ≡ l .burst) × (popTargeted ring store l .lane .window ≡ 0)
+  unfolding popTargeted targeted releaseAtBatch
+  pop-targeted-counts = go (eqb (l .unreleased + 1) (releaseBatch (ring .capacity)))
+    where
+      after : Bool → Released
+      after t = cond t (record { lane = released (charged 1 (headOn 1 l)); released = true }) (record { lane = charged 1 (headOn 1 l); released = false })
+
+      go : (t : Bool) → (after t .lane .unreleased ≡ if t 0 (l .unreleased + 1)) × (after t .lane .burst ≡ l .burst) × (after t .lane .window ≡ 0)
+      go true = (refl, refl, closed)
+      go false = (refl, refl, closed)
+
+-- a turn ends with every item of a fair receive, else at a burst of 64
+turn-ends : (fair : Bool) (n : ℕ) → n ≤ 63 → (fair || eqb (n + 1) 64) ≡ either fair (leb 63 n)
+turn-ends true n h = refl
+turn-ends false n h = go (eqb (n + 1) 64) refl
+  where
+    go : (b : Bool) → eqb (n + 1) 64 ≡ b → b ≡ leb 63 n
+    go true e = sym (le-leb 63 n (omega (arith, eqb-true (n + 1) 64 e)))
+    go false e = sym (lt-leb 63 n (omega (arith, eqb-false (n + 1) 64 e)))
+
+-- what a poll that gives an item leaves of the counts
+pub record Polled (C : ℕ) (fair : Bool) (l : Lane) (rotate : Bool) (m : Lane) : Type 0 where
+  pub turn-over : rotate ≡ either fair (leb 63 (burstSeen l))
+  pub unreleased-is : m .unreleased ≡ unreleasedAfter C (unreleasedSeen l)
+  pub burst-is : m .burst ≡ if rotate 0 (burstSeen l + 1)
+  pub closed : m .window ≡ 0
+
+module _ (ring : Ring) (store : List ℕ) (fair : Bool) where
+  poll-item-counts : (l : Lane) → l .window ≡ 0 → l .burst ≤ 63 → (item : ℕ) (rotate gave : Bool) (m : Lane)
+      → pollItem ring store fair l ≡ LanePoll.Item item rotate gave m
+      → (rotate ≡ either fair (leb 63 (l .burst))) × (m .unreleased ≡ unreleasedAfter (ring .capacity) (l .unreleased)) × (m .burst ≡ if rotate 0 (l .burst + 1)) × (m .window ≡ 0)
+  unfolding pollItem polled
+  poll-item-counts l w h item rotate gave m e =
+      let k : Lane = popTargeted ring store l .lane in
+      let c = pop-targeted-counts ring store l w in
+      let over : (fair || eqb (k .burst + 1) 64) ≡ rotate = cc in
+      let rest : endBurst (fair || eqb (k .burst + 1) 64) (addBurst 1 k) ≡ m = cc in
+      let same : endBurst rotate (addBurst 1 k) ≡ m = sym (ap (λ (b : Bool). endBurst b (addBurst 1 k)) over) ∙ rest in
+      let now = ended rotate k in
+      (sym over ∙ ap (λ (n : ℕ). fair || eqb (n + 1) 64) (c .1) ∙ turn-ends fair (l .burst) h,
+      ap (λ (j : Lane). j .unreleased) (sym same) ∙ now .0 ∙ c .0,
+      ap (λ (j : Lane). j .burst) (sym same) ∙ now .1 ∙ ap (λ (n : ℕ). if rotate 0 (n + 1)) (c .1),
+      ap (λ (j : Lane). j .window) (sym same) ∙ now .2 ∙ c .2)
+    where
+      ended : (b : Bool) (k : Lane) → (endBurst b (addBurst 1 k) .unreleased ≡ k .unreleased) × (endBurst b (addBurst 1 k) .burst ≡ if b 0 (k .burst + 1)) × (endBurst b (addBurst 1 k) .window ≡ k .window)
+      ended true k = (refl, refl, refl)
+      ended false k = (refl, refl, refl)
+
+  -- a lane in order that gives an item
+  pub poll-counts : (l : Lane) → InOrder (ring .capacity) l → (item : ℕ) (rotate gave : Bool) (m : Lane) → poll ring store fair l ≡ LanePoll.Item item rotate gave m
+      → Polled (ring .capacity) fair l rotate m
+  unfolding poll pollRefilled refill readyOrIdle
+  poll-counts l o item rotate gave m e = go (eqb (looked l .cached) 0) e
+    where
+      most : {B t m c u b w : ℕ} → Counts B t m c u b w → b - w ≤ 63
+      most k = omega arith
+
+      go : (t : Bool) → pollRefilled ring store fair (cond t (Refill.Idle (settleEmpty (looked l))) (Refill.Ready (looked l))) ≡ LanePoll.Item item rotate gave m
+          → Polled (ring .capacity) fair l rotate m
+      go true f = let z : _≡_ {A = ℕ} 0 1 = cc in absurd (omega arith)
+      go false f =
+          let c = looked-counts l in
+          let p = poll-item-counts (looked l) (c .2) (rw (c .1) (most (o .counts))) item rotate gave m f in
+          record {
+            turn-over = p .0 ∙ ap (λ (n : ℕ). either fair (leb 63 n)) (c .1);
+            unreleased-is = p .1 ∙ ap (unreleasedAfter (ring .capacity)) (c .0);
+            burst-is = p .2 ∙ ap (λ (n : ℕ). if rotate 0 (n + 1)) (c .1);
+            closed = p .3;
+          }
+
+-- ---- a lane found empty
+
+-- it holds nothing, its counts are 0, it is idle and in no queue; what it held and its sender are as they were
+pub record FoundIdle (ring : Ring) (store : List ℕ) (l : Lane) (found : EmptyLane) : Type 0 where
+  pub holds-none : held ring store l ≡ []
+  pub same-ends : held ring store (found .lane) ≡ held ring store l
+  pub unreleased-none : found .lane .unreleased ≡ 0
+  pub burst-none : found .lane .burst ≡ 0
+  pub closed : found .lane .window ≡ 0
+  pub idle : found .lane .pending ≡ 0
+  pub unqueued : found .lane .queued ≡ 0
+  pub dropped : found .disconnected ≡ eqb (l .living) 0
+
+-- a lane settled: its window was closed
+module _ (l : Lane) (closed : l .window ≡ 0) where
+  settle-cases : (P : EmptyLane → Type 0) → (l .unreleased ≡ 0 → P (emptied (record { lane = closeFast l; released = false })))
+      → P (emptied (record { lane = released (closeFast l); released = true })) → P (settleEmpty l)
+  unfolding settleEmpty releasePending releaseAny
+  settle-cases P f g = go (eqb (l .unreleased - l .window) 0) refl
+    where
+      go : (t : Bool) → eqb (l .unreleased - l .window) 0 ≡ t
+          → P (emptied (cond t (record { lane = closeFast l; released = false }) (record { lane = released (closeFast l); released = true })))
+      go true e = f (omega (arith, closed, eqb-true (l .unreleased - l .window) 0 e))
+      go false e = g
