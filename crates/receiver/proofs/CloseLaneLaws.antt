@@ -7,8 +7,8 @@ use native.Mathlib.Omega.{arith}
 use Rattle.model.specs.declared.LaneId.{LaneId}
 use Rattle.model.specs.declared.Answer.the-variants.{Done}
 use Rattle.model.specs.Lists as lists
-use Rattle.model.specs.State.{State}
-use Rattle.model.specs.Changes.{withQueue}
+use Rattle.model.specs.State.{Slot, State}
+use Rattle.model.specs.Changes.{withQueue, put}
 use Rattle.model.specs.Outcome.{says}
 use Rattle.model.specs.Control as rules
 use Rattle.model.specs.Turn as turns
@@ -19,16 +19,16 @@ use Rattle.lane.proofs.TableLaws.{slot-of-lane}
 use Rattle.ready.specs.Header.{issued, capacity, slots, budget, fastSlot, freeCount, laneCount, livingCount}
 use Rattle.ready.specs.Queue.{queueOf, removed}
 use Rattle.ready.proofs.QueueLaws.{queue-frames, shaped-removed, head-removed, lane-removed}
-use Rattle.receiver.specs.View.{view}
+use Rattle.receiver.specs.View.{slotAt, view}
 use Rattle.receiver.specs.Order.{Stores, StoreInOrder}
 use Rattle.receiver.specs.Refusal.{idVerdict}
 use Rattle.receiver.specs.Registry.{retired, retireLane}
 use Rattle.receiver.specs.Control.{closed, closeLane}
-use Rattle.receiver.proofs.ViewLaws.{view-removed}
+use Rattle.receiver.proofs.ViewLaws.{slot-in, put-same, view-removed}
 use Rattle.receiver.proofs.RefusalLaws.{seen, id-verdict, id-passes, refused-alike, unless-refused-case}
 use Rattle.receiver.proofs.StepLaws.{Step, step-start, step-removed}
 use Rattle.receiver.proofs.StoreLaws.{lane-counted, room-in-free, Owes, stores-after, windows-without}
-use Rattle.receiver.proofs.RetireLaws.{view-retire-lane, step-retire-lane}
+use Rattle.receiver.proofs.RetireLaws.{view-retired, step-retired}
 
 module _ (t r : List ℕ) (o : StoreInOrder t r) (x : ℕ) (h : x < issued t) (g : laneAt t x .registered ≡ 1) where
   abbrev old : Lane
@@ -44,17 +44,22 @@ module _ (t r : List ℕ) (o : StoreInOrder t r) (x : ℕ) (h : x < issued t) (g
   out-room : freeCount out < slots out
   out-room = simp queue-frames (room-in-free t r (o .stores) x h g (o .ordered))
 
+  -- the lane that retires is the slot's
+  same-lane : put x (slotAt out r x) (view out r) ≡ view out r
+  same-lane = ap (λ (m : Slot). put x m (view out r)) (sym (slot-in out r x (simp queue-frames h))) ∙ put-same x (view out r)
+
   view-closed : view (closed t old) r ≡ turns.retireLane x (withQueue (lists.without x (view t r .queue)) (view t r))
+  unfolding slotAt
   view-closed =
       ap (λ (u : List ℕ). view u r) closed-is
-      ∙ view-retire-lane out r (shaped-removed t (o .stores .shaped) x) x (simp queue-frames h) out-room
-      ∙ ap (turns.retireLane x) (view-removed t r (o .stores .shaped) x)
+      ∙ view-retired out r (shaped-removed t (o .stores .shaped) x) (laneAt out x) x (slot-of-lane out x) (simp queue-frames h) out-room
+      ∙ ap (turns.retireLane x) (same-lane ∙ view-removed t r (o .stores .shaped) x)
 
   step-closed : Step t (closed t old) x (retired old) (lists.without x (queueOf t)) (fastSlot t) (budget t) (laneCount out - 1) (livingCount t)
   step-closed =
       subst (λ (u : List ℕ). Step t u x (retired old) (lists.without x (queueOf t)) (fastSlot t) (budget t) (laneCount out - 1) (livingCount t))
       (sym (closed-is ∙ ap (retireLane out) (lane-removed t x x)))
-      (step-retire-lane (step-removed (step-start t r (o .stores) x) x) old (slot-of-lane t x) h out-room)
+      (step-retired (step-removed (step-start t r (o .stores) x) x) old (slot-of-lane t x) h out-room)
 
   owes-closed : Owes t x (retired old) (lists.without x (queueOf t)) (fastSlot t) (budget t) (laneCount out - 1) (livingCount t)
   owes-closed =

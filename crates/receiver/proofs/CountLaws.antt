@@ -3,13 +3,13 @@
 use mathlib.Core.Path.{_≡_, refl, sym, ap, _∙_}
 use mathlib.Core.Logic.{_≢_}
 use mathlib.Core.Bool.{Bool, true, false}
-use mathlib.Core.List.{List, [], _∷_, _++_}
+use mathlib.Core.List.{_∷_}
 use Prim.Native.Nat.{ℕ, zero, suc, _+_, _≤_, _<_}
 use native.Mathlib.Omega.{arith}
 use lib.ListN.{length}
 use Rattle.model.specs.Lists.{if, keep, from}
 use Rattle.model.specs.State.{State, registeredLanes, livingSenders}
-use Rattle.model.proofs.Counting.{Same, equal, other, same?}
+use Rattle.model.proofs.Counting.{equal, other, same?}
 
 -- 1 of a test that holds
 abbrev pub one : Bool → ℕ

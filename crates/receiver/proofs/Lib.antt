@@ -28,3 +28,5 @@ pub mod PollAllLaws
 pub mod ControlLaws
 pub mod RegisterLaws
 pub mod OpeningLaws
+pub mod CollectedStore
+pub mod FrontLaws

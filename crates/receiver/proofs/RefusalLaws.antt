@@ -14,7 +14,7 @@ use Rattle.model.specs.declared.Refusal.{Refusal}
 use Rattle.model.specs.declared.Refusal.the-variants.{ReceiverClosed, NoSuchSender, LaneClosed, NoSuchLane}
 use Rattle.model.specs.declared.Answer.{Answer}
 use Rattle.model.specs.declared.Answer.the-variants.{Refused}
-use Rattle.model.specs.State.{Slot, State, vacant, senderLives, hasLane, hasLaneId}
+use Rattle.model.specs.State.{State, vacant, senderLives, hasLane, hasLaneId}
 use Rattle.model.specs.Outcome.{Outcome, unless}
 use Rattle.lane.specs.Table.{laneAt}
 use Rattle.ready.specs.Header.{issued, alive, channel}

@@ -1,4 +1,4 @@
--- A lane retires: what the rules see of it, and the run of stores that it belongs to.
+-- A lane retired: what the rules see of it, and the run of stores that it belongs to.
 -- Assumes nothing.
 use mathlib.Core.Path.{_≡_, refl, sym, ap, ap₂, _∙_}
 use mathlib.Core.Bool.{Bool, true, false, cond}
@@ -8,73 +8,74 @@ use lib.Dec.{eqb}
 use Rattle.model.specs.Lists.{if}
 use Rattle.model.specs.State.{Slot, State}
 use Rattle.model.specs.Changes as changes
-use Rattle.model.specs.Changes.{put, withFree, withFlags, withSignal}
+use Rattle.model.specs.Changes.{withFree, put}
 use Rattle.model.specs.Turn as rules
 use Rattle.lane.specs.declared.lane.Lane.{Lane}
-use Rattle.lane.specs.Table.{laneAt, putLane, setHead}
-use Rattle.lane.proofs.TableLaws.{frames, slot-of-lane}
-use Rattle.ready.specs.Header.{Shaped, issued, slots, freeCount, laneCount}
+use Rattle.lane.specs.Ring.{ringOf}
+use Rattle.lane.specs.Lane.{held}
+use Rattle.lane.specs.Table.{setHead, putLane}
+use Rattle.lane.proofs.TableLaws.{frames}
+use Rattle.ready.specs.Header.{Shaped, issued, slots, capacity, freeCount, laneCount}
 use Rattle.ready.specs.Registry.{freed}
+use Rattle.ready.specs.Ready.{pageBit}
 use Rattle.ready.proofs.QueueLaws.{shaped-putLane}
-use Rattle.receiver.specs.View.{flag, slotAt, view}
+use Rattle.receiver.specs.View.{slotOf, view}
 use Rattle.receiver.specs.Registry.{retired, freedUnlessLast, retireLane}
-use Rattle.receiver.proofs.ViewLaws.{slot-in, view-put-flags, view-lane-count, view-freed}
+use Rattle.receiver.proofs.ViewLaws.{view-put-lane, view-freed, view-lane-count, put-put, put-own}
 use Rattle.receiver.proofs.StepLaws.{Step, step-put-lane, step-lane-count, step-freed}
-use Rattle.receiver.proofs.RetireFrames.{shaped-lowered, room-lowered}
 
-module _ (t r : List ℕ) (s : Shaped t) (x : ℕ) (h : x < issued t) where
-  abbrev old : Lane
-  old = laneAt t x
-
-  abbrev slot : Slot
-  slot = view t r .slotOf x
-
-  -- the lane stored as unregistered, and counted no more
-  abbrev lowered : List ℕ
-  lowered = setHead (putLane t (retired old)) 13 (laneCount t - 1)
-
-  slot-retired : withFlags (flag (retired old .registered)) (flag (retired old .living)) (flag (retired old .paused)) (withSignal (flag (retired old .pending)) (slot .marked) slot)
-      ≡ changes.retired slot
-  unfolding slotAt
-  slot-retired =
-      let sees = slot-in t r x h in
-      ap₂ (λ (a b : Bool). withFlags false a false (withSignal b (slot .marked) slot)) (sym (ap (λ (m : Slot). m .living) sees)) (sym (ap (λ (m : Slot). m .pending) sees))
-
-  view-lowered : view lowered r ≡ put x (changes.retired slot) (view t r)
-  view-lowered =
-      view-lane-count (putLane t (retired old)) r (shaped-putLane t s (retired old)) (laneCount t - 1)
-      ∙ view-put-flags t r s x h (retired old) refl refl refl refl refl
-      ∙ ap (λ (m : Slot). put x m (view t r)) slot-retired
-
-  generation-seen : slot .generation ≡ old .key .generation
-  unfolding slotAt
-  generation-seen = ap (λ (m : Slot). m .generation) (slot-in t r x h)
-
-  pub view-retire-lane : freeCount t < slots t → view (retireLane t old) r ≡ rules.retireLane x (view t r)
-  unfolding retireLane freedUnlessLast rules.retireLane
-  view-retire-lane room =
-      ap (λ (y : ℕ). view (cond (eqb (old .key .generation) 18446744073709551615) lowered (freed lowered y)) r) (slot-of-lane t x)
-      ∙ go (eqb (old .key .generation) 18446744073709551615)
-      ∙ ap (λ (n : ℕ). withFree (if (eqb n 18446744073709551615) (view t r .free) (x ∷ view t r .free)) (put x (changes.retired slot) (view t r))) (sym generation-seen)
-    where
-      go : (b : Bool) → view (cond b lowered (freed lowered x)) r ≡ withFree (if b (view t r .free) (x ∷ view t r .free)) (put x (changes.retired slot) (view t r))
-      go true = view-lowered
-      go false =
-          view-freed lowered r (shaped-lowered t (retired old) (laneCount t - 1) s) x (room-lowered t (retired old) (laneCount t - 1) room)
-          ∙ ap (λ (v : State). withFree (x ∷ v .free) v) view-lowered
-
--- in a run of stores
-pub step-retire-lane : {t u : List ℕ} {x : ℕ} {l : Lane} {w : List ℕ} {f b n m : ℕ} → Step t u x l w f b n m → (o : Lane) → o .key .slot ≡ x → x < issued t
-    → freeCount u < slots u → Step t (retireLane u o) x (retired o) w f b (laneCount u - 1) m
-unfolding retireLane freedUnlessLast
-step-retire-lane {t = t} {u = u} {x = x} {l = l} {w = w} {f = f} {b = b} {n = n} {m = m} k o e h room = go (eqb (o .key .generation) 18446744073709551615)
+-- "A slot retired at generation 2^64 - 1 is not freed."
+unless-last-case : (P : List ℕ → Type 0) (t : List ℕ) (l : Lane) → (eqb (l .key .generation) 18446744073709551615 ≡ true → P t)
+    → (eqb (l .key .generation) 18446744073709551615 ≡ false → P (freed t (l .key .slot))) → P (freedUnlessLast t l)
+unfolding freedUnlessLast
+unless-last-case P t l f g = go (eqb (l .key .generation) 18446744073709551615) refl
   where
-    low : List ℕ
-    low = setHead (putLane u (retired o)) 13 (laneCount u - 1)
+    go : (b : Bool) → eqb (l .key .generation) 18446744073709551615 ≡ b → P (cond b t (freed t (l .key .slot)))
+    go true e = f e
+    go false e = g e
 
-    step : Step t low x (retired o) w f b (laneCount u - 1) m
-    step = step-lane-count (step-put-lane k (retired o) e h) (laneCount u - 1)
+module _ (t r : List ℕ) (s : Shaped t) (l : Lane) (x : ℕ) (e : l .key .slot ≡ x) (h : x < issued t) (room : freeCount t < slots t) where
+  -- the table with the lane stored and counted off
+  abbrev off : List ℕ
+  off = setHead (putLane t (retired l)) 13 (laneCount t - 1)
 
-    go : (c : Bool) → Step t (cond c low (freed low (o .key .slot))) x (retired o) w f b (laneCount u - 1) m
-    go true = step
-    go false = step-freed step (o .key .slot) (room-lowered u (retired o) (laneCount u - 1) room)
+  -- the slot as lane l would be seen
+  abbrev seenAs : Slot
+  seenAs = slotOf l (pageBit t x) (held (ringOf x (capacity t)) r l)
+
+  view-off : view off r ≡ put x (changes.retired seenAs) (view t r)
+  unfolding held
+  view-off =
+      view-lane-count (putLane t (retired l)) r (shaped-putLane t s (retired l)) (laneCount t - 1)
+      ∙ view-put-lane t s (retired l) x e h r
+
+  shaped-off : Shaped off
+  shaped-off = simp frames s
+
+  room-off : freeCount off < slots off
+  room-off = simp frames room
+
+  -- retiring a lane is storing it and the rules' retiring
+  pub view-retired : view (retireLane t l) r ≡ rules.retireLane x (put x seenAs (view t r))
+  unfolding retireLane rules.retireLane
+  view-retired =
+      unless-last-case (λ u. view u r ≡ rules.retireLane x (put x seenAs (view t r))) off l
+      (λ z. view-off ∙ sym (after true z))
+      (λ z.
+      ap (λ (y : ℕ). view (freed off y) r) e ∙ view-freed off r shaped-off x room-off
+      ∙ ap (λ (v : State). withFree (x ∷ v .free) v) view-off
+      ∙ sym (after false z))
+    where
+      after : (b : Bool) → eqb (l .key .generation) 18446744073709551615 ≡ b
+          → rules.retireLane x (put x seenAs (view t r)) ≡ withFree (if b (view t r .free) (x ∷ view t r .free)) (put x (changes.retired seenAs) (view t r))
+      after b z =
+          ap (λ (m : Slot). withFree (if (eqb (m .generation) 18446744073709551615) (view t r .free) (x ∷ view t r .free)) (put x (changes.retired m) (put x seenAs (view t r)))) (put-own x seenAs (view t r))
+          ∙ ap₂ (λ (c : Bool) (v : State). withFree (if c (view t r .free) (x ∷ view t r .free)) v) z (put-put x (changes.retired seenAs) seenAs (view t r))
+
+pub step-retired : {t u : List ℕ} {x : ℕ} {l : Lane} {w : List ℕ} {f b n m : ℕ} → Step t u x l w f b n m → (o : Lane) → o .key .slot ≡ x → x < issued t → freeCount u < slots u
+    → Step t (retireLane u o) x (retired o) w f b (laneCount u - 1) m
+unfolding retireLane
+step-retired {t = t} {u = u} {x = x} {w = w} {f = f} {b = b} {m = m} k o e h room =
+    let a = step-lane-count (step-put-lane k (retired o) e h) (laneCount u - 1) in
+    unless-last-case (λ v. Step t v x (retired o) w f b (laneCount u - 1) m) (setHead (putLane u (retired o)) 13 (laneCount u - 1)) o (λ z. a)
+    (λ z. step-freed a (o .key .slot) (simp frames room))

@@ -4,7 +4,7 @@ use mathlib.Core.Path.{_≡_, refl, sym, ap, _∙_}
 use mathlib.Core.Logic.{_≢_}
 use mathlib.Core.Bool.{true, false}
 use mathlib.Core.List.{List, [], _∷_, _++_}
-use Prim.Native.Nat.{ℕ, suc, _+_, _-_, _*_, _/_, _%_, _^_, _≤_, _<_}
+use Prim.Native.Nat.{ℕ, suc, _+_, _-_, _/_, _%_, _^_, _≤_, _<_}
 use native.Mathlib.Nat.{pow-suc}
 use native.Mathlib.Omega.{arith}
 use lib.Dec.{eqb, ltb}
@@ -12,9 +12,9 @@ use lib.ListN.{length}
 use lib.Bits.{or-lt}
 use lib.Pow.{pow-mono, pow-pos}
 use Rattle.model.specs.Lists as rules
-use Rattle.model.proofs.Counting.{Same, equal, other, same?}
+use Rattle.model.proofs.Counting.{equal, other, same?}
 use Rattle.lane.specs.declared.lane.Lane.{Lane}
-use Rattle.lane.specs.Table.{HasRow, setHead, laneAt, putLane}
+use Rattle.lane.specs.Table.{HasRow, headerWords, setHead, laneAt, putLane}
 use Rattle.lane.proofs.TableLaws.{frames, lane-own, other-lane-kept, has-row}
 use Rattle.ready.specs.Header.{Shaped, issued, slots, budget, alive, capacity, firstCursor, fastSlot, laneCount, livingCount, freeCount, queueCount}
 use Rattle.ready.specs.Queue.{queueOf, pushedBack, poppedFront, rotated, removed}
@@ -109,7 +109,52 @@ step-start t r o x =
       living = refl;
     }
 
+-- the header words that no such run changes
+abbrev Sizes : Type 0
+Sizes = ℕ × ℕ × ℕ × ℕ × ℕ
+
+abbrev sizesOf : List ℕ → Sizes
+sizesOf t = (issued t, slots t, capacity t, alive t, firstCursor t)
+
+-- A store that changes no lane, no mark and none of those words.
+record Same (u v : List ℕ) : Type 0 where
+  sizes : sizesOf v ≡ sizesOf u
+  lanes : (y : ℕ) → laneAt v y ≡ laneAt u y
+  pages : (p : ℕ) → pageWord v p ≡ pageWord u p
+  groups : (g : ℕ) → groupWord v g ≡ groupWord u g
+
+same-head : (u : List ℕ) (j v : ℕ) → ltb j headerWords ≡ true → eqb j 0 ≡ false → eqb j 4 ≡ false → eqb j 7 ≡ false → eqb j 8 ≡ false → eqb j 10 ≡ false → Same u (setHead u j v)
+same-head u j v p a b c d e =
+    record {
+      sizes = simp (frames, a, b, c, d, e);
+      lanes = λ y. simp (frames, p);
+      pages = λ y. simp (frames, p);
+      groups = λ y. simp (frames, p);
+    }
+
 module _ {t u : List ℕ} {x : ℕ} {l : Lane} {w : List ℕ} {f b n m : ℕ} (k : Step t u x l w f b n m) where
+  step-same : {v w′ : List ℕ} {f′ b′ n′ m′ : ℕ} → Same u v → Shaped v → queueOf v ≡ w′ → fastSlot v ≡ f′ → budget v ≡ b′ → laneCount v ≡ n′ → livingCount v ≡ m′
+      → Step t v x l w′ f′ b′ n′ m′
+  step-same {v = v} same s q f′ b′ n′ m′ =
+      let e : issued v ≡ issued u = ap (λ (z : Sizes). z .0) (same .sizes) in
+      record {
+        shaped = s;
+        linked = linked-by u v e (same .pages) (same .groups) (k .linked);
+        mark-words = mark-words-by u v e (same .pages) (same .groups) (k .mark-words);
+        same-issued = e ∙ k .same-issued;
+        same-slots = ap (λ (z : Sizes). z .1) (same .sizes) ∙ k .same-slots;
+        same-capacity = ap (λ (z : Sizes). z .2) (same .sizes) ∙ k .same-capacity;
+        same-alive = ap (λ (z : Sizes). z .3) (same .sizes) ∙ k .same-alive;
+        same-cursor = ap (λ (z : Sizes). z .4) (same .sizes) ∙ k .same-cursor;
+        own = same .lanes x ∙ k .own;
+        others = λ y d. same .lanes y ∙ k .others y d;
+        queue = q;
+        fast = f′;
+        poll = b′;
+        lanes = n′;
+        living = m′;
+      }
+
   -- lane x stored
   pub step-put-lane : (o : Lane) → o .key .slot ≡ x → x < issued t → Step t (putLane u o) x o w f b n m
   step-put-lane o e h =
@@ -157,210 +202,78 @@ module _ {t u : List ℕ} {x : ℕ} {l : Lane} {w : List ℕ} {f b n m : ℕ} (k
   pub step-pushed-back : (z : ℕ) → length w < slots t → Step t (pushedBack u z) x l (w ++ (z ∷ [])) f b n m
   step-pushed-back z h =
       let room : queueCount u < slots u = omega (arith, length-queue u, ap length (k .queue), k .same-slots) in
-      record {
-        shaped = shaped-pushed-back u (k .shaped) z room;
-        linked = linked-by u (pushedBack u z) (simp queue-frames) (λ p. simp queue-frames) (λ g. simp queue-frames) (k .linked);
-        mark-words = mark-words-by u (pushedBack u z) (simp queue-frames) (λ p. simp queue-frames) (λ g. simp queue-frames) (k .mark-words);
-        same-issued = simp queue-frames (k .same-issued);
-        same-slots = simp queue-frames (k .same-slots);
-        same-capacity = simp queue-frames (k .same-capacity);
-        same-alive = simp queue-frames (k .same-alive);
-        same-cursor = simp queue-frames (k .same-cursor);
-        own = simp queue-frames (k .own);
-        others = λ y d. simp queue-frames (k .others y d);
-        queue = queue-pushed-back u (k .shaped) z room ∙ ap (λ (q : List ℕ). q ++ (z ∷ [])) (k .queue);
-        fast = simp queue-frames (k .fast);
-        poll = simp queue-frames (k .poll);
-        lanes = simp queue-frames (k .lanes);
-        living = simp queue-frames (k .living);
-      }
+      step-same
+      (record { sizes = simp queue-frames; lanes = λ y. simp queue-frames; pages = λ y. simp queue-frames; groups = λ y. simp queue-frames })
+      (shaped-pushed-back u (k .shaped) z room)
+      (queue-pushed-back u (k .shaped) z room ∙ ap (λ (q : List ℕ). q ++ (z ∷ [])) (k .queue))
+      (simp queue-frames (k .fast)) (simp queue-frames (k .poll)) (simp queue-frames (k .lanes)) (simp queue-frames (k .living))
 
   -- a slot out of the queue
   pub step-removed : (z : ℕ) → Step t (removed u z) x l (rules.without z w) f b n m
   step-removed z =
-      record {
-        shaped = shaped-removed u (k .shaped) z;
-        linked = linked-by u (removed u z) (simp queue-frames) (λ p. simp queue-frames) (λ g. simp queue-frames) (k .linked);
-        mark-words = mark-words-by u (removed u z) (simp queue-frames) (λ p. simp queue-frames) (λ g. simp queue-frames) (k .mark-words);
-        same-issued = simp queue-frames (k .same-issued);
-        same-slots = simp queue-frames (k .same-slots);
-        same-capacity = simp queue-frames (k .same-capacity);
-        same-alive = simp queue-frames (k .same-alive);
-        same-cursor = simp queue-frames (k .same-cursor);
-        own = simp queue-frames (k .own);
-        others = λ y d. simp queue-frames (k .others y d);
-        queue = queue-removed u (k .shaped) z ∙ without-alike z (queueOf u) ∙ ap (rules.without z) (k .queue);
-        fast = simp queue-frames (k .fast);
-        poll = simp queue-frames (k .poll);
-        lanes = simp queue-frames (k .lanes);
-        living = simp queue-frames (k .living);
-      }
+      step-same
+      (record { sizes = simp queue-frames; lanes = λ y. simp queue-frames; pages = λ y. simp queue-frames; groups = λ y. simp queue-frames })
+      (shaped-removed u (k .shaped) z)
+      (queue-removed u (k .shaped) z ∙ without-alike z (queueOf u) ∙ ap (rules.without z) (k .queue))
+      (simp queue-frames (k .fast)) (simp queue-frames (k .poll)) (simp queue-frames (k .lanes)) (simp queue-frames (k .living))
 
   module _ (z : ℕ) (q : List ℕ) (e : w ≡ z ∷ q) where
     -- the front gone
     pub step-popped-front : Step t (poppedFront u) x l q f b n m
     step-popped-front =
-        record {
-          shaped = shaped-popped-front u (k .shaped);
-          linked = linked-by u (poppedFront u) (simp queue-frames) (λ p. simp queue-frames) (λ g. simp queue-frames) (k .linked);
-          mark-words = mark-words-by u (poppedFront u) (simp queue-frames) (λ p. simp queue-frames) (λ g. simp queue-frames) (k .mark-words);
-          same-issued = simp queue-frames (k .same-issued);
-          same-slots = simp queue-frames (k .same-slots);
-          same-capacity = simp queue-frames (k .same-capacity);
-          same-alive = simp queue-frames (k .same-alive);
-          same-cursor = simp queue-frames (k .same-cursor);
-          own = simp queue-frames (k .own);
-          others = λ y d. simp queue-frames (k .others y d);
-          queue = queue-popped-front u (k .shaped) z q (k .queue ∙ e);
-          fast = simp queue-frames (k .fast);
-          poll = simp queue-frames (k .poll);
-          lanes = simp queue-frames (k .lanes);
-          living = simp queue-frames (k .living);
-        }
+        step-same
+        (record { sizes = simp queue-frames; lanes = λ y. simp queue-frames; pages = λ y. simp queue-frames; groups = λ y. simp queue-frames })
+        (shaped-popped-front u (k .shaped))
+        (queue-popped-front u (k .shaped) z q (k .queue ∙ e))
+        (simp queue-frames (k .fast)) (simp queue-frames (k .poll)) (simp queue-frames (k .lanes)) (simp queue-frames (k .living))
 
     -- the front at the back
     pub step-rotated : Step t (rotated u) x l (q ++ (z ∷ [])) f b n m
     step-rotated =
-        record {
-          shaped = shaped-rotated u (k .shaped);
-          linked = linked-by u (rotated u) (simp queue-frames) (λ p. simp queue-frames) (λ g. simp queue-frames) (k .linked);
-          mark-words = mark-words-by u (rotated u) (simp queue-frames) (λ p. simp queue-frames) (λ g. simp queue-frames) (k .mark-words);
-          same-issued = simp queue-frames (k .same-issued);
-          same-slots = simp queue-frames (k .same-slots);
-          same-capacity = simp queue-frames (k .same-capacity);
-          same-alive = simp queue-frames (k .same-alive);
-          same-cursor = simp queue-frames (k .same-cursor);
-          own = simp queue-frames (k .own);
-          others = λ y d. simp queue-frames (k .others y d);
-          queue = queue-rotated u (k .shaped) z q (k .queue ∙ e);
-          fast = simp queue-frames (k .fast);
-          poll = simp queue-frames (k .poll);
-          lanes = simp queue-frames (k .lanes);
-          living = simp queue-frames (k .living);
-        }
+        step-same
+        (record { sizes = simp queue-frames; lanes = λ y. simp queue-frames; pages = λ y. simp queue-frames; groups = λ y. simp queue-frames })
+        (shaped-rotated u (k .shaped))
+        (queue-rotated u (k .shaped) z q (k .queue ∙ e))
+        (simp queue-frames (k .fast)) (simp queue-frames (k .poll)) (simp queue-frames (k .lanes)) (simp queue-frames (k .living))
 
   -- a slot free again, where the free list has room
   pub step-freed : (z : ℕ) → freeCount u < slots u → Step t (freed u z) x l w f b n m
   step-freed z room =
-      record {
-        shaped = shaped-freed u (k .shaped) z room;
-        linked = linked-by u (freed u z) (simp registry-frames) (λ p. simp registry-frames) (λ g. simp registry-frames) (k .linked);
-        mark-words = mark-words-by u (freed u z) (simp registry-frames) (λ p. simp registry-frames) (λ g. simp registry-frames) (k .mark-words);
-        same-issued = simp registry-frames (k .same-issued);
-        same-slots = simp registry-frames (k .same-slots);
-        same-capacity = simp registry-frames (k .same-capacity);
-        same-alive = simp registry-frames (k .same-alive);
-        same-cursor = simp registry-frames (k .same-cursor);
-        own = simp registry-frames (k .own);
-        others = λ y d. simp registry-frames (k .others y d);
-        queue = simp registry-frames (k .queue);
-        fast = simp registry-frames (k .fast);
-        poll = simp registry-frames (k .poll);
-        lanes = simp registry-frames (k .lanes);
-        living = simp registry-frames (k .living);
-      }
+      step-same
+      (record { sizes = simp registry-frames; lanes = λ y. simp registry-frames; pages = λ y. simp registry-frames; groups = λ y. simp registry-frames })
+      (shaped-freed u (k .shaped) z room)
+      (simp registry-frames (k .queue))
+      (simp registry-frames (k .fast)) (simp registry-frames (k .poll)) (simp registry-frames (k .lanes)) (simp registry-frames (k .living))
 
   -- the slot freed last issued again
   pub step-reissued : Step t (reissued u) x l w f b n m
   step-reissued =
-      record {
-        shaped = shaped-reissued u (k .shaped);
-        linked = linked-by u (reissued u) (simp registry-frames) (λ p. simp registry-frames) (λ g. simp registry-frames) (k .linked);
-        mark-words = mark-words-by u (reissued u) (simp registry-frames) (λ p. simp registry-frames) (λ g. simp registry-frames) (k .mark-words);
-        same-issued = simp registry-frames (k .same-issued);
-        same-slots = simp registry-frames (k .same-slots);
-        same-capacity = simp registry-frames (k .same-capacity);
-        same-alive = simp registry-frames (k .same-alive);
-        same-cursor = simp registry-frames (k .same-cursor);
-        own = simp registry-frames (k .own);
-        others = λ y d. simp registry-frames (k .others y d);
-        queue = simp registry-frames (k .queue);
-        fast = simp registry-frames (k .fast);
-        poll = simp registry-frames (k .poll);
-        lanes = simp registry-frames (k .lanes);
-        living = simp registry-frames (k .living);
-      }
+      step-same
+      (record { sizes = simp registry-frames; lanes = λ y. simp registry-frames; pages = λ y. simp registry-frames; groups = λ y. simp registry-frames })
+      (shaped-reissued u (k .shaped))
+      (simp registry-frames (k .queue))
+      (simp registry-frames (k .fast)) (simp registry-frames (k .poll)) (simp registry-frames (k .lanes)) (simp registry-frames (k .living))
 
   -- the budget
   pub step-budget : (v : ℕ) → Step t (setHead u 5 v) x l w f v n m
   step-budget v =
-      record {
-        shaped = simp frames (k .shaped);
-        linked = linked-by u (setHead u 5 v) (simp frames) (λ p. simp frames) (λ g. simp frames) (k .linked);
-        mark-words = mark-words-by u (setHead u 5 v) (simp frames) (λ p. simp frames) (λ g. simp frames) (k .mark-words);
-        same-issued = simp frames (k .same-issued);
-        same-slots = simp frames (k .same-slots);
-        same-capacity = simp frames (k .same-capacity);
-        same-alive = simp frames (k .same-alive);
-        same-cursor = simp frames (k .same-cursor);
-        own = simp frames (k .own);
-        others = λ y d. simp frames (k .others y d);
-        queue = simp queue-frames (k .queue);
-        fast = simp frames (k .fast);
-        poll = simp (frames, header-in u (k .shaped));
-        lanes = simp frames (k .lanes);
-        living = simp frames (k .living);
-      }
+      step-same (same-head u 5 v refl refl refl refl refl refl) (simp frames (k .shaped)) (simp queue-frames (k .queue))
+      (simp frames (k .fast)) (simp (frames, header-in u (k .shaped))) (simp frames (k .lanes)) (simp frames (k .living))
 
   -- `fast_slot`
   pub step-fast-slot : (v : ℕ) → Step t (setHead u 12 v) x l w v b n m
   step-fast-slot v =
-      record {
-        shaped = simp frames (k .shaped);
-        linked = linked-by u (setHead u 12 v) (simp frames) (λ p. simp frames) (λ g. simp frames) (k .linked);
-        mark-words = mark-words-by u (setHead u 12 v) (simp frames) (λ p. simp frames) (λ g. simp frames) (k .mark-words);
-        same-issued = simp frames (k .same-issued);
-        same-slots = simp frames (k .same-slots);
-        same-capacity = simp frames (k .same-capacity);
-        same-alive = simp frames (k .same-alive);
-        same-cursor = simp frames (k .same-cursor);
-        own = simp frames (k .own);
-        others = λ y d. simp frames (k .others y d);
-        queue = simp queue-frames (k .queue);
-        fast = simp (frames, header-in u (k .shaped));
-        poll = simp frames (k .poll);
-        lanes = simp frames (k .lanes);
-        living = simp frames (k .living);
-      }
+      step-same (same-head u 12 v refl refl refl refl refl refl) (simp frames (k .shaped)) (simp queue-frames (k .queue))
+      (simp (frames, header-in u (k .shaped))) (simp frames (k .poll)) (simp frames (k .lanes)) (simp frames (k .living))
 
   -- the count of lanes
   pub step-lane-count : (v : ℕ) → Step t (setHead u 13 v) x l w f b v m
   step-lane-count v =
-      record {
-        shaped = simp frames (k .shaped);
-        linked = linked-by u (setHead u 13 v) (simp frames) (λ p. simp frames) (λ g. simp frames) (k .linked);
-        mark-words = mark-words-by u (setHead u 13 v) (simp frames) (λ p. simp frames) (λ g. simp frames) (k .mark-words);
-        same-issued = simp frames (k .same-issued);
-        same-slots = simp frames (k .same-slots);
-        same-capacity = simp frames (k .same-capacity);
-        same-alive = simp frames (k .same-alive);
-        same-cursor = simp frames (k .same-cursor);
-        own = simp frames (k .own);
-        others = λ y d. simp frames (k .others y d);
-        queue = simp queue-frames (k .queue);
-        fast = simp frames (k .fast);
-        poll = simp frames (k .poll);
-        lanes = simp (frames, header-in u (k .shaped));
-        living = simp frames (k .living);
-      }
+      step-same (same-head u 13 v refl refl refl refl refl refl) (simp frames (k .shaped)) (simp queue-frames (k .queue))
+      (simp frames (k .fast)) (simp frames (k .poll)) (simp (frames, header-in u (k .shaped))) (simp frames (k .living))
 
   -- the count of living senders
   pub step-living-count : (v : ℕ) → Step t (setHead u 14 v) x l w f b n v
   step-living-count v =
-      record {
-        shaped = simp frames (k .shaped);
-        linked = linked-by u (setHead u 14 v) (simp frames) (λ p. simp frames) (λ g. simp frames) (k .linked);
-        mark-words = mark-words-by u (setHead u 14 v) (simp frames) (λ p. simp frames) (λ g. simp frames) (k .mark-words);
-        same-issued = simp frames (k .same-issued);
-        same-slots = simp frames (k .same-slots);
-        same-capacity = simp frames (k .same-capacity);
-        same-alive = simp frames (k .same-alive);
-        same-cursor = simp frames (k .same-cursor);
-        own = simp frames (k .own);
-        others = λ y d. simp frames (k .others y d);
-        queue = simp queue-frames (k .queue);
-        fast = simp frames (k .fast);
-        poll = simp frames (k .poll);
-        lanes = simp frames (k .lanes);
-        living = simp (frames, header-in u (k .shaped));
-      }
+      step-same (same-head u 14 v refl refl refl refl refl refl) (simp frames (k .shaped)) (simp queue-frames (k .queue))
+      (simp frames (k .fast)) (simp frames (k .poll)) (simp frames (k .lanes)) (simp (frames, header-in u (k .shaped)))

@@ -4,26 +4,25 @@ use mathlib.Core.Path.{_≡_, refl, sym, ap, ap₂, _∙_, subst}
 use mathlib.Core.Logic.{_≢_}
 use mathlib.Core.Bool.{Bool, true, false, not}
 use mathlib.Core.List.{List, [], _∷_, _++_}
-use Prim.Native.Nat.{ℕ, zero, suc, _+_, _-_, _*_, _^_, _≤_, _<_}
+use Prim.Native.Nat.{ℕ, zero, suc, _+_, _-_, _*_, _≤_, _<_}
 use native.Mathlib.Nat.{mul-le-mul-right}
 use native.Mathlib.Omega.{arith}
 use borrow.Author.Tests.{eq-eqb, ne-eqb, eqb-true, eqb-false}
-use lib.Dec.{eqb, ltb}
+use lib.Dec.{ltb}
 use lib.ListN.{length, take}
 use Rattle.model.specs.Lists as rules
 use Rattle.model.specs.Lists.{if, count}
 use Rattle.model.specs.State.{Slot, State, vacant, releaseBatch, registeredLanes, livingSenders}
-use Rattle.model.specs.Order as rules-order
 use Rattle.model.specs.Order.{Ordered, SlotOrdered, RingsFit, LaneFits}
 use Rattle.model.specs.Rules.{outcome}
 use Rattle.model.specs.declared.Call.{Call}
 use Rattle.model.specs.declared.Answer.{Answer}
-use Rattle.model.proofs.Counting.{Same, equal, other, same?, without-other, no as clash}
-use Rattle.model.proofs.OrderKept.{first-own, first-other}
+use Rattle.model.proofs.Counting.{equal, other, same?, no as clash}
+use Rattle.model.proofs.OrderKept.{first-own}
 use Rattle.model.proofs.InOrder.{call-keeps-order}
 use Rattle.lane.specs.declared.lane.Lane.{Lane}
 use Rattle.lane.specs.declared.ring.Ring.{Ring}
-use Rattle.lane.specs.Cursor.{Capacity, distance}
+use Rattle.lane.specs.Cursor.{distance}
 use Rattle.lane.specs.Ring.{ringOf, Within}
 use Rattle.lane.specs.Lane.{held}
 use Rattle.lane.specs.Order.{InOrder, Counts}
@@ -31,19 +30,18 @@ use Rattle.lane.specs.Table.{HasRow, laneAt}
 use Rattle.lane.proofs.CursorLaws.{some}
 use Rattle.lane.proofs.CursorOrder.{held-adds, span-adds}
 use Rattle.lane.proofs.RingLaws.{length-items}
-use Rattle.ready.specs.Header.{Shaped, issued, slots, budget, alive, capacity, fastSlot, laneCount, livingCount, freeCount, queueCount}
+use Rattle.ready.specs.Header.{issued, slots, budget, capacity, fastSlot, laneCount, livingCount, freeCount, queueCount}
 use Rattle.ready.specs.Queue.{QueueNames, queueOf}
 use Rattle.ready.specs.Registry.{freeOf, lastFreed, reissued}
-use Rattle.ready.specs.Ready.{Linked}
 use Rattle.ready.proofs.Pigeonhole.{pigeonhole-less}
-use Rattle.ready.proofs.QueueLaws.{length-queue, queue-has-room}
+use Rattle.ready.proofs.QueueLaws.{queue-has-room}
 use Rattle.ready.proofs.RegistryLaws.{length-free, free-reissued}
 use Rattle.receiver.specs.View.{flag, slotAt, view}
 use Rattle.receiver.specs.Order.{Flags, Fast, Stores, StoreInOrder}
 use Rattle.receiver.specs.Words.{Words}
 use Rattle.receiver.proofs.ViewLaws.{slot-in, row-in}
 use Rattle.receiver.proofs.CountLaws.{one, registered-but, living-but, registered-some, living-some}
-use Rattle.receiver.proofs.StepLaws.{Step, step-start}
+use Rattle.receiver.proofs.StepLaws.{Step}
 use Rattle.receiver.proofs.RefusalLaws.{seen}
 
 -- ---- what a call takes from a store in order

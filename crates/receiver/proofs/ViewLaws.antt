@@ -4,24 +4,24 @@ use mathlib.Core.Path.{_≡_, refl, sym, ap, ap₂, _∙_}
 use mathlib.Core.Logic.{_≢_}
 use mathlib.Core.Bool.{Bool, true, false, cond, not}
 use mathlib.Core.List.{List, [], _∷_, _++_}
-use Prim.Native.Nat.{ℕ, suc, _+_, _-_, _*_, _/_, _%_, _≤_, _<_}
+use Prim.Native.Nat.{ℕ, _+_, _-_, _/_, _<_}
 use native.Mathlib.Omega.{arith}
-use borrow.Author.Tests.{lt-ltb, le-ltb, ltb-true, ltb-false, eq-eqb, ne-eqb}
-use lib.Dec.{eqb, ltb, leb}
+use borrow.Author.Tests.{lt-ltb, ltb-true, eq-eqb, ne-eqb}
+use lib.Dec.{eqb, ltb}
 use lib.ListN.{length, set}
 use Rattle.model.specs.Lists as rules
 use Rattle.model.specs.Lists.{if}
 use Rattle.model.specs.State.{Slot, State, vacant}
-use Rattle.model.specs.Changes.{withSlots, withQueue, withFree, withIssued, withBudget, withCursor, withOpen, put, withFlags, withSignal, withRing}
+use Rattle.model.specs.Changes.{withQueue, withFree, withBudget, withCursor, withOpen, put, withFlags, withSignal, withRing}
 use Rattle.model.proofs.Counting.{Same, equal, other, same?}
 use Rattle.model.proofs.Words.{state-path}
 use Rattle.model.specs.declared.LaneKey.{LaneKey}
 use Rattle.lane.specs.declared.lane.Lane.{Lane}
-use Rattle.lane.specs.Cursor.{Capacity, distance}
-use Rattle.lane.specs.Ring.{ringOf, place, items, Within, push}
+use Rattle.lane.specs.Cursor.{distance}
+use Rattle.lane.specs.Ring.{ringOf, place, Within, push}
 use Rattle.lane.specs.Lane.{held, pushAndFlush, sent}
 use Rattle.lane.specs.Order.{InOrder, sentLane}
-use Rattle.lane.specs.Table.{HasRow, head, setHead, cellAt, rowWords, headerWords, cell, laneAt, putLane}
+use Rattle.lane.specs.Table.{HasRow, head, setHead, headerWords, laneAt, putLane}
 use Rattle.lane.proofs.TableLaws.{frames, lane-own, other-lane-kept, slot-of-lane, has-row}
 use Rattle.lane.proofs.RingLaws.{other-ring-kept}
 use Rattle.lane.proofs.HeldLaws.{held-by-ends, push-and-flush-appends}
@@ -29,7 +29,7 @@ use Rattle.ready.specs.Header.{Shaped, issued, slots, budget, groupCursor, aliv
 use Rattle.ready.specs.Queue as words
 use Rattle.ready.specs.Queue.{queueOf, pushedBack, poppedFront, rotated, removed}
 use Rattle.ready.specs.Registry.{freeOf, freed, lastFreed, reissued}
-use Rattle.ready.specs.Ready.{pageBit, marked, queuedLane, enqueued, openedPage, openedGroup}
+use Rattle.ready.specs.Ready.{pageBit, marked, queuedLane, enqueued}
 use Rattle.ready.proofs.QueueLaws.{queue-frames, header-in, queue-pushed-back, queue-popped-front, queue-rotated, queue-removed, shaped-putLane}
 use Rattle.ready.proofs.RegistryLaws.{registry-frames, length-free, free-freed, free-reissued}
 use Rattle.ready.proofs.MarkLaws.{head-marked, lane-marked, queue-marked, free-marked, own-bit-marked, other-bit-marked}
@@ -226,6 +226,33 @@ module _ (t r : List ℕ) (s : Shaped t) (x : ℕ) (h : x < issued t) (l : Lane)
       → view (putLane t l) r ≡ put x (withRing (old .ring) (l .unreleased - l .window) (l .burst - l .window) old) (view t r)
   unfolding slotAt
   view-put-counts a b c d = view-put-same-ends ∙ rw (slot-in t r x h, a, b, c, d)
+
+-- a lane stored whose flags are as they were and that holds the items vs: items were taken, or counts changed
+pub view-put-holding : (t r : List ℕ) → Shaped t → (x : ℕ) → x < issued t → (l : Lane) → l .key ≡ laneAt t x .key → (vs : List ℕ) → held (ringOf x (capacity t)) r l ≡ vs
+    → l .registered ≡ laneAt t x .registered → l .living ≡ laneAt t x .living → l .paused ≡ laneAt t x .paused → l .pending ≡ laneAt t x .pending
+    → view (putLane t l) r ≡ put x (withRing vs (l .unreleased - l .window) (l .burst - l .window) (view t r .slotOf x)) (view t r)
+unfolding slotAt
+view-put-holding t r s x h l key vs e a b c d =
+    view-put-lane t s l x (ap (λ (k : LaneKey). k .slot) key ∙ slot-of-lane t x) h r
+    ∙ ap (λ (m : Slot). put x m (view t r))
+    (ap₂ (λ (g : ℕ) (ws : List ℕ). by (l .registered) (l .living) (l .paused) (l .pending) g ws) (ap (λ (k : LaneKey). k .generation) key) e
+    ∙ ap₂ (λ (i j : ℕ). by i j (l .paused) (l .pending) (laneAt t x .key .generation) vs) a b
+    ∙ ap₂ (λ (i j : ℕ). by (laneAt t x .registered) (laneAt t x .living) i j (laneAt t x .key .generation) vs) c d
+    ∙ rw (slot-in t r x h))
+  where
+    by : ℕ → ℕ → ℕ → ℕ → ℕ → List ℕ → Slot
+    by registered living paused pending g ws =
+        record {
+          registered = flag registered;
+          living = flag living;
+          paused = flag paused;
+          pending = flag pending;
+          marked = flag (pageBit t x);
+          generation = g;
+          ring = ws;
+          unreleased = l .unreleased - l .window;
+          burst = l .burst - l .window;
+        }
 
 -- the queued word alone is not seen
 pub view-put-queued : (t r : List ℕ) → Shaped t → (x : ℕ) → x < issued t → view (putLane t (queuedLane (laneAt t x))) r ≡ view t r
