@@ -4,8 +4,11 @@
 use mathlib.Core.Path.{_≡_, refl, ap, sym, _∙_, subst}
 use mathlib.Core.List.{List, [], _∷_, _++_}
 use Prim.Native.Nat.{ℕ}
+use native.Mathlib.Omega.{arith}
 use Rattle.model.specs.declared.LaneKey.{LaneKey}
 use Rattle.model.specs.declared.Opening.{Opening}
+use Rattle.model.specs.declared.SenderCall.the-variants.{RegisterSender, TrySend, DropSender}
+use Rattle.model.specs.declared.ReceiveCall.the-variants.{TryRecv}
 use Rattle.model.specs.declared.Call.{Call}
 use Rattle.model.specs.declared.Call.the-variants.{Sender, Receive, Control}
 use Rattle.model.specs.declared.Answer.{Answer}
@@ -19,7 +22,7 @@ use Rattle.model.specs.Demand2.{Demand2In, Demand2, shuts, values, outOf
 use Rattle.model.specs.Demand3.{Demand3In, Demand3}
 use Rattle.model.specs.Closed.{NoneAfterCloseIn, NoneAfterClose}
 use Rattle.model.specs.Held.{HeldAsCountedIn, HeldAsCounted}
-use Rattle.model.specs.Words.{OpeningFits, CallFits, runsThatFit, Simulation}
+use Rattle.model.specs.Words.{numbersOfOpening, numbersOfCall, Fits, OpeningFits, CallFits, runsThatFit, Simulation}
 use Rattle.model.proofs.Demand2.{demand2}
 use Rattle.model.proofs.Demand3.{demand3}
 use Rattle.model.proofs.Closed.{none-after-close}
@@ -149,3 +152,21 @@ a-simulation = record {
   output-alike = λ s r out f room k. refl;
   keeps-ok = λ s c f k. call-keeps-order (s .0) c k;
 }
+
+-- Numbers to 2^64 - 1 fit, and 2^64 does not; the run of "Input 0 (4, 2, 7, 0, 0); 1 (2); 2 (0, 0, 11); 5; 5; 4 (0, 0); 5" is one whose numbers fit.
+top-fits : CallFits (Sender (RegisterSender 18446744073709551615))
+unfolding Fits Each numbersOfCall
+top-fits = (omega arith, tt)
+
+past-top-not : CallFits (Sender (RegisterSender 18446744073709551616)) → ⊥
+unfolding Fits Each numbersOfCall
+past-top-not h = omega (arith, h .0)
+
+replayed-run-fits :
+    runsThatFit theRules record { capacity = 4; slots = 2; channel = 7; cursor = 0; generation = 0 } record { rings = 2048; table = 4096 }
+    (Sender (RegisterSender 2) ∷ Sender (TrySend record { slot = 0; generation = 0 } 11) ∷ Receive TryRecv ∷ Receive TryRecv ∷ Sender (DropSender record { slot = 0; generation = 0 }) ∷ Receive TryRecv ∷ [])
+unfolding runsThatFit Fits Each numbersOfOpening numbersOfCall
+replayed-run-fits = (
+  (omega arith, (omega arith, (omega arith, (omega arith, (omega arith, (omega arith, (omega arith, tt))))))),
+  ((omega arith, tt), ((omega arith, (omega arith, (omega arith, tt))), (tt, (tt, ((omega arith, (omega arith, tt)), (tt, tt)))))),
+)
