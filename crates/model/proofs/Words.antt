@@ -167,6 +167,6 @@ replayed-run-fits :
     (Sender (RegisterSender 2) ∷ Sender (TrySend record { slot = 0; generation = 0 } 11) ∷ Receive TryRecv ∷ Receive TryRecv ∷ Sender (DropSender record { slot = 0; generation = 0 }) ∷ Receive TryRecv ∷ [])
 unfolding runsThatFit Fits Each numbersOfOpening numbersOfCall
 replayed-run-fits = (
-  (omega arith, omega arith, omega arith, omega arith, omega arith, omega arith, omega arith, tt),
-  ((omega arith, tt), (omega arith, omega arith, omega arith, tt), tt, tt, (omega arith, omega arith, tt), tt, tt),
+  (omega arith, (omega arith, (omega arith, (omega arith, (omega arith, (omega arith, (omega arith, tt))))))),
+  ((omega arith, tt), ((omega arith, (omega arith, (omega arith, tt))), (tt, (tt, ((omega arith, (omega arith, tt)), (tt, tt)))))),
 )
