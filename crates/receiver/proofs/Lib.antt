@@ -6,3 +6,8 @@ pub mod StoreLaws
 pub mod IssueLaws
 pub mod SenderBounds
 pub mod OpeningBounds
+pub mod ControlBounds
+pub mod EnqueueLaws
+pub mod RetireFrames
+pub mod SignalFrames
+pub mod SlotLoops

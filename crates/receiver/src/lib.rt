@@ -1,4 +1,6 @@
 // The receiver's calls on a store in order.
+pub mod batch;
+pub mod lane_control;
 pub mod mpsc;
 pub mod refusal;
 pub mod registry;

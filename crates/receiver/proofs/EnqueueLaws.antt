@@ -1,0 +1,86 @@
+-- A lane that goes to the back of the queue, pending or not: the queue still names each lane once.
+-- Assumes nothing.
+use mathlib.Core.Path.{_≡_, refl, sym, ap, _∙_}
+use mathlib.Core.Bool.{true, false}
+use mathlib.Core.List.{List, [], _∷_, _++_}
+use Prim.Native.Nat.{ℕ, _+_}
+use native.Mathlib.Omega.{arith}
+use borrow.Author.Tests.{le-leb}
+use lib.Dec.{ltb, leb, eqb}
+use lib.ListN.{length}
+use Rattle.model.specs.Lists as rules
+use Rattle.model.proofs.Counting.{Same, equal, other, same?, same-self, count-append}
+use Rattle.lane.specs.Table.{headerWords, rowWords, head, cellAt, laneAt, putLane}
+use Rattle.lane.proofs.TableLaws.{frames}
+use Rattle.ready.specs.Header.{Shaped, issued}
+use Rattle.ready.specs.Queue.{queueOf, QueueNames}
+use Rattle.ready.specs.Ready.{queuedLane, enqueued}
+use Rattle.ready.proofs.QueueLaws.{queue-frames, queue-pushed-back, shaped-pushed-back, shaped-putLane}
+use Rattle.ready.proofs.OfferLaws.{Wants, wants-room}
+use Rattle.ready.proofs.CollectLaws.{Kept}
+
+module _ (t : List ℕ) (x : ℕ) where
+  pub length-enqueued : length (enqueued t x) ≡ length t
+  unfolding enqueued
+  length-enqueued = simp (queue-frames, frames)
+
+  pub head-enqueued : (k : ℕ) → ltb k headerWords ≡ true → eqb 2 k ≡ false → head (enqueued t x) k ≡ head t k
+  unfolding enqueued
+  head-enqueued k p n = simp (queue-frames, frames, p, n)
+
+  own-enqueued : leb (cellAt rowWords x) (length t) ≡ true → laneAt (enqueued t x) x ≡ queuedLane (laneAt t x)
+  unfolding enqueued
+  own-enqueued r = simp (queue-frames, frames, r)
+
+  other-enqueued : (y : ℕ) → eqb y x ≡ false → laneAt (enqueued t x) y ≡ laneAt t y
+  unfolding enqueued
+  other-enqueued y n = simp (queue-frames, frames, n)
+
+module _ (t : List ℕ) (x : ℕ) (s : Shaped t) (q : QueueNames t) (w : Wants t x) where
+  row-of : leb (cellAt rowWords x) (length t) ≡ true
+  row-of = le-leb (cellAt rowWords x) (length t) (omega (arith, s .issued-most, s .room, w .is-issued))
+
+  shaped-enqueued : Shaped (enqueued t x)
+  unfolding enqueued
+  shaped-enqueued = shaped-pushed-back (putLane t (queuedLane (laneAt t x))) (shaped-putLane t s _) x (simp frames (wants-room t x s q w))
+
+  pub queue-enqueued : queueOf (enqueued t x) ≡ queueOf t ++ (x ∷ [])
+  unfolding enqueued
+  queue-enqueued =
+      queue-pushed-back (putLane t (queuedLane (laneAt t x))) (shaped-putLane t s _) x (simp frames (wants-room t x s q w)) ∙ simp queue-frames
+
+  pub lane-enqueued : (y : ℕ) → queuedLane (laneAt (enqueued t x) y) ≡ queuedLane (laneAt t y)
+  lane-enqueued y = elim (same? y x) [
+    | equal e p i ↦ rw e (ap queuedLane (own-enqueued t x row-of))
+    | other d p i ↦ ap queuedLane (other-enqueued t x y p)
+  ]
+
+  none-before : rules.count x (queueOf t) ≡ 0
+  none-before = sym (q .flagged x (w .is-issued) (w .registered)) ∙ w .unqueued
+
+  count-enqueued : (y : ℕ) → rules.count y (queueOf (enqueued t x)) ≡ rules.count y (queueOf t) + rules.same y x
+  unfolding rules.count
+  count-enqueued y = ap (rules.count y) queue-enqueued ∙ count-append y (queueOf t) (x ∷ []) ∙ omega arith
+
+  names-enqueued : QueueNames (enqueued t x)
+  names-enqueued =
+      record {
+        once = λ y. elim (same? y x) [
+          | equal e p i ↦ rw e (omega (arith, count-enqueued x, none-before, same-self x))
+          | other d p i ↦ omega (arith, count-enqueued y, q .once y)
+        ];
+        issued-only = λ y h. elim (same? y x) [
+          | equal e p i ↦ rw (e, head-enqueued t x 0 refl refl) (w .is-issued)
+          | other d p i ↦ rw (head-enqueued t x 0 refl refl) (q .issued-only y (omega (arith, count-enqueued y)))
+        ];
+        flagged = λ y h r. elim (same? y x) [
+          | equal e p i ↦ rw (e, own-enqueued t x row-of) (omega (arith, count-enqueued x, none-before, same-self x))
+          | other d p i ↦
+              rw (other-enqueued t x y p)
+              (q .flagged y (rw (head-enqueued t x 0 refl refl) at h) (rw (other-enqueued t x y p) at r) ∙ omega (arith, count-enqueued y))
+        ];
+      }
+
+  pub kept-enqueued : Kept t (enqueued t x)
+  kept-enqueued =
+      record { shaped = shaped-enqueued; names = names-enqueued; same-issued = head-enqueued t x 0 refl refl; long = length-enqueued t x }
