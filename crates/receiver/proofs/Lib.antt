@@ -11,3 +11,6 @@ pub mod EnqueueLaws
 pub mod RetireFrames
 pub mod SignalFrames
 pub mod SlotLoops
+pub mod LaneFields
+pub mod TurnLaws
+pub mod FrontLaws
