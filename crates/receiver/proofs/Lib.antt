@@ -31,3 +31,6 @@ pub mod ControlLaws
 pub mod RegisterLaws
 pub mod OpeningLaws
 pub mod LaneView
+pub mod LaneFields
+pub mod TurnLaws
+pub mod FrontLaws
