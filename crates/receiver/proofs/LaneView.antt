@@ -1,12 +1,12 @@
 -- What a lane's methods do to the counts that the rules see: the unreleased count and the burst, each less the window.
 -- Assumes nothing.
-use mathlib.Core.Path.{_≡_, refl, sym, ap, ap₂, _∙_}
+use mathlib.Core.Path.{_≡_, refl, sym, ap, _∙_}
 use mathlib.Core.Bool.{Bool, true, false, cond, _||_}
 use mathlib.Core.List.{List, []}
 use Prim.Native.Nat.{ℕ, _+_, _-_, _≤_, _<_}
 use native.Mathlib.Nat.{pos-of-ne-zero}
 use native.Mathlib.Omega.{arith}
-use borrow.Author.Tests.{eqb-true, eqb-false, eq-eqb, ne-eqb, le-leb, lt-leb}
+use borrow.Author.Tests.{eqb-true, eqb-false, le-leb, lt-leb}
 use lib.Dec.{eqb, leb}
 use Rattle.model.specs.Lists.{if, either}
 use Rattle.model.specs.State.{releaseBatch}
@@ -22,8 +22,10 @@ use Rattle.lane.specs.declared.lane.Popped.{Popped}
 use Rattle.lane.specs.declared.lane.Popped.the-variants as Popped
 use Rattle.lane.specs.Lane.{held, closeFast, prefetch, reload, openFor, grantFast, windowPop, popFast, headOn, charged, addBurst, endBurst, released, releaseAtBatch, targeted, popTargeted, polled, pollItem, pollRefilled, poll, readyOrIdle, refill, releaseAny, releasePending, emptied, settleEmpty, fairWindow, burstOfWindow, fairly, popFair}
 use Rattle.lane.specs.Order.{Counts, InOrder}
-use Rattle.lane.specs.Ring.{itemAt}
-use Rattle.lane.proofs.OrderLaws.{cond-holds}
+use Rattle.lane.specs.Cursor.{distance}
+use Rattle.lane.specs.Ring.{itemAt, items}
+use Rattle.lane.proofs.CursorLaws.{distance-self}
+use Rattle.lane.proofs.OrderLaws.{cond-holds, fair-window-keeps, found-empty}
 use Rattle.lane.proofs.HeldLaws.{reload-holds}
 
 abbrev pub unreleasedSeen : Lane → ℕ
@@ -143,11 +145,12 @@ module _ (ring : Ring) (store : List ℕ) (fair : Bool) where
       let over : (fair || eqb (k .burst + 1) 64) ≡ rotate = cc in
       let rest : endBurst (fair || eqb (k .burst + 1) 64) (addBurst 1 k) ≡ m = cc in
       let same : endBurst rotate (addBurst 1 k) ≡ m = sym (ap (λ (b : Bool). endBurst b (addBurst 1 k)) over) ∙ rest in
-      let now = ended rotate k in
-      (sym over ∙ ap (λ (n : ℕ). fair || eqb (n + 1) 64) (c .1) ∙ turn-ends fair (l .burst) h,
-      ap (λ (j : Lane). j .unreleased) (sym same) ∙ now .0 ∙ c .0,
-      ap (λ (j : Lane). j .burst) (sym same) ∙ now .1 ∙ ap (λ (n : ℕ). if rotate 0 (n + 1)) (c .1),
-      ap (λ (j : Lane). j .window) (sym same) ∙ now .2 ∙ c .2)
+      let now = ended rotate k in (
+        sym over ∙ ap (λ (n : ℕ). fair || eqb (n + 1) 64) (c .1) ∙ turn-ends fair (l .burst) h,
+        ap (λ (j : Lane). j .unreleased) (sym same) ∙ now .0 ∙ c .0,
+        ap (λ (j : Lane). j .burst) (sym same) ∙ now .1 ∙ ap (λ (n : ℕ). if rotate 0 (n + 1)) (c .1),
+        ap (λ (j : Lane). j .window) (sym same) ∙ now .2 ∙ c .2,
+      )
     where
       ended : (b : Bool) (k : Lane) → (endBurst b (addBurst 1 k) .unreleased ≡ k .unreleased) × (endBurst b (addBurst 1 k) .burst ≡ if b 0 (k .burst + 1)) × (endBurst b (addBurst 1 k) .window ≡ k .window)
       ended true k = (refl, refl, refl)
@@ -199,3 +202,77 @@ module _ (l : Lane) (closed : l .window ≡ 0) where
           → P (emptied (cond t (record { lane = closeFast l; released = false }) (record { lane = released (closeFast l); released = true })))
       go true e = f (omega (arith, closed, eqb-true (l .unreleased - l .window) 0 e))
       go false e = g
+
+  settle-is : (ring : Ring) (store : List ℕ)
+      → (held ring store (settleEmpty l .lane) ≡ held ring store l) × (settleEmpty l .lane .unreleased ≡ 0) × (settleEmpty l .lane .burst ≡ 0) × (settleEmpty l .lane .window ≡ 0)
+      × (settleEmpty l .lane .pending ≡ 0) × (settleEmpty l .lane .queued ≡ 0) × (settleEmpty l .disconnected ≡ eqb (l .living) 0)
+  unfolding held emptied
+  settle-is ring store =
+      settle-cases
+      (λ f. (held ring store (f .lane) ≡ held ring store l) × (f .lane .unreleased ≡ 0) × (f .lane .burst ≡ 0) × (f .lane .window ≡ 0) × (f .lane .pending ≡ 0) × (f .lane .queued ≡ 0)
+      × (f .disconnected ≡ eqb (l .living) 0))
+      (λ z. (refl, omega (arith, closed, z), refl, refl, refl, refl, refl))
+      (refl, refl, refl, refl, refl, refl, refl)
+
+looked-living : (l : Lane) → looked l .living ≡ l .living
+unfolding reload
+looked-living l = cond-holds (λ m. m .living ≡ l .living) (eqb (l .cached + l .window) 0) (prefetch (closeFast l)) (closeFast l) (λ e. refl) (λ e. refl)
+
+module _ (ring : Ring) (small : ring .capacity ≤ 65536) (store : List ℕ) (l : Lane) (o : InOrder (ring .capacity) l) where
+  -- a look that finds nothing at hand finds nothing held
+  pub looked-empty : looked l .cached ≡ 0 → held ring store l ≡ []
+  unfolding held items
+  looked-empty z =
+      let e : distance (l .tail) (l .head) ≡ 0 = ap (λ (c : ℕ). distance c (l .head)) (found-empty (ring .capacity) small l o z) ∙ distance-self (l .head) (o .cursors .head-u64) in
+      rw e
+
+  pub settled-idle : looked l .cached ≡ 0 → FoundIdle ring store l (settleEmpty (looked l))
+  settled-idle z =
+      let c = settle-is (looked l) (looked-counts l .2) ring store in
+      record {
+        holds-none = looked-empty z;
+        same-ends = c .0 ∙ reload-holds ring store l;
+        unreleased-none = c .1;
+        burst-none = c .2;
+        closed = c .3;
+        idle = c .4;
+        unqueued = c .5;
+        dropped = c .6 ∙ ap (λ (n : ℕ). eqb n 0) (looked-living l);
+      }
+
+  pub poll-idle : (fair : Bool) (found : EmptyLane) → poll ring store fair l ≡ LanePoll.Idle found → FoundIdle ring store l found
+  unfolding poll pollRefilled refill readyOrIdle pollItem polled
+  poll-idle fair found e = go (eqb (looked l .cached) 0) refl e
+    where
+      go : (t : Bool) → eqb (looked l .cached) 0 ≡ t → pollRefilled ring store fair (cond t (Refill.Idle (settleEmpty (looked l))) (Refill.Ready (looked l))) ≡ LanePoll.Idle found
+          → FoundIdle ring store l found
+      go true s f = let same : settleEmpty (looked l) ≡ found = cc in rw (← same) (settled-idle (eqb-true (looked l .cached) 0 s))
+      go false s f = let z : _≡_ {A = ℕ} 0 1 = cc in absurd (omega arith)
+
+-- ---- the lone lane's item of a fair receive: its turn starts anew
+
+module _ (ring : Ring) (small : ring .capacity ≤ 65536) (store : List ℕ) (budget : ℕ) (l : Lane) (o : InOrder (ring .capacity) l) where
+  fair-window-seen : unreleasedSeen (fairWindow (ring .capacity) budget l) ≡ unreleasedSeen l
+  unfolding fairWindow
+  fair-window-seen =
+      cond-holds (λ m. unreleasedSeen m ≡ unreleasedSeen l) (eqb (l .window) 0) (grantFast (ring .capacity) budget (endBurst true l)) l
+      (λ e. grant-seen (ring .capacity) budget (endBurst true l) .0) (λ e. refl)
+
+  pub pop-fair-more : (item : ℕ) (m : Lane) → popFair ring store budget l ≡ Popped.Item item m
+      → (unreleasedSeen m ≡ unreleasedSeen l + 1) × (burstSeen m ≡ 0) × (unreleasedSeen l + 1 < releaseBatch (ring .capacity))
+  unfolding popFair fairly
+  pop-fair-more item m e = go (popFast ring store (fairWindow (ring .capacity) budget l)) refl e
+    where
+      none : (w : ℕ) → w - w ≡ 0
+      none w = omega arith
+
+      go : (p : Popped) → popFast ring store (fairWindow (ring .capacity) budget l) ≡ p → fairly p ≡ Popped.Item item m
+          → (unreleasedSeen m ≡ unreleasedSeen l + 1) × (burstSeen m ≡ 0) × (unreleasedSeen l + 1 < releaseBatch (ring .capacity))
+      go (Popped.Item v k) s f =
+          let same : burstOfWindow k ≡ m = cc in
+          let more = pop-fast-more (ring .capacity) ring store (fairWindow (ring .capacity) budget l) (fair-window-keeps ring small store l o budget) v k s in (
+            ap (λ (j : Lane). unreleasedSeen j) (sym same) ∙ more .unreleased-more ∙ ap (λ (n : ℕ). n + 1) fair-window-seen,
+            ap (λ (j : Lane). burstSeen j) (sym same) ∙ none (k .window),
+            rw (← fair-window-seen) (more .below-batch),
+          )
+      go (Popped.Nothing k) s f = let z : _≡_ {A = ℕ} 0 1 = cc in absurd (omega arith)

@@ -32,3 +32,6 @@ pub mod RegisterLaws
 pub mod SenderLaws
 pub mod OpeningLaws
 pub mod LaneView
+pub mod LaneFields
+pub mod TurnLaws
+pub mod FrontLaws

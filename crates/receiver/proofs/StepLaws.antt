@@ -75,7 +75,7 @@ mark-words-marked t x s h k =
 pub record Step (t u : List ℕ) (x : ℕ) (l : Lane) (w : List ℕ) (f b n m : ℕ) : Type 0 where
   pub shaped : Shaped u
   pub linked : Linked u
-  pub mark-words : MarkWords u
+  pub mark-words : MarkWords t → MarkWords u
   pub same-issued : issued u ≡ issued t
   pub same-slots : slots u ≡ slots t
   pub same-capacity : capacity u ≡ capacity t
@@ -89,12 +89,13 @@ pub record Step (t u : List ℕ) (x : ℕ) (l : Lane) (w : List ℕ) (f b n m : 
   pub lanes : laneCount u ≡ n
   pub living : livingCount u ≡ m
 
-pub step-start : (t r : List ℕ) → Stores t r → (x : ℕ) → Step t t x (laneAt t x) (queueOf t) (fastSlot t) (budget t) (laneCount t) (livingCount t)
-step-start t r o x =
+-- where a run starts: of any table with its shape and its marks linked, and so of a store in order
+pub step-from : (t : List ℕ) → Shaped t → Linked t → (x : ℕ) → Step t t x (laneAt t x) (queueOf t) (fastSlot t) (budget t) (laneCount t) (livingCount t)
+step-from t s k x =
     record {
-      shaped = o .shaped;
-      linked = o .linked;
-      mark-words = o .mark-words;
+      shaped = s;
+      linked = k;
+      mark-words = λ m. m;
       same-issued = refl;
       same-slots = refl;
       same-capacity = refl;
@@ -108,6 +109,9 @@ step-start t r o x =
       lanes = refl;
       living = refl;
     }
+
+pub step-start : (t r : List ℕ) → Stores t r → (x : ℕ) → Step t t x (laneAt t x) (queueOf t) (fastSlot t) (budget t) (laneCount t) (livingCount t)
+step-start t r o x = step-from t (o .shaped) (o .linked) x
 
 -- the header words that no such run changes
 abbrev Sizes : Type 0
@@ -140,7 +144,7 @@ module _ {t u : List ℕ} {x : ℕ} {l : Lane} {w : List ℕ} {f b n m : ℕ} (k
       record {
         shaped = s;
         linked = linked-by u v e (same .pages) (same .groups) (k .linked);
-        mark-words = mark-words-by u v e (same .pages) (same .groups) (k .mark-words);
+        mark-words = λ q. mark-words-by u v e (same .pages) (same .groups) (k .mark-words q);
         same-issued = e ∙ k .same-issued;
         same-slots = ap (λ (z : Sizes). z .1) (same .sizes) ∙ k .same-slots;
         same-capacity = ap (λ (z : Sizes). z .2) (same .sizes) ∙ k .same-capacity;
@@ -161,7 +165,7 @@ module _ {t u : List ℕ} {x : ℕ} {l : Lane} {w : List ℕ} {f b n m : ℕ} (k
       record {
         shaped = shaped-putLane u (k .shaped) o;
         linked = linked-by u (putLane u o) (simp frames) (λ p. simp frames) (λ g. simp frames) (k .linked);
-        mark-words = mark-words-by u (putLane u o) (simp frames) (λ p. simp frames) (λ g. simp frames) (k .mark-words);
+        mark-words = λ q. mark-words-by u (putLane u o) (simp frames) (λ p. simp frames) (λ g. simp frames) (k .mark-words q);
         same-issued = simp frames (k .same-issued);
         same-slots = simp frames (k .same-slots);
         same-capacity = simp frames (k .same-capacity);
@@ -183,7 +187,7 @@ module _ {t u : List ℕ} {x : ℕ} {l : Lane} {w : List ℕ} {f b n m : ℕ} (k
       record {
         shaped = marked-case u z Shaped (λ e. simp frames (k .shaped)) (λ e. simp frames (k .shaped));
         linked = linked-marked u z (k .shaped) (rw (k .same-issued) h) (k .linked);
-        mark-words = mark-words-marked u z (k .shaped) (rw (k .same-issued) h) (k .mark-words);
+        mark-words = λ q. mark-words-marked u z (k .shaped) (rw (k .same-issued) h) (k .mark-words q);
         same-issued = hd 0 refl ∙ k .same-issued;
         same-slots = hd 4 refl ∙ k .same-slots;
         same-capacity = hd 8 refl ∙ k .same-capacity;

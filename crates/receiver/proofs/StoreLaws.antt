@@ -313,7 +313,7 @@ module _ (t r u q : List ℕ) (o : Stores t r) (x : ℕ) (h : x < issued t) (l :
         lanes = λ y c. rw (k .same-capacity) (own-or (λ z j. z < issued t → j .registered ≡ 1 → InOrder (capacity t) j) y (λ z. d .order) (λ g. o .lanes y) (rw (k .same-issued) at c));
         named = names-after;
         linked = k .linked;
-        mark-words = k .mark-words;
+        mark-words = k .mark-words (o .mark-words);
         windows = λ y c. rw (k .fast, k .queue, k .poll)
             (own-or (λ z j. z < issued t → j .registered ≡ 1 → 0 < j .window → Fast z f w (j .window) b) y (λ z. d .window) (λ g. d .windows y g) (rw (k .same-issued) at c));
         lanes-counted = lanes-after;

@@ -7,3 +7,4 @@ pub mod Registry
 pub mod Control
 pub mod Batch
 pub mod Opening
+pub mod Turn

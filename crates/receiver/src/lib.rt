@@ -5,3 +5,4 @@ pub mod mpsc;
 pub mod refusal;
 pub mod registry;
 pub mod sender;
+pub mod turn;
