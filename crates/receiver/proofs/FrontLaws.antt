@@ -289,9 +289,13 @@ module _ (t r : List ℕ) (fair : Bool) (k : Turning t) where
     left-room found e =
         let i = subst (PollKept (laneAt t (frontSlot t))) e (poll-kept (ringOf (frontSlot t) (capacity t)) r fair (laneAt t (frontSlot t))) in
         let o = subst (λ (p : LanePoll). InOrder (capacity t) (polledLane p)) e poll-ordered in
-        let h = front-issued t k some in
-        (k .shaped, rw (left-slot t k some found i o) (slot-below t k (frontSlot t) h), omega (arith, some), free-room t k (frontSlot t) h (front-registered t k some),
-        some-lane t k (frontSlot t) h (front-registered t k some))
+        let h = front-issued t k some in (
+          k .shaped,
+          rw (left-slot t k some found i o) (slot-below t k (frontSlot t) h),
+          omega (arith, some),
+          free-room t k (frontSlot t) h (front-registered t k some),
+          some-lane t k (frontSlot t) h (front-registered t k some),
+        )
 
     pub gave-room : (item : ℕ) (rotate released : Bool) (l : Lane) → polledFront t r fair ≡ LanePoll.Item item rotate released l
         → Shaped t × (l .key .slot < slots t) × (0 < queueCount t)

@@ -96,7 +96,7 @@ module _ {t u : List ℕ} {x : ℕ} {l : Lane} {w : List ℕ} {f b n m : ℕ} (k
   unfolding registeredIn
   counted-step e =
       let c = passing-but (λ y. flag (laneAt u y .registered)) (λ y. flag (laneAt t y .registered)) x 0 (issued t) (omega arith) (omega arith)
-        (λ y d. ap (λ (z : Lane). flag (z .registered)) (s .others y d)) in
+      (λ y d. ap (λ (z : Lane). flag (z .registered)) (s .others y d)) in
       let o : one (flag (laneAt u x .registered)) ≡ one (flag (l .registered)) = ap (λ (z : Lane). one (flag (z .registered))) (s .own) in
       rw (s .same-issued) (omega (arith, s .lanes, k .counted, c, o, e))
 
@@ -110,11 +110,11 @@ module _ {t u : List ℕ} {x : ℕ} {l : Lane} {w : List ℕ} {f b n m : ℕ} (k
         shaped = s .shaped;
         power = rw (s .same-capacity) (k .power);
         names =
-          record {
-            once = λ y. rw (s .queue) (once y);
-            issued-only = λ y a. rw (s .same-issued) (only y (rw (s .queue) at a));
-            flagged = λ y a. rw (s .queue) (flagged y (rw (s .same-issued) at a));
-          };
+            record {
+              once = λ y. rw (s .queue) (once y);
+              issued-only = λ y a. rw (s .same-issued) (only y (rw (s .queue) at a));
+              flagged = λ y a. rw (s .queue) (flagged y (rw (s .same-issued) at a));
+            };
         linked = s .linked;
         lanes = λ y a. rw (s .same-capacity) (ordered y (rw (s .same-issued) at a));
         queued-registered = λ y a. registered y (rw (s .queue) at a);
