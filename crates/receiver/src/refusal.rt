@@ -14,7 +14,7 @@ pub enum Verdict {
 }
 
 // Whether a living sender has this key.
-pub fn sender_verdict(t: &[u64], key: LaneKey) -> Verdict
+pub(crate) fn sender_verdict(t: &[u64], key: LaneKey) -> Verdict
     requires { ⌜ Shaped (now t) ⌝ }
     ensures { λ r. ⌜ r ≡ senderVerdict (now (t .entry)) key ⌝ }
 {
@@ -38,7 +38,7 @@ pub fn sender_verdict(t: &[u64], key: LaneKey) -> Verdict
 }
 
 // Whether the lane and the receiver are open to a send.
-pub fn closed_verdict(t: &[u64], l: Lane) -> Verdict
+fn closed_verdict(t: &[u64], l: Lane) -> Verdict
     requires { ⌜ Shaped (now t) ⌝ }
     ensures { λ r. ⌜ r ≡ closedVerdict (now (t .entry)) l ⌝ }
 {
@@ -56,7 +56,7 @@ pub fn closed_verdict(t: &[u64], l: Lane) -> Verdict
 }
 
 // Whether the receiver is open.
-pub fn receiver_verdict(t: &[u64]) -> Verdict
+pub(crate) fn receiver_verdict(t: &[u64]) -> Verdict
     requires { ⌜ Shaped (now t) ⌝ }
     ensures { λ r. ⌜ r ≡ receiverVerdict (now (t .entry)) ⌝ }
 {
@@ -69,7 +69,7 @@ pub fn receiver_verdict(t: &[u64]) -> Verdict
 }
 
 // Whether there is a lane with this id.
-pub fn lane_verdict(t: &[u64], id: LaneId) -> Verdict
+fn lane_verdict(t: &[u64], id: LaneId) -> Verdict
     requires { ⌜ Shaped (now t) ⌝ }
     ensures { λ r. ⌜ r ≡ laneVerdict (now (t .entry)) id ⌝ }
 {
@@ -99,7 +99,7 @@ pub fn lane_verdict(t: &[u64], id: LaneId) -> Verdict
 }
 
 // Refusals 10 and 12 of a send.
-pub fn send_verdict(t: &[u64], key: LaneKey) -> Verdict
+pub(crate) fn send_verdict(t: &[u64], key: LaneKey) -> Verdict
     requires { ⌜ Shaped (now t) ⌝ }
     ensures { λ r. ⌜ r ≡ sendVerdict (now (t .entry)) key ⌝ }
 {
@@ -110,7 +110,7 @@ pub fn send_verdict(t: &[u64], key: LaneKey) -> Verdict
 }
 
 // Refusals 6 and 13 of a call by lane id.
-pub fn id_verdict(t: &[u64], id: LaneId) -> Verdict
+pub(crate) fn id_verdict(t: &[u64], id: LaneId) -> Verdict
     requires { ⌜ Shaped (now t) ⌝ }
     ensures { λ r. ⌜ r ≡ idVerdict (now (t .entry)) id ⌝ }
 {

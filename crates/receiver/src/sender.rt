@@ -49,7 +49,7 @@ fn with_sender(mut l: Lane, pending: u64, living: u64) -> Lane
 }
 
 // Idle to pending sets the page bit; `l` is the lane before.
-pub fn mark_if_idle(t: &mut [u64], l: Lane)
+pub(crate) fn mark_if_idle(t: &mut [u64], l: Lane)
     requires { ⌜ Shaped (now t) × (l .key .slot < slots (now t)) ⌝ }
     ensures { λ _. ⌜ now (t .exit) ≡ markedIfIdle (now (t .entry)) l ⌝ }
 {
