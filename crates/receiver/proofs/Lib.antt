@@ -14,3 +14,6 @@ pub mod SlotLoops
 pub mod LaneFields
 pub mod TurnLaws
 pub mod FrontLaws
+pub mod CollectKeeps
+pub mod ReceiveLaws
+pub mod DrainedLaws
