@@ -44,12 +44,12 @@ use Rattle.receiver.proofs.TurnLaws.{slot-below, some-lane, not-free, f
 -- ---- retiring a lane that is in no queue
 
 module _ {t u : List ℕ} {x : ℕ} {l : Lane} {w : List ℕ} {f b n m : ℕ} (k : Turning t) (s : Step t u x l w f b n m) (h : x < issued t) (e : laneAt t x .registered ≡ 1)
-    (at : l .key .slot ≡ x) (others : (y : ℕ) → x ≢ y → count y w ≡ count y (queueOf t)) (gone : count x w ≡ 0) (kept : freeOf u ≡ freeOf t) (lanes : n ≡ laneCount t) where
+    (g : Lane) (at : g .key .slot ≡ x) (others : (y : ℕ) → x ≢ y → count y w ≡ count y (queueOf t)) (gone : count x w ≡ 0) (kept : freeOf u ≡ freeOf t) (lanes : n ≡ laneCount t) where
   abbrev lowered : List ℕ
-  lowered = setHead (putLane u (retired l)) 13 (laneCount u - 1)
+  lowered = setHead (putLane u (retired g)) 13 (laneCount u - 1)
 
-  step-lowered : Step t lowered x (retired l) w f b (laneCount u - 1) m
-  step-lowered = step-lane-count (step-put-lane s (retired l) at h) (laneCount u - 1)
+  step-lowered : Step t lowered x (retired g) w f b (laneCount u - 1) m
+  step-lowered = step-lane-count (step-put-lane s (retired g) at h) (laneCount u - 1)
 
   one-less : laneCount u - 1 + one (flag (laneAt t x .registered)) ≡ laneCount t + 0
   one-less =
@@ -68,17 +68,17 @@ module _ {t u : List ℕ} {x : ℕ} {l : Lane} {w : List ℕ} {f b n m : ℕ} (k
   zero-one : {A : Type 0} → _≡_ {A = ℕ} 0 1 → A
   zero-one z = absurd (omega arith)
 
-  pub turning-retire : Turning (retireLane u l)
+  pub turning-retire : Turning (retireLane u g)
   unfolding retireLane
   turning-retire =
-      freed-unless-last-is lowered l Turning
+      freed-unless-last-is lowered g Turning
       (turning-step k step-lowered h (λ z. zero-one z) others (omega (arith, gone)) (λ z. absurd (omega (arith, gone))) (λ z. zero-one z)
       (λ y d. ap (count y) free-lowered) (rw free-lowered (k .free-once x)) (λ z i. zero-one i) one-less)
-      (turning-step k (step-freed step-lowered (l .key .slot) room-lowered) h (λ z. zero-one z) others (omega (arith, gone)) (λ z. absurd (omega (arith, gone))) (λ z. zero-one z)
+      (turning-step k (step-freed step-lowered (g .key .slot) room-lowered) h (λ z. zero-one z) others (omega (arith, gone)) (λ z. absurd (omega (arith, gone))) (λ z. zero-one z)
       (λ y d. ap (count y) free-more ∙ first-other x y (freeOf t) d) (omega (arith, ap (count x) free-more, first-own x (freeOf t), not-free t k x h e)) (λ z i. zero-one i) one-less)
     where
-      free-more : freeOf (freed lowered (l .key .slot)) ≡ x ∷ freeOf t
-      free-more = free-freed lowered (step-lowered .shaped) (l .key .slot) room-lowered ∙ ap₂ _∷_ at free-lowered
+      free-more : freeOf (freed lowered (g .key .slot)) ≡ x ∷ freeOf t
+      free-more = free-freed lowered (step-lowered .shaped) (g .key .slot) room-lowered ∙ ap₂ _∷_ at free-lowered
 
 -- ---- a turn
 
@@ -123,7 +123,7 @@ module _ (t : List ℕ) (k : Turning t) (some : queueCount t ≡ 0 → ⊥) wher
     unfolding leftFront retiredIf
     turning-left =
         cond-holds Turning (found .disconnected) (retireLane (poppedFront (putLane t l)) l) (poppedFront (putLane t l))
-        (λ d. turning-retire k step-left (front-issued t k some) (front-registered t k some) left-slot rest-others (front-alone t k some) free-left refl) (λ d. turning-settled)
+        (λ d. turning-retire k step-left (front-issued t k some) (front-registered t k some) l left-slot rest-others (front-alone t k some) free-left refl) (λ d. turning-settled)
 
   -- the front lane, with an item less
   module _ (rotate : Bool) (l : Lane) (e : flagged l ≡ flagged (laneAt t x)) (o : InOrder (capacity t) l) where

@@ -35,3 +35,6 @@ pub mod LaneView
 pub mod LaneFields
 pub mod TurnLaws
 pub mod FrontLaws
+pub mod CollectKeeps
+pub mod ReceiveLaws
+pub mod DrainedLaws

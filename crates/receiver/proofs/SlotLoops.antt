@@ -33,17 +33,17 @@ use Rattle.receiver.proofs.EnqueueLaws.{kept-enqueued}
 one-more : (n x : ℕ) → x < n → n - x ≡ suc (n - (x + 1))
 one-more n x h = omega arith
 
-sub-zero : (n : ℕ) → n - 0 ≡ n
+pub sub-zero : (n : ℕ) → n - 0 ≡ n
 sub-zero n = omega arith
 
 none-left : (n x : ℕ) → n ≤ x → n - x ≡ 0
 none-left n x h = omega arith
 
-slots-next : (f : List ℕ → ℕ → List ℕ) (n x : ℕ) (t : List ℕ) → x < n → forSlots f (n - x) x t ≡ forSlots f (n - (x + 1)) (x + 1) (f t x)
+pub slots-next : (f : List ℕ → ℕ → List ℕ) (n x : ℕ) (t : List ℕ) → x < n → forSlots f (n - x) x t ≡ forSlots f (n - (x + 1)) (x + 1) (f t x)
 unfolding forSlots
 slots-next f n x t h = rw (one-more n x h)
 
-slots-end : (f : List ℕ → ℕ → List ℕ) (n x : ℕ) (t : List ℕ) → n ≤ x → forSlots f (n - x) x t ≡ t
+pub slots-end : (f : List ℕ → ℕ → List ℕ) (n x : ℕ) (t : List ℕ) → n ≤ x → forSlots f (n - x) x t ≡ t
 unfolding forSlots
 slots-end f n x t h = rw (none-left n x h)
 

@@ -8,3 +8,5 @@ pub mod Control
 pub mod Batch
 pub mod Opening
 pub mod Turn
+pub mod Drained
+pub mod Receive

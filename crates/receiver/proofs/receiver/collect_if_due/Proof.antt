@@ -1,0 +1,54 @@
+-- `receiver::receiver::collect_if_due` meets its contract.
+-- Assumes nothing.
+use Rattle.receiver.specs.Receive.{collectedIfDue}
+use Rattle.receiver.proofs.CollectKeeps.{collect-keeps}
+use Rattle.receiver.proofs.FrontLaws.{keeps-ringed, turns-keep}
+use Rattle.receiver.proofs.TurnLaws.{slot-below, ring-in, front-issued, front-ordered}
+use Rattle.receiver.proofs.ReceiveLaws.{turning-of, ringed-of, fast-room, window-room, lone-room, else-item, else-nothing, take-fast-unmoved, take-window-unmoved, take-lone-unmoved, unmoved-is, due-keeps, fair-keeps, turns-rest, take-one-rest, take-fair-rest, popped-as, take-fast-is, take-window-is, take-lone-is, fair-as}
+use Rattle.lane.specs.declared.lane.Lane.{Lane}
+use borrow.Author.Tests.{eq-eqb, ne-eqb, lt-ltb, le-ltb}
+use native.Mathlib.Omega.{arith}
+use mathlib.Core.Path.{_≡_, refl, sym, ap, ap₂, _∙_, subst}
+use borrow.Author.Needs.{needs}
+use Rattle.receiver.proofs.receiver.collect_if_due.Statement.{statement}
+use Rattle.receiver.proofs.receiver.collect_if_due.Tie as tie
+
+slice-read-if1 : tie.Need-slice-read-if1
+slice-read-if1 c = search needs
+
+returns : tie.Need-returns
+unfolding collectedIfDue
+returns c = simp (ne-eqb _ _ (c .if1 .taken))
+
+slice-read-if2 : tie.Need-slice-read-if2
+slice-read-if2 c = search needs
+
+returns-2 : tie.Need-returns-2
+unfolding collectedIfDue
+returns-2 c = simp (eq-eqb _ _ (c .before .before .if1 .left), eq-eqb _ _ (c .if2 .taken))
+
+collect-ready-requires : tie.Need-collect-ready-requires
+collect-ready-requires c κs = search needs
+
+slice-write-t : tie.Need-slice-write-t
+slice-write-t c = search needs
+
+same-length : tie.Need-same-length
+same-length c = search needs
+
+returns-3 : tie.Need-returns-3
+unfolding collectedIfDue
+returns-3 c = simp (eq-eqb _ _ (c .before .before .before .before .before .before .if1 .left), ne-eqb _ _ (c .before .before .before .before .if2 .left), c .before .before .collect-ready .ensures)
+
+pub collect-if-due-spec : {M : Type 1} → statement M
+collect-if-due-spec =
+    tie.close
+    (tie.spec
+    slice-read-if1
+    returns
+    slice-read-if2
+    returns-2
+    collect-ready-requires
+    slice-write-t
+    same-length
+    returns-3)
