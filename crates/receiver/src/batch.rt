@@ -1,8 +1,6 @@
 // What is done for every issued slot: `release_consumed` of receiver/batch.rs, `poll_all_lanes` of receiver.rs, and held.
 ghost use mathlib.Core.Path.{_≡_};
-ghost use mathlib.Core.Bool.{_&&_};
-ghost use Prim.Native.Nat.{ℕ, _<_};
-ghost use lib.Dec.{eqb};
+ghost use Prim.Native.Nat.{_<_};
 ghost use Rattle.lane.specs.Order.{Refundable};
 ghost use Rattle.lane.specs.Table.{laneAt};
 ghost use Rattle.ready.specs.Header.{Shaped, slots, issued};
