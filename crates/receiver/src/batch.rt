@@ -28,7 +28,7 @@ fn release_slot(t: &mut [u64], slot: u64)
 }
 
 // Gives back the credit of every lane.
-pub fn release_all(t: &mut [u64])
+pub(crate) fn release_all(t: &mut [u64])
     requires { ⌜ Shaped (now t) × AllRefundable (now t) ⌝ }
     ensures { λ _. ⌜ now (t .exit) ≡ releaseAll (now (t .entry)) ⌝ }
 {
