@@ -1,8 +1,8 @@
 -- Closing a lane does what the rules say, and leaves a store in order.
 -- Assumes nothing.
 use mathlib.Core.Path.{_≡_, refl, sym, ap, _∙_, subst}
-use mathlib.Core.List.{List, [], _∷_}
-use Prim.Native.Nat.{ℕ, _+_, _-_, _≤_, _<_}
+use mathlib.Core.List.{List}
+use Prim.Native.Nat.{ℕ, _-_, _<_}
 use native.Mathlib.Omega.{arith}
 use Rattle.model.specs.declared.LaneId.{LaneId}
 use Rattle.model.specs.declared.Answer.the-variants.{Done}
@@ -16,7 +16,7 @@ use Rattle.model.proofs.Counting.{without-own, without-other}
 use Rattle.lane.specs.declared.lane.Lane.{Lane}
 use Rattle.lane.specs.Table.{laneAt}
 use Rattle.lane.proofs.TableLaws.{slot-of-lane}
-use Rattle.ready.specs.Header.{issued, capacity, slots, budget, fastSlot, freeCount, laneCount, livingCount}
+use Rattle.ready.specs.Header.{issued, slots, budget, fastSlot, freeCount, laneCount, livingCount}
 use Rattle.ready.specs.Queue.{queueOf, removed}
 use Rattle.ready.proofs.QueueLaws.{queue-frames, shaped-removed, head-removed, lane-removed}
 use Rattle.receiver.specs.View.{view}

@@ -2,8 +2,8 @@
 -- Assumes nothing.
 use mathlib.Core.Path.{_≡_, refl, sym, ap, _∙_}
 use mathlib.Core.Bool.{false}
-use mathlib.Core.List.{List, [], _∷_}
-use Prim.Native.Nat.{ℕ, _≤_}
+use mathlib.Core.List.{List}
+use Prim.Native.Nat.{ℕ}
 use native.Mathlib.Omega.{arith}
 use Rattle.model.specs.declared.Answer.the-variants.{Done}
 use Rattle.model.specs.State.{State, registeredLanes, livingSenders}
@@ -12,12 +12,10 @@ use Rattle.model.specs.Outcome.{says}
 use Rattle.model.specs.Control as rules
 use Rattle.lane.specs.Table.{setHead, laneAt}
 use Rattle.lane.proofs.TableLaws.{frames, lane-setHead}
-use Rattle.ready.specs.Header.{Shaped, laneCount, livingCount}
 use Rattle.ready.proofs.QueueLaws.{queue-frames, header-in, shaped-setHead}
 use Rattle.ready.proofs.CollectLaws.{names-by}
 use Rattle.receiver.specs.View.{view}
 use Rattle.receiver.specs.Order.{Stores, StoreInOrder}
-use Rattle.receiver.specs.Words.{Words}
 use Rattle.receiver.specs.Refusal.{receiverVerdict}
 use Rattle.receiver.specs.Control.{closeReceiver}
 use Rattle.receiver.proofs.ViewLaws.{view-alive}

@@ -1,13 +1,12 @@
 -- What a store in order gives the control calls: windows that can be closed, and room in the queue for a paused lane.
 -- Assumes nothing.
-use mathlib.Core.Path.{_≡_, refl, _∙_}
+use mathlib.Core.Path.{_≡_, refl}
 use mathlib.Core.Bool.{Bool, true, false}
 use mathlib.Core.List.{List}
 use Prim.Native.Nat.{ℕ, zero, suc, _≤_, _<_}
 use native.Mathlib.Omega.{arith}
 use Rattle.model.specs.Lists.{count}
 use Rattle.model.proofs.Counting.{no}
-use Rattle.lane.specs.Order.{Refundable}
 use Rattle.lane.specs.Table.{laneAt}
 use Rattle.lane.proofs.OrderLaws.{refundable}
 use Rattle.ready.specs.Header.{issued, capacity, queueCount, slots}

@@ -2,14 +2,13 @@
 -- Assumes nothing.
 use mathlib.Core.Path.{_≡_, refl, sym, ap, ap₂, _∙_}
 use mathlib.Core.Bool.{Bool, true, false, cond}
-use mathlib.Core.List.{List, [], _∷_}
+use mathlib.Core.List.{List, _∷_}
 use Prim.Native.Nat.{ℕ, zero, suc, _+_, _≤_, _<_}
 use native.Mathlib.Omega.{arith}
 use lib.ListN.{length}
-use Rattle.model.specs.declared.Answer.{Answer}
 use Rattle.model.specs.declared.Answer.the-variants.{Held}
 use Rattle.model.specs.Lists.{if, keep, from, total}
-use Rattle.model.specs.State.{Slot, State}
+use Rattle.model.specs.State.{Slot}
 use Rattle.model.specs.Control as rules
 use Rattle.lane.specs.Cursor.{distance}
 use Rattle.lane.specs.Lane.{held}

@@ -2,21 +2,21 @@
 -- Assumes nothing.
 use mathlib.Core.Path.{_≡_, refl, sym, ap, _∙_}
 use mathlib.Core.Bool.{true, false}
-use mathlib.Core.List.{List, [], _∷_, _++_}
+use mathlib.Core.List.{List, [], _∷_}
 use Prim.Native.Nat.{ℕ, _+_}
 use native.Mathlib.Omega.{arith}
 use borrow.Author.Tests.{le-leb}
 use lib.Dec.{ltb, leb, eqb}
 use lib.ListN.{length}
 use Rattle.model.specs.Lists as rules
-use Rattle.model.proofs.Counting.{Same, equal, other, same?, same-self, count-append}
+use Rattle.model.proofs.Counting.{equal, other, same?, same-self, count-append}
 use Rattle.lane.specs.Table.{headerWords, rowWords, head, cellAt, laneAt, putLane}
 use Rattle.lane.proofs.TableLaws.{frames}
-use Rattle.ready.specs.Header.{Shaped, issued}
+use Rattle.ready.specs.Header.{Shaped}
 use Rattle.ready.specs.Queue.{queueOf, QueueNames}
 use Rattle.ready.specs.Ready.{queuedLane, enqueued}
-use Rattle.ready.proofs.QueueLaws.{queue-frames, queue-pushed-back, shaped-pushed-back, shaped-putLane}
-use Rattle.ready.proofs.OfferLaws.{Wants, wants-room}
+use Rattle.ready.proofs.QueueLaws.{queue-frames, shaped-pushed-back, shaped-putLane}
+use Rattle.ready.proofs.OfferLaws.{Wants, wants-room, other-enqueued, queue-enqueued}
 use Rattle.ready.proofs.CollectLaws.{Kept}
 
 module _ (t : List ℕ) (x : ℕ) where
@@ -32,10 +32,6 @@ module _ (t : List ℕ) (x : ℕ) where
   unfolding enqueued
   own-enqueued r = simp (queue-frames, frames, r)
 
-  other-enqueued : (y : ℕ) → eqb y x ≡ false → laneAt (enqueued t x) y ≡ laneAt t y
-  unfolding enqueued
-  other-enqueued y n = simp (queue-frames, frames, n)
-
 module _ (t : List ℕ) (x : ℕ) (s : Shaped t) (q : QueueNames t) (w : Wants t x) where
   row-of : leb (cellAt rowWords x) (length t) ≡ true
   row-of = le-leb (cellAt rowWords x) (length t) (omega (arith, s .issued-most, s .room, w .is-issued))
@@ -44,23 +40,12 @@ module _ (t : List ℕ) (x : ℕ) (s : Shaped t) (q : QueueNames t) (w : Wants t
   unfolding enqueued
   shaped-enqueued = shaped-pushed-back (putLane t (queuedLane (laneAt t x))) (shaped-putLane t s _) x (simp frames (wants-room t x s q w))
 
-  pub queue-enqueued : queueOf (enqueued t x) ≡ queueOf t ++ (x ∷ [])
-  unfolding enqueued
-  queue-enqueued =
-      queue-pushed-back (putLane t (queuedLane (laneAt t x))) (shaped-putLane t s _) x (simp frames (wants-room t x s q w)) ∙ simp queue-frames
-
-  pub lane-enqueued : (y : ℕ) → queuedLane (laneAt (enqueued t x) y) ≡ queuedLane (laneAt t y)
-  lane-enqueued y = elim (same? y x) [
-    | equal e p i ↦ rw e (ap queuedLane (own-enqueued t x row-of))
-    | other d p i ↦ ap queuedLane (other-enqueued t x y p)
-  ]
-
   none-before : rules.count x (queueOf t) ≡ 0
   none-before = sym (q .flagged x (w .is-issued) (w .registered)) ∙ w .unqueued
 
   count-enqueued : (y : ℕ) → rules.count y (queueOf (enqueued t x)) ≡ rules.count y (queueOf t) + rules.same y x
   unfolding rules.count
-  count-enqueued y = ap (rules.count y) queue-enqueued ∙ count-append y (queueOf t) (x ∷ []) ∙ omega arith
+  count-enqueued y = ap (rules.count y) (queue-enqueued t x s q w) ∙ count-append y (queueOf t) (x ∷ []) ∙ omega arith
 
   names-enqueued : QueueNames (enqueued t x)
   names-enqueued =

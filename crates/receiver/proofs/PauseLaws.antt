@@ -1,13 +1,12 @@
 -- Pausing a lane does what the rules say, and leaves a store in order.
 -- Assumes nothing.
-use mathlib.Core.Path.{_≡_, refl, sym, ap, ap₂, _∙_, subst}
-use mathlib.Core.Bool.{Bool, true, false}
-use mathlib.Core.List.{List, [], _∷_}
-use Prim.Native.Nat.{ℕ, _+_, _-_, _≤_, _<_}
+use mathlib.Core.Path.{_≡_, refl, sym, ap, _∙_, subst}
+use mathlib.Core.Bool.{true}
+use mathlib.Core.List.{List}
+use Prim.Native.Nat.{ℕ, _-_, _<_}
 use native.Mathlib.Omega.{arith}
 use Rattle.model.specs.declared.LaneId.{LaneId}
 use Rattle.model.specs.declared.Answer.the-variants.{Done}
-use Rattle.model.specs.Lists.{if, count}
 use Rattle.model.specs.Lists as lists
 use Rattle.model.specs.State.{Slot, State}
 use Rattle.model.specs.Changes.{withQueue, put, withFlags, withSignal, withRing, withPaused, credited}
@@ -20,7 +19,7 @@ use Rattle.lane.specs.Table.{laneAt, putLane}
 use Rattle.lane.proofs.OrderLaws.{release-pending-keeps}
 use Rattle.lane.proofs.TableLaws.{slot-of-lane}
 use Rattle.lane.specs.Lane.{releasePending}
-use Rattle.ready.specs.Header.{issued, capacity, slots, budget, fastSlot, laneCount, livingCount}
+use Rattle.ready.specs.Header.{issued, capacity, budget, fastSlot, laneCount, livingCount}
 use Rattle.ready.specs.Queue.{queueOf, removed}
 use Rattle.ready.proofs.QueueLaws.{shaped-putLane}
 use Rattle.receiver.specs.View.{flag, slotAt, view}

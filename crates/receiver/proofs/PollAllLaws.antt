@@ -1,14 +1,12 @@
 -- Poll all lanes does what the rules say, and leaves a store in order: slot by slot, then all of them.
 -- Assumes nothing.
-use mathlib.Core.Path.{_≡_, refl, sym, ap, ap₂, _∙_, subst}
-use mathlib.Core.Logic.{_≢_}
-use mathlib.Core.Bool.{Bool, true, false, cond, not, _&&_}
+use mathlib.Core.Path.{_≡_, refl, sym, ap, _∙_}
+use mathlib.Core.Bool.{Bool, true, false, not, _&&_}
 use mathlib.Core.List.{List, [], _∷_, _++_, append-assoc, append-nil}
-use Prim.Native.Nat.{ℕ, zero, suc, _+_, _-_, _≤_, _<_}
+use Prim.Native.Nat.{ℕ, zero, suc, _+_, _≤_, _<_}
 use native.Mathlib.Omega.{arith}
 use borrow.Author.Tests.{eqb-true, ne-eqb, le-leb}
 use lib.Dec.{eqb, leb}
-use lib.ListN.{length}
 use Rattle.model.specs.declared.Answer.the-variants.{Done}
 use Rattle.model.specs.Lists.{if, both, count, keep, from}
 use Rattle.model.specs.State as states
@@ -17,15 +15,15 @@ use Rattle.model.specs.Changes.{withQueue}
 use Rattle.model.specs.Outcome.{says}
 use Rattle.model.specs.Control as rules
 use Rattle.lane.specs.declared.lane.Lane.{Lane}
-use Rattle.lane.specs.Table.{laneAt, putLane}
-use Rattle.lane.proofs.TableLaws.{frames, slot-of-lane}
-use Rattle.ready.specs.Header.{issued, capacity, slots, budget, fastSlot, laneCount, livingCount, queueCount}
-use Rattle.ready.specs.Queue.{queueOf, QueueNames}
+use Rattle.lane.specs.Table.{laneAt}
+use Rattle.lane.proofs.TableLaws.{slot-of-lane}
+use Rattle.ready.specs.Header.{issued, slots, budget, fastSlot, laneCount, livingCount, queueCount}
+use Rattle.ready.specs.Queue.{queueOf}
 use Rattle.ready.specs.Ready.{queuedLane, enqueued}
 use Rattle.ready.proofs.QueueLaws.{length-queue}
 use Rattle.ready.proofs.OfferLaws.{Wants, wants-room, other-enqueued}
 use Rattle.receiver.specs.View.{flag, slotAt, view}
-use Rattle.receiver.specs.Order.{Flags, Stores, StoreInOrder}
+use Rattle.receiver.specs.Order.{Stores, StoreInOrder}
 use Rattle.receiver.specs.Refusal.{receiverVerdict}
 use Rattle.receiver.specs.Batch.{forSlots, mayQueue, pollSlot, pollAll, pollAllLanes}
 use Rattle.receiver.proofs.ViewLaws.{slot-in, view-enqueued}

@@ -1,38 +1,35 @@
 -- Release consumed does what the rules say, and leaves a store in order: slot by slot, then all of them.
 -- Assumes nothing.
-use mathlib.Core.Path.{_≡_, refl, sym, ap, ap₂, _∙_, subst}
+use mathlib.Core.Path.{_≡_, refl, sym, ap, _∙_, subst}
 use mathlib.Core.Logic.{_≢_}
 use mathlib.Core.Bool.{Bool, true, false}
-use mathlib.Core.List.{List, [], _∷_}
-use Prim.Native.Nat.{ℕ, zero, suc, _+_, _-_, _≤_, _<_}
+use mathlib.Core.List.{List}
+use Prim.Native.Nat.{ℕ, zero, suc, _+_, _≤_, _<_}
 use native.Mathlib.Omega.{arith}
-use borrow.Author.Tests.{eqb-true, eqb-false, ne-eqb, ltb-false, ltb-true}
-use lib.Dec.{eqb, ltb}
+use borrow.Author.Tests.{ne-eqb, ltb-false, ltb-true}
+use lib.Dec.{ltb}
 use Rattle.model.specs.declared.Answer.the-variants.{Done}
-use Rattle.model.specs.Lists.{if, count}
 use Rattle.model.specs.State.{Slot, State, vacant}
-use Rattle.model.specs.Changes.{withSlots, put, withRing, credited}
+use Rattle.model.specs.Changes.{withSlots, put, credited}
 use Rattle.model.specs.Outcome.{says}
 use Rattle.model.specs.Receive as receives
 use Rattle.model.specs.Control as rules
-use Rattle.model.proofs.Counting.{Same, equal, other, same?}
+use Rattle.model.proofs.Counting.{equal, other, same?}
 use Rattle.model.proofs.Words.{state-path}
 use Rattle.lane.specs.declared.lane.Lane.{Lane}
-use Rattle.lane.specs.Order.{InOrder}
 use Rattle.lane.specs.Lane.{releasePending}
 use Rattle.lane.specs.Table.{laneAt, putLane}
 use Rattle.lane.proofs.OrderLaws.{release-pending-keeps}
-use Rattle.lane.proofs.TableLaws.{slot-of-lane}
 use Rattle.ready.specs.Header.{issued, capacity, budget, fastSlot, laneCount, livingCount}
 use Rattle.ready.specs.Queue.{queueOf}
 use Rattle.receiver.specs.View.{flag, slotAt, view}
-use Rattle.receiver.specs.Order.{Flags, Stores, StoreInOrder}
+use Rattle.receiver.specs.Order.{Stores, StoreInOrder}
 use Rattle.receiver.specs.Refusal.{receiverVerdict}
 use Rattle.receiver.specs.Batch.{forSlots, releaseSlot, releaseAll, releaseConsumed}
 use Rattle.receiver.proofs.ViewLaws.{slot-in, slot-out, view-put-counts, put-same, put-own}
 use Rattle.receiver.proofs.RefusalLaws.{seen, receiver-verdict, refused-alike, unless-refused-case}
-use Rattle.receiver.proofs.StepLaws.{Step, step-start, step-put-lane}
-use Rattle.receiver.proofs.StoreLaws.{Owes, stores-after, windows-kept}
+use Rattle.receiver.proofs.StepLaws.{step-start, step-put-lane}
+use Rattle.receiver.proofs.StoreLaws.{stores-after, windows-kept}
 use Rattle.receiver.proofs.CreditLaws.{GivesBack, gives-back, given-back, nothing-back}
 use Rattle.receiver.proofs.SlotLoops.{release-slot-is, slot-released, head-release-slot}
 

@@ -1,30 +1,25 @@
 -- Resuming a lane does what the rules say, and leaves a store in order.
 -- Assumes nothing.
-use mathlib.Core.Path.{_≡_, refl, sym, ap, ap₂, _∙_, subst}
-use mathlib.Core.Logic.{_≢_}
+use mathlib.Core.Path.{_≡_, refl, sym, ap, _∙_, subst}
 use mathlib.Core.Bool.{Bool, true, false, not}
 use mathlib.Core.List.{List, [], _∷_, _++_}
-use Prim.Native.Nat.{ℕ, suc, _+_, _-_, _≤_, _<_}
+use Prim.Native.Nat.{ℕ, suc, _<_}
 use native.Mathlib.Omega.{arith}
 use borrow.Author.Tests.{eqb-true, eqb-false}
-use lib.Dec.{eqb}
-use lib.ListN.{length}
 use Rattle.model.specs.declared.LaneId.{LaneId}
 use Rattle.model.specs.declared.Answer.the-variants.{Done}
-use Rattle.model.specs.Lists.{count}
 use Rattle.model.specs.State.{Slot, State}
 use Rattle.model.specs.Changes.{withQueue, put, withFlags, withSignal, withPaused, signalled}
 use Rattle.model.specs.Outcome.{says}
 use Rattle.model.specs.Control as rules
 use Rattle.lane.specs.declared.lane.Lane.{Lane}
-use Rattle.lane.specs.Order.{InOrder}
 use Rattle.lane.specs.Table.{laneAt, putLane}
 use Rattle.lane.proofs.TableLaws.{frames, slot-of-lane}
-use Rattle.ready.specs.Header.{Shaped, issued, capacity, slots, budget, fastSlot, laneCount, livingCount, queueCount}
+use Rattle.ready.specs.Header.{Shaped, issued, slots, budget, fastSlot, laneCount, livingCount, queueCount}
 use Rattle.ready.specs.Queue.{queueOf, pushedBack}
 use Rattle.ready.proofs.QueueLaws.{shaped-putLane, length-queue}
 use Rattle.receiver.specs.View.{flag, slotAt, view}
-use Rattle.receiver.specs.Order.{Flags, Stores, StoreInOrder}
+use Rattle.receiver.specs.Order.{Stores, StoreInOrder}
 use Rattle.receiver.specs.Refusal.{idVerdict}
 use Rattle.receiver.specs.Sender.{markedIfIdle}
 use Rattle.receiver.specs.Control.{withTurn, resumed, resume}

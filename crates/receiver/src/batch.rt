@@ -1,8 +1,6 @@
 // What is done for every issued slot: `release_consumed` of receiver/batch.rs, `poll_all_lanes` of receiver.rs, and held.
 ghost use mathlib.Core.Path.{_≡_};
-ghost use mathlib.Core.Bool.{_&&_};
-ghost use Prim.Native.Nat.{ℕ, _<_};
-ghost use lib.Dec.{eqb};
+ghost use Prim.Native.Nat.{_<_};
 ghost use Rattle.lane.specs.Order.{Refundable};
 ghost use Rattle.lane.specs.Table.{laneAt};
 ghost use Rattle.ready.specs.Header.{Shaped, slots, issued};
@@ -30,7 +28,7 @@ fn release_slot(t: &mut [u64], slot: u64)
 }
 
 // Gives back the credit of every lane.
-pub fn release_all(t: &mut [u64])
+pub(crate) fn release_all(t: &mut [u64])
     requires { ⌜ Shaped (now t) × AllRefundable (now t) ⌝ }
     ensures { λ _. ⌜ now (t .exit) ≡ releaseAll (now (t .entry)) ⌝ }
 {

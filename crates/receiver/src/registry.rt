@@ -26,7 +26,7 @@ fn free_unless_last(t: &mut [u64], l: Lane)
     registry::free(t, l.key.slot);
 }
 
-pub fn retire_lane(t: &mut [u64], l: Lane)
+pub(crate) fn retire_lane(t: &mut [u64], l: Lane)
     requires { ⌜ Shaped (now t) × (l .key .slot < slots (now t)) × (freeCount (now t) < slots (now t)) × (0 < laneCount (now t)) ⌝ }
     ensures { λ _. ⌜ now (t .exit) ≡ retireLane (now (t .entry)) l ⌝ }
 {

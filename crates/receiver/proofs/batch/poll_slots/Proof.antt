@@ -2,7 +2,6 @@
 -- Assumes nothing.
 use Rattle.receiver.proofs.SlotLoops.{Polling, polling-start, polling-next, polling-end}
 use Prim.Native.Nat.{_-_}
-use native.Mathlib.Omega.{arith}
 use borrow.Author.Needs.{needs}
 use Rattle.receiver.proofs.batch.poll_slots.Statement.{statement}
 use Rattle.receiver.proofs.batch.poll_slots.Tie as tie

@@ -5,7 +5,7 @@ use Rattle.receiver.proofs.SignalFrames.{shaped-marked-if-idle, head-ma
 use Rattle.receiver.specs.Control.{resumed}
 use Rattle.ready.proofs.QueueLaws.{shaped-putLane}
 use Rattle.lane.proofs.TableLaws.{frames}
-use borrow.Author.Tests.{eq-eqb, ne-eqb}
+use borrow.Author.Tests.{ne-eqb}
 use native.Mathlib.Omega.{arith}
 use borrow.Author.Needs.{needs}
 use Rattle.receiver.proofs.lane_control.resume_lane.Statement.{statement}
