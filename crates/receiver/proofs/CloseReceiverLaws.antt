@@ -13,7 +13,7 @@ use Rattle.model.specs.Control as rules
 use Rattle.lane.specs.Table.{setHead, laneAt}
 use Rattle.lane.proofs.TableLaws.{frames, lane-setHead}
 use Rattle.ready.proofs.QueueLaws.{queue-frames, header-in, shaped-setHead}
-use Rattle.ready.proofs.CollectLaws.{names-by}
+use Rattle.ready.proofs.NamesLaws.{names-same}
 use Rattle.receiver.specs.View.{view}
 use Rattle.receiver.specs.Order.{Stores, StoreInOrder}
 use Rattle.receiver.specs.Refusal.{receiverVerdict}
@@ -49,7 +49,7 @@ stores-closed t r o =
       first-cursor = simp frames (o .first-cursor);
       flags = λ x h. rw (same x) (o .flags x (simp frames at h));
       lanes = λ x h g. rw (same x) (simp frames (o .lanes x (simp frames at h) (rw (same x) at g)));
-      named = names-by t (setHead t 7 0) (simp queue-frames) (simp frames) same (o .named);
+      named = names-same t (setHead t 7 0) (o .named) (simp frames) same (λ y. simp queue-frames);
       linked = linked-by t (setHead t 7 0) (simp frames) (λ p. simp frames) (λ g. simp frames) (o .linked);
       mark-words = mark-words-by t (setHead t 7 0) (simp frames) (λ p. simp frames) (λ g. simp frames) (o .mark-words);
       windows = λ x h g w. rw (same x) (simp (frames, queue-frames) (o .windows x (simp frames at h) (rw (same x) at g) (rw (same x) at w)));

@@ -23,8 +23,7 @@ use Rattle.ready.specs.Bits.{bitsFrom}
 use Rattle.ready.specs.Ready.{pageColumn, groupColumn, pageWord, groupWord, Linked, queuedLane, enqueued, offered, collectedPage, collectedGroup, groupsOf, groupAt, collectedFrom, collectReady}
 use Rattle.ready.proofs.QueueLaws.{queue-frames}
 use Rattle.ready.proofs.OfferLaws.{Wants, wants, Rest, rest-offered, offered-case, queue-enqueued}
-use Rattle.ready.proofs.CollectLaws.{Kept, kept-self, kept-then, kept-setCell, kept-offered, kept-page, kept-group, linked-group}
-use Rattle.ready.proofs.Round.{kept-cursor, linked-cursor}
+use Rattle.ready.proofs.CollectLaws.{Kept, kept-self, kept-then, kept-setCell, kept-offered, kept-page, kept-group, linked-group, kept-cursor, linked-cursor}
 use Rattle.receiver.specs.Turn.{Turning}
 use Rattle.receiver.proofs.TurnLaws.{turning-by}
 use Rattle.receiver.proofs.FrontLaws.{Keeps}
@@ -76,7 +75,7 @@ kin-offered t x s q =
       frees = λ row. k .cells freeColumn row refl refl refl;
       lanes = k .lanes;
       named = λ n y h. ap (λ (l : Lane). l .registered) (k .lanes y) ∙ offered-case (λ u. 1 ≤ count y (queueOf u) → laneAt t y .registered ≡ 1) t x
-        (λ e h. new n y (wants t x e) h) (λ e h. n y h) h;
+          (λ e h. new n y (wants t x e) h) (λ e h. n y h) h;
     }
   where
     new : Named t → (y : ℕ) → Wants t x → 1 ≤ count y (queueOf (enqueued t x)) → laneAt t y .registered ≡ 1
@@ -169,7 +168,7 @@ collect-keeps all t k =
     let i = o .kin in
     record {
       turning = turning-by t u k (o .kept .same-issued) (λ y. ap (λ (l : Lane). l .registered) (i .lanes y)) (o .kept .shaped) (o .kept .names) (o .linked)
-        (i .heads 8 refl refl refl) (free-kin t u i) (i .heads 13 refl refl refl) (λ y e s. order-alike (capacity t) (laneAt t y) (laneAt u y) (i .lanes y) s) (i .named (k .queued-registered));
+          (i .heads 8 refl refl refl) (free-kin t u i) (i .heads 13 refl refl refl) (λ y e s. order-alike (capacity t) (laneAt t y) (laneAt u y) (i .lanes y) s) (i .named (k .queued-registered));
       long = o .kept .long;
       same-slots = i .heads 4 refl refl refl;
       same-capacity = i .heads 8 refl refl refl;

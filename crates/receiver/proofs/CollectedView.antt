@@ -35,10 +35,9 @@ use Rattle.ready.specs.Ready.{pageColumn, groupColumn, pageWord, groupWord, pag
 use Rattle.ready.proofs.BitLaws.{bits-next, bits-zero, bit-zero, tz-lt, tz-set}
 use Rattle.ready.proofs.QueueLaws.{queue-frames, header-in}
 use Rattle.ready.proofs.OfferLaws.{Wants, wants, offered-case, shaped-offered, names-offered, other-enqueued}
-use Rattle.ready.proofs.CollectLaws.{kept-setCell, kept-page, kept-group, rest-page, group-taken, other-group-left, other-pages-left, pages-taken, linked-group}
+use Rattle.ready.proofs.CollectLaws.{kept-setCell, kept-page, kept-group, rest-page, group-taken, other-group-left, other-pages-left, pages-taken, linked-group, kept-cursor, linked-cursor}
 use Rattle.ready.proofs.CollectedQueue.{slotsOfPage, slotsOfPages}
 use Rattle.ready.proofs.CollectedMarks.{SameMarks, group-marks, queue-collected}
-use Rattle.ready.proofs.Round.{kept-cursor, linked-cursor}
 use Rattle.receiver.specs.View.{flag, slotOf, slotAt, view}
 use Rattle.receiver.specs.Order.{MarkWords, Stores}
 use Rattle.receiver.proofs.ViewLaws.{slot-in, slot-out, row-in}

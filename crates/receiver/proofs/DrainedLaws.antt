@@ -60,7 +60,7 @@ module _ (t : List ℕ) (k : Idle t) (x : ℕ) (h : x < issued t) where
         record {
           idle = record {
             turning = turning-retire (k .turning) (step-start t (k .turning .shaped) (k .turning .linked) x) h e (reloadIsEmpty (laneAt t x) .lane) looked-slot (λ y d. refl)
-              (none-named (queueOf t) x (length-queue t ∙ k .none-queued)) refl refl;
+                (none-named (queueOf t) x (length-queue t ∙ k .none-queued)) refl refl;
             none-queued = head-retired t (reloadIsEmpty (laneAt t x) .lane) 2 refl refl refl ∙ k .none-queued;
           };
           same-issued = head-retired t (reloadIsEmpty (laneAt t x) .lane) 0 refl refl refl;

@@ -62,13 +62,13 @@ module _ (t r : List ℕ) (o : StoreInOrder t r) where
         linked = o .stores .linked;
         lanes = o .stores .lanes;
         queued-registered = λ x n.
-          eqb-true _ 1 (sym (seen-registered x (o .stores .named .issued-only x n)) ∙ o .ordered .each-slot x .queued-registered n);
+            eqb-true _ 1 (sym (seen-registered x (o .stores .named .issued-only x n)) ∙ o .ordered .each-slot x .queued-registered n);
         free-once = λ x. o .ordered .each-slot x .free-once;
         free-issued = λ x n. free-slot t r o x n .is-issued;
         free-unregistered = λ x n e. free-slot t r o x n .unregistered e;
         counted =
-          o .stores .lanes-counted
-          ∙ passing-same (λ x. view t r .slotOf x .registered) (λ x. flag (laneAt t x .registered)) 0 (issued t) (λ x a b. seen-registered x (omega arith));
+            o .stores .lanes-counted
+            ∙ passing-same (λ x. view t r .slotOf x .registered) (λ x. flag (laneAt t x .registered)) 0 (issued t) (λ x a b. seen-registered x (omega arith));
       }
 
   pub ringed-of : Ringed t r
@@ -112,9 +112,11 @@ module _ (t r : List ℕ) (k : Turning t) (some : queueCount t ≡ 0 → ⊥) wh
 
   pub window-room : (l : Lane) → l ≡ grantFast (capacity t) (budget t) (frontLane t) → (p : Popped) → p ≡ popFast (ringOf (frontSlot t) (capacity t)) r l
       → Shaped t × (poppedLane p .key .slot < slots t) × Affords t p
-  window-room l a p e =
-      (k .shaped, rw (pop-slot (ringOf (frontSlot t) (capacity t)) r l p (sym e) ∙ ap (λ (m : Lane). m .key .slot) a ∙ granted-slot) (slot-below t k (frontSlot t) (front-issued t k some)),
-      go p (sym e))
+  window-room l a p e = (
+    k .shaped,
+    rw (pop-slot (ringOf (frontSlot t) (capacity t)) r l p (sym e) ∙ ap (λ (m : Lane). m .key .slot) a ∙ granted-slot) (slot-below t k (frontSlot t) (front-issued t k some)),
+    go p (sym e),
+  )
     where
       go : (p : Popped) → popFast (ringOf (frontSlot t) (capacity t)) r l ≡ p → Affords t p
       go (Popped.Item item m) f =

@@ -25,7 +25,7 @@ use Rattle.ready.specs.Registry.{freeOf, freed}
 use Rattle.ready.specs.Ready.{Linked}
 use Rattle.ready.proofs.Pigeonhole.{pigeonhole-less}
 use Rattle.ready.proofs.QueueLaws.{queue-frames, queue-front, shaped-setHead}
-use Rattle.ready.proofs.CollectLaws.{names-by}
+use Rattle.ready.proofs.NamesLaws.{names-same}
 use Rattle.ready.proofs.RegistryLaws.{registry-frames, length-free}
 use Rattle.receiver.specs.View.{flag}
 use Rattle.receiver.specs.Turn.{registeredIn, Turning, Ringed, budgetMet}
@@ -189,14 +189,14 @@ module _ (t : List ℕ) (k : Turning t) (v : ℕ) where
   pub turning-budget : Turning (setHead t 5 v)
   turning-budget =
       turning-by t (setHead t 5 v) k (simp frames) (λ y. simp frames) (shaped-setHead t (k .shaped) 5 v refl refl refl refl refl refl)
-      (names-by t (setHead t 5 v) (simp queue-frames) (simp frames) (λ y. simp frames) (k .names))
+      (names-same t (setHead t 5 v) (k .names) (simp frames) (λ y. simp frames) (λ y. simp queue-frames))
       (linked-by t (setHead t 5 v) (simp frames) (λ y. simp frames) (λ y. simp frames) (k .linked)) (simp frames) (simp registry-frames) (simp frames)
       (λ y e o. simp frames o) (simp (frames, queue-frames) (k .queued-registered))
 
   pub turning-fast : Turning (setHead t 12 v)
   turning-fast =
       turning-by t (setHead t 12 v) k (simp frames) (λ y. simp frames) (shaped-setHead t (k .shaped) 12 v refl refl refl refl refl refl)
-      (names-by t (setHead t 12 v) (simp queue-frames) (simp frames) (λ y. simp frames) (k .names))
+      (names-same t (setHead t 12 v) (k .names) (simp frames) (λ y. simp frames) (λ y. simp queue-frames))
       (linked-by t (setHead t 12 v) (simp frames) (λ y. simp frames) (λ y. simp frames) (k .linked)) (simp frames) (simp registry-frames) (simp frames)
       (λ y e o. simp frames o) (simp (frames, queue-frames) (k .queued-registered))
 
