@@ -22,7 +22,7 @@ use Rattle.receiver.specs.Registry.{retireLane}
 use Rattle.receiver.specs.Batch.{forSlots}
 use Rattle.receiver.specs.Turn.{Turning, retiredIf}
 use Rattle.receiver.specs.Drained.{Idle, retireEmptyPaused, retireEmptyPausedLanes}
-use Rattle.receiver.proofs.StepLaws.{step-start}
+use Rattle.receiver.proofs.StepLaws.{step-from}
 use Rattle.receiver.proofs.RetireFrames.{length-retire-lane}
 use Rattle.receiver.proofs.SlotLoops.{sub-zero, slots-next, slots-end}
 use Rattle.receiver.proofs.LaneFields.{Flagged, flagged, flagged-looked}
@@ -59,7 +59,7 @@ module _ (t : List ℕ) (k : Idle t) (x : ℕ) (h : x < issued t) where
     still-retired =
         record {
           idle = record {
-            turning = turning-retire (k .turning) (step-start t (k .turning .shaped) (k .turning .linked) x) h e (reloadIsEmpty (laneAt t x) .lane) looked-slot (λ y d. refl)
+            turning = turning-retire (k .turning) (step-from t (k .turning .shaped) (k .turning .linked) x) h e (reloadIsEmpty (laneAt t x) .lane) looked-slot (λ y d. refl)
                 (none-named (queueOf t) x (length-queue t ∙ k .none-queued)) refl refl;
             none-queued = head-retired t (reloadIsEmpty (laneAt t x) .lane) 2 refl refl refl ∙ k .none-queued;
           };
