@@ -1,19 +1,18 @@
 -- Collecting keeps what the turns ask of a table.
 -- Assumes nothing.
 use mathlib.Core.Path.{_≡_, refl, sym, ap, ap₂, _∙_, subst, fun-ext}
-use mathlib.Core.Bool.{Bool, true, false, cond}
-use mathlib.Core.List.{List, [], _∷_, _++_, foldl}
-use Prim.Native.Nat.{ℕ, zero, suc, _+_, _-_, _*_, _/_, _≤_, _<_}
+use mathlib.Core.Bool.{Bool, true, false}
+use mathlib.Core.List.{List, [], _∷_, foldl}
+use Prim.Native.Nat.{ℕ, zero, suc, _+_, _-_, _*_, _≤_, _<_}
 use native.Mathlib.Omega.{arith}
-use borrow.Author.Tests.{eqb-false, ltb-true, ltb-false}
+use borrow.Author.Tests.{ltb-true}
 use lib.Dec.{eqb, ltb, leb}
-use lib.ListN.{length}
 use Rattle.model.specs.Lists.{count}
-use Rattle.model.proofs.Counting.{Same, equal, other, same?, count-append}
+use Rattle.model.proofs.Counting.{equal, other, same?, count-append}
 use Rattle.lane.specs.declared.lane.Lane.{Lane}
 use Rattle.lane.specs.Lists.{tab}
 use Rattle.lane.specs.Order.{InOrder}
-use Rattle.lane.specs.Table.{headerWords, rowWords, laneWords, head, cell, setCell, setHead, laneAt}
+use Rattle.lane.specs.Table.{headerWords, rowWords, laneWords, head, cell, setCell, laneAt}
 use Rattle.lane.proofs.OrderLaws.{cond-holds}
 use Rattle.lane.proofs.TableLaws.{frames}
 use Rattle.ready.specs.Header.{Shaped, issued, groupCursor, freeCount, capacity, setGroupCursor}
@@ -22,7 +21,7 @@ use Rattle.ready.specs.Registry.{freeColumn, freeOf}
 use Rattle.ready.specs.Bits.{bitsFrom}
 use Rattle.ready.specs.Ready.{pageColumn, groupColumn, pageWord, groupWord, Linked, queuedLane, enqueued, offered, collectedPage, collectedGroup, groupsOf, groupAt, collectedFrom, collectReady}
 use Rattle.ready.proofs.QueueLaws.{queue-frames}
-use Rattle.ready.proofs.OfferLaws.{Wants, wants, Rest, rest-offered, offered-case, queue-enqueued}
+use Rattle.ready.proofs.OfferLaws.{Wants, wants, rest-offered, offered-case, queue-enqueued}
 use Rattle.ready.proofs.CollectLaws.{Kept, kept-self, kept-then, kept-setCell, kept-offered, kept-page, kept-group, linked-group}
 use Rattle.ready.proofs.Round.{kept-cursor, linked-cursor}
 use Rattle.receiver.specs.Turn.{Turning}
@@ -76,7 +75,7 @@ kin-offered t x s q =
       frees = λ row. k .cells freeColumn row refl refl refl;
       lanes = k .lanes;
       named = λ n y h. ap (λ (l : Lane). l .registered) (k .lanes y) ∙ offered-case (λ u. 1 ≤ count y (queueOf u) → laneAt t y .registered ≡ 1) t x
-        (λ e h. new n y (wants t x e) h) (λ e h. n y h) h;
+          (λ e h. new n y (wants t x e) h) (λ e h. n y h) h;
     }
   where
     new : Named t → (y : ℕ) → Wants t x → 1 ≤ count y (queueOf (enqueued t x)) → laneAt t y .registered ≡ 1
@@ -169,7 +168,7 @@ collect-keeps all t k =
     let i = o .kin in
     record {
       turning = turning-by t u k (o .kept .same-issued) (λ y. ap (λ (l : Lane). l .registered) (i .lanes y)) (o .kept .shaped) (o .kept .names) (o .linked)
-        (i .heads 8 refl refl refl) (free-kin t u i) (i .heads 13 refl refl refl) (λ y e s. order-alike (capacity t) (laneAt t y) (laneAt u y) (i .lanes y) s) (i .named (k .queued-registered));
+          (i .heads 8 refl refl refl) (free-kin t u i) (i .heads 13 refl refl refl) (λ y e s. order-alike (capacity t) (laneAt t y) (laneAt u y) (i .lanes y) s) (i .named (k .queued-registered));
       long = o .kept .long;
       same-slots = i .heads 4 refl refl refl;
       same-capacity = i .heads 8 refl refl refl;

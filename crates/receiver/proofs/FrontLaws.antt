@@ -4,12 +4,12 @@ use mathlib.Core.Path.{_≡_, refl, sym, ap, ap₂, _∙_, subst}
 use mathlib.Core.Logic.{_≢_}
 use mathlib.Core.Bool.{Bool, true, false, cond}
 use mathlib.Core.List.{List, [], _∷_, _++_}
-use Prim.Native.Nat.{ℕ, zero, suc, _+_, _-_, _*_, _≤_, _<_}
+use Prim.Native.Nat.{ℕ, zero, suc, _+_, _-_, _<_}
 use native.Mathlib.Omega.{arith}
 use borrow.Author.Tests.{eq-eqb, ne-eqb, eqb-false}
 use lib.Dec.{eqb, ltb}
 use lib.ListN.{length}
-use Rattle.model.specs.Lists.{count, same}
+use Rattle.model.specs.Lists.{count}
 use Rattle.model.proofs.Counting.{count-append}
 use Rattle.model.proofs.OrderKept.{first-own, first-other}
 use Rattle.lane.specs.declared.lane.Lane.{Lane}
@@ -29,7 +29,7 @@ use Rattle.ready.specs.Registry.{freeOf, freed}
 use Rattle.ready.proofs.QueueLaws.{queue-frames, header-in}
 use Rattle.ready.proofs.RegistryLaws.{registry-frames, length-free, free-freed}
 use Rattle.receiver.specs.View.{flag}
-use Rattle.receiver.specs.Registry.{retired, freedUnlessLast, retireLane}
+use Rattle.receiver.specs.Registry.{retired, retireLane}
 use Rattle.receiver.specs.declared.turn.Took.{Took}
 use Rattle.receiver.specs.declared.turn.Took.the-variants as Took
 use Rattle.receiver.specs.declared.turn.Turn.{Turn}
@@ -38,8 +38,8 @@ use Rattle.receiver.specs.Turn.{Turning, Ringed, retiredIf, leftFront, b
 use Rattle.receiver.proofs.CountLaws.{one}
 use Rattle.receiver.proofs.StepLaws.{Step, step-start, step-put-lane, step-popped-front, step-rotated, step-freed, step-budget, step-lane-count}
 use Rattle.receiver.proofs.RetireFrames.{freed-unless-last-is, length-retire-lane}
-use Rattle.receiver.proofs.LaneFields.{Fixed, fixed, Flagged, flagged, Emptied, PollKept, poll-kept}
-use Rattle.receiver.proofs.TurnLaws.{slot-below, some-lane, not-free, free-room, queue-is, front-issued, front-registered, front-alone, front-ordered, turning-step, ringed-step, turning-met}
+use Rattle.receiver.proofs.LaneFields.{Fixed, Flagged, flagged, Emptied, PollKept, poll-kept}
+use Rattle.receiver.proofs.TurnLaws.{slot-below, some-lane, not-free, free-room, queue-is, front-issued, front-registered, front-alone, front-ordered, turning-step, turning-met}
 
 -- ---- retiring a lane that is in no queue
 
@@ -289,9 +289,13 @@ module _ (t r : List ℕ) (fair : Bool) (k : Turning t) where
     left-room found e =
         let i = subst (PollKept (laneAt t (frontSlot t))) e (poll-kept (ringOf (frontSlot t) (capacity t)) r fair (laneAt t (frontSlot t))) in
         let o = subst (λ (p : LanePoll). InOrder (capacity t) (polledLane p)) e poll-ordered in
-        let h = front-issued t k some in
-        (k .shaped, rw (left-slot t k some found i o) (slot-below t k (frontSlot t) h), omega (arith, some), free-room t k (frontSlot t) h (front-registered t k some),
-        some-lane t k (frontSlot t) h (front-registered t k some))
+        let h = front-issued t k some in (
+          k .shaped,
+          rw (left-slot t k some found i o) (slot-below t k (frontSlot t) h),
+          omega (arith, some),
+          free-room t k (frontSlot t) h (front-registered t k some),
+          some-lane t k (frontSlot t) h (front-registered t k some),
+        )
 
     pub gave-room : (item : ℕ) (rotate released : Bool) (l : Lane) → polledFront t r fair ≡ LanePoll.Item item rotate released l
         → Shaped t × (l .key .slot < slots t) × (0 < queueCount t)

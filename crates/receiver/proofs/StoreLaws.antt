@@ -108,8 +108,12 @@ module _ (t r : List ℕ) (o : Stores t r) (x : ℕ) (h : x < issued t) where
     unfolding view
     room-in-free p =
         let f = p .each-slot in
-        omega (arith, o .shaped .issued-most, length-free t,
-        pigeonhole-less (issued t) (freeOf t) x (λ y. f y .free-once) (λ y. f y .free-issued) h (not-free (f x) registered-seen))
+        omega (
+          arith,
+          o .shaped .issued-most,
+          length-free t,
+          pigeonhole-less (issued t) (freeOf t) x (λ y. f y .free-once) (λ y. f y .free-issued) h (not-free (f x) registered-seen),
+        )
       where
         not-free : {y i n m : ℕ} {l : Slot} → SlotOrdered y i n m l → l .registered ≡ true → m ≡ 0
         not-free {m = zero} c d = refl

@@ -1,27 +1,26 @@
 -- What the turns of a receive keep of the table.
 -- Assumes nothing.
-use mathlib.Core.Path.{_≡_, refl, sym, ap, ap₂, _∙_, subst}
+use mathlib.Core.Path.{_≡_, refl, sym, ap, _∙_, subst}
 use mathlib.Core.Logic.{_≢_}
-use mathlib.Core.Bool.{Bool, true, false, cond}
-use mathlib.Core.List.{List, [], _∷_, _++_}
-use Prim.Native.Nat.{ℕ, zero, suc, _+_, _-_, _*_, _≤_, _<_}
+use mathlib.Core.Bool.{cond}
+use mathlib.Core.List.{List, _∷_}
+use Prim.Native.Nat.{ℕ, zero, suc, _+_, _*_, _≤_, _<_}
 use native.Mathlib.Nat.{mul-le-mul-right}
 use native.Mathlib.Omega.{arith}
-use borrow.Author.Tests.{eq-eqb, ne-eqb, eqb-false}
+use borrow.Author.Tests.{eq-eqb}
 use lib.Dec.{eqb}
 use lib.ListN.{length}
-use Rattle.model.specs.Lists.{if, count, same}
-use Rattle.model.proofs.Counting.{Same, equal, other, same?, same-self, count-append}
+use Rattle.model.specs.Lists.{count}
+use Rattle.model.proofs.Counting.{equal, other, same?, same-self}
 use Rattle.lane.specs.declared.lane.Lane.{Lane}
-use Rattle.lane.specs.declared.lane.EmptyLane.{EmptyLane}
 use Rattle.lane.specs.Ring.{ringOf, Within}
 use Rattle.lane.specs.Order.{InOrder}
-use Rattle.lane.specs.Table.{setHead, laneAt, putLane}
+use Rattle.lane.specs.Table.{setHead, laneAt}
 use Rattle.lane.proofs.OrderLaws.{cond-holds}
-use Rattle.lane.proofs.TableLaws.{frames, slot-of-lane}
+use Rattle.lane.proofs.TableLaws.{frames}
 use Rattle.ready.specs.Header.{Shaped, issued, slots, queueCount, freeCount, budget, capacity, laneCount}
 use Rattle.ready.specs.Queue.{QueueNames, queueOf, frontSlot, poppedFront}
-use Rattle.ready.specs.Registry.{freeOf, freed}
+use Rattle.ready.specs.Registry.{freeOf}
 use Rattle.ready.specs.Ready.{Linked}
 use Rattle.ready.proofs.Pigeonhole.{pigeonhole-less}
 use Rattle.ready.proofs.QueueLaws.{queue-frames, queue-front, shaped-setHead}
@@ -96,7 +95,7 @@ module _ {t u : List ℕ} {x : ℕ} {l : Lane} {w : List ℕ} {f b n m : ℕ} (k
   unfolding registeredIn
   counted-step e =
       let c = passing-but (λ y. flag (laneAt u y .registered)) (λ y. flag (laneAt t y .registered)) x 0 (issued t) (omega arith) (omega arith)
-        (λ y d. ap (λ (z : Lane). flag (z .registered)) (s .others y d)) in
+      (λ y d. ap (λ (z : Lane). flag (z .registered)) (s .others y d)) in
       let o : one (flag (laneAt u x .registered)) ≡ one (flag (l .registered)) = ap (λ (z : Lane). one (flag (z .registered))) (s .own) in
       rw (s .same-issued) (omega (arith, s .lanes, k .counted, c, o, e))
 
@@ -110,11 +109,11 @@ module _ {t u : List ℕ} {x : ℕ} {l : Lane} {w : List ℕ} {f b n m : ℕ} (k
         shaped = s .shaped;
         power = rw (s .same-capacity) (k .power);
         names =
-          record {
-            once = λ y. rw (s .queue) (once y);
-            issued-only = λ y a. rw (s .same-issued) (only y (rw (s .queue) at a));
-            flagged = λ y a. rw (s .queue) (flagged y (rw (s .same-issued) at a));
-          };
+            record {
+              once = λ y. rw (s .queue) (once y);
+              issued-only = λ y a. rw (s .same-issued) (only y (rw (s .queue) at a));
+              flagged = λ y a. rw (s .queue) (flagged y (rw (s .same-issued) at a));
+            };
         linked = s .linked;
         lanes = λ y a. rw (s .same-capacity) (ordered y (rw (s .same-issued) at a));
         queued-registered = λ y a. registered y (rw (s .queue) at a);
