@@ -1,19 +1,18 @@
 -- Collecting keeps what the turns ask of a table.
 -- Assumes nothing.
 use mathlib.Core.Path.{_≡_, refl, sym, ap, ap₂, _∙_, subst, fun-ext}
-use mathlib.Core.Bool.{Bool, true, false, cond}
-use mathlib.Core.List.{List, [], _∷_, _++_, foldl}
-use Prim.Native.Nat.{ℕ, zero, suc, _+_, _-_, _*_, _/_, _≤_, _<_}
+use mathlib.Core.Bool.{Bool, true, false}
+use mathlib.Core.List.{List, [], _∷_, foldl}
+use Prim.Native.Nat.{ℕ, zero, suc, _+_, _-_, _*_, _≤_, _<_}
 use native.Mathlib.Omega.{arith}
-use borrow.Author.Tests.{eqb-false, ltb-true, ltb-false}
+use borrow.Author.Tests.{ltb-true}
 use lib.Dec.{eqb, ltb, leb}
-use lib.ListN.{length}
 use Rattle.model.specs.Lists.{count}
-use Rattle.model.proofs.Counting.{Same, equal, other, same?, count-append}
+use Rattle.model.proofs.Counting.{equal, other, same?, count-append}
 use Rattle.lane.specs.declared.lane.Lane.{Lane}
 use Rattle.lane.specs.Lists.{tab}
 use Rattle.lane.specs.Order.{InOrder}
-use Rattle.lane.specs.Table.{headerWords, rowWords, laneWords, head, cell, setCell, setHead, laneAt}
+use Rattle.lane.specs.Table.{headerWords, rowWords, laneWords, head, cell, setCell, laneAt}
 use Rattle.lane.proofs.OrderLaws.{cond-holds}
 use Rattle.lane.proofs.TableLaws.{frames}
 use Rattle.ready.specs.Header.{Shaped, issued, groupCursor, freeCount, capacity, setGroupCursor}

@@ -1,7 +1,6 @@
 -- Retiring the empty paused lanes of a table with no lane queued.
 -- Assumes nothing.
-use mathlib.Core.Path.{_≡_, refl, sym, ap, _∙_, subst}
-use mathlib.Core.Bool.{Bool, true, false, cond}
+use mathlib.Core.Path.{_≡_, refl, sym, ap, _∙_}
 use mathlib.Core.List.{List, [], _∷_}
 use Prim.Native.Nat.{ℕ, zero, suc, _+_, _-_, _≤_, _<_}
 use native.Mathlib.Omega.{arith}
@@ -15,17 +14,17 @@ use Rattle.lane.specs.Lane.{reloadIsEmpty}
 use Rattle.lane.specs.Table.{laneAt}
 use Rattle.lane.proofs.OrderLaws.{cond-holds, refundable}
 use Rattle.lane.proofs.TableLaws.{slot-of-lane}
-use Rattle.ready.specs.Header.{Shaped, issued, slots, queueCount, freeCount, laneCount, capacity}
+use Rattle.ready.specs.Header.{Shaped, issued, slots, freeCount, laneCount, capacity}
 use Rattle.ready.specs.Queue.{queueOf}
 use Rattle.ready.proofs.QueueLaws.{length-queue}
 use Rattle.receiver.specs.Registry.{retireLane}
 use Rattle.receiver.specs.Batch.{forSlots}
-use Rattle.receiver.specs.Turn.{Turning, retiredIf}
+use Rattle.receiver.specs.Turn.{retiredIf}
 use Rattle.receiver.specs.Drained.{Idle, retireEmptyPaused, retireEmptyPausedLanes}
 use Rattle.receiver.proofs.StepLaws.{step-from}
 use Rattle.receiver.proofs.RetireFrames.{length-retire-lane}
 use Rattle.receiver.proofs.SlotLoops.{sub-zero, slots-next, slots-end}
-use Rattle.receiver.proofs.LaneFields.{Flagged, flagged, flagged-looked}
+use Rattle.receiver.proofs.LaneFields.{Flagged, flagged-looked}
 use Rattle.receiver.proofs.TurnLaws.{slot-below, some-lane, free-room}
 use Rattle.receiver.proofs.FrontLaws.{turning-retire, head-retired}
 

@@ -4,12 +4,12 @@ use mathlib.Core.Path.{_≡_, refl, sym, ap, ap₂, _∙_, subst}
 use mathlib.Core.Logic.{_≢_}
 use mathlib.Core.Bool.{Bool, true, false, cond}
 use mathlib.Core.List.{List, [], _∷_, _++_}
-use Prim.Native.Nat.{ℕ, zero, suc, _+_, _-_, _*_, _≤_, _<_}
+use Prim.Native.Nat.{ℕ, zero, suc, _+_, _-_, _<_}
 use native.Mathlib.Omega.{arith}
 use borrow.Author.Tests.{eq-eqb, ne-eqb, eqb-false}
 use lib.Dec.{eqb, ltb}
 use lib.ListN.{length}
-use Rattle.model.specs.Lists.{count, same}
+use Rattle.model.specs.Lists.{count}
 use Rattle.model.proofs.Counting.{count-append}
 use Rattle.model.proofs.OrderKept.{first-own, first-other}
 use Rattle.lane.specs.declared.lane.Lane.{Lane}
@@ -29,7 +29,7 @@ use Rattle.ready.specs.Registry.{freeOf, freed}
 use Rattle.ready.proofs.QueueLaws.{queue-frames, header-in}
 use Rattle.ready.proofs.RegistryLaws.{registry-frames, length-free, free-freed}
 use Rattle.receiver.specs.View.{flag}
-use Rattle.receiver.specs.Registry.{retired, freedUnlessLast, retireLane}
+use Rattle.receiver.specs.Registry.{retired, retireLane}
 use Rattle.receiver.specs.declared.turn.Took.{Took}
 use Rattle.receiver.specs.declared.turn.Took.the-variants as Took
 use Rattle.receiver.specs.declared.turn.Turn.{Turn}
@@ -38,8 +38,8 @@ use Rattle.receiver.specs.Turn.{Turning, Ringed, retiredIf, leftFront, b
 use Rattle.receiver.proofs.CountLaws.{one}
 use Rattle.receiver.proofs.StepLaws.{Step, step-from, step-put-lane, step-popped-front, step-rotated, step-freed, step-budget, step-lane-count}
 use Rattle.receiver.proofs.RetireFrames.{freed-unless-last-is, length-retire-lane}
-use Rattle.receiver.proofs.LaneFields.{Fixed, fixed, Flagged, flagged, Emptied, PollKept, poll-kept}
-use Rattle.receiver.proofs.TurnLaws.{slot-below, some-lane, not-free, free-room, queue-is, front-issued, front-registered, front-alone, front-ordered, turning-step, ringed-step, turning-met}
+use Rattle.receiver.proofs.LaneFields.{Fixed, Flagged, flagged, Emptied, PollKept, poll-kept}
+use Rattle.receiver.proofs.TurnLaws.{slot-below, some-lane, not-free, free-room, queue-is, front-issued, front-registered, front-alone, front-ordered, turning-step, turning-met}
 
 -- ---- retiring a lane that is in no queue
 

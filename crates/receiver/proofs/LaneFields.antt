@@ -1,6 +1,6 @@
 -- A lane's methods leave its key and its flags, and a lane found empty is no longer queued.
 -- Assumes nothing.
-use mathlib.Core.Path.{_≡_, refl, sym, ap, _∙_}
+use mathlib.Core.Path.{_≡_, refl, ap, _∙_}
 use mathlib.Core.Bool.{Bool, true, false, cond, _||_}
 use mathlib.Core.List.{List}
 use Prim.Native.Nat.{ℕ, _+_}
@@ -19,7 +19,7 @@ use Rattle.lane.specs.declared.lane.LanePoll.{LanePoll}
 use Rattle.lane.specs.declared.lane.LanePoll.the-variants as LanePoll
 use Rattle.lane.specs.Ring.{itemAt}
 use Rattle.lane.specs.Order.{poppedLane}
-use Rattle.lane.specs.Lane.{prefetch, reload, released, headOn, closeFast, openFor, grantFast, windowPop, popFast, releaseAtBatch, releaseAny, releasePending, settled, emptied, settleEmpty, readyOrIdle, refill, charged, addBurst, endBurst, targeted, popTargeted, polled, pollItem, pollRefilled, poll, fairWindow, fairly, popFair, reloadIsEmpty}
+use Rattle.lane.specs.Lane.{prefetch, reload, released, headOn, closeFast, openFor, grantFast, windowPop, popFast, releaseAtBatch, releaseAny, releasePending, emptied, settleEmpty, readyOrIdle, refill, charged, addBurst, endBurst, targeted, popTargeted, polled, pollItem, pollRefilled, poll, fairWindow, fairly, popFair, reloadIsEmpty}
 
 -- the key, registered, paused and living; and with them queued and pending
 abbrev pub Fixed : Type 0

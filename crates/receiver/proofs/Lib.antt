@@ -38,3 +38,4 @@ pub mod FrontLaws
 pub mod CollectKeeps
 pub mod ReceiveLaws
 pub mod DrainedLaws
+pub mod TargetLaws

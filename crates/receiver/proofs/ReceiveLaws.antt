@@ -1,15 +1,14 @@
 -- What the plain and the fair receive ask of a store in order, and what each of their parts leaves.
 -- Assumes nothing.
 use mathlib.Core.Path.{_≡_, refl, sym, ap, ap₂, _∙_, subst}
-use mathlib.Core.Bool.{Bool, true, false, cond}
-use mathlib.Core.List.{List, [], _∷_}
-use Prim.Native.Nat.{ℕ, zero, suc, _+_, _-_, _≤_, _<_}
+use mathlib.Core.Bool.{Bool, true, false}
+use mathlib.Core.List.{List}
+use Prim.Native.Nat.{ℕ, zero, suc, _+_, _≤_, _<_}
 use native.Mathlib.Omega.{arith}
-use borrow.Author.Tests.{eq-eqb, ne-eqb, eqb-true, eqb-false, lt-ltb}
+use borrow.Author.Tests.{eq-eqb, ne-eqb, eqb-true, lt-ltb}
 use lib.Dec.{eqb, ltb}
 use lib.ListN.{length}
-use Rattle.model.specs.Lists.{count}
-use Rattle.model.specs.State.{Slot, registeredLanes}
+use Rattle.model.specs.State.{registeredLanes}
 use Rattle.model.specs.declared.LaneKey.{LaneKey}
 use Rattle.lane.specs.declared.ring.Ring.{Ring}
 use Rattle.lane.specs.declared.lane.Lane.{Lane}
@@ -17,16 +16,15 @@ use Rattle.lane.specs.declared.lane.Popped.{Popped}
 use Rattle.lane.specs.declared.lane.Popped.the-variants as Popped
 use Rattle.lane.specs.declared.lane.LanePoll.{LanePoll}
 use Rattle.lane.specs.declared.lane.LanePoll.the-variants as LanePoll
-use Rattle.lane.specs.Ring.{ringOf, itemAt, Within}
+use Rattle.lane.specs.Ring.{ringOf}
 use Rattle.lane.specs.Order.{InOrder, poppedLane}
-use Rattle.lane.specs.Lane.{popFast, windowPop, grantFast, openFor, closeFast, reload, windowFor, popFair}
+use Rattle.lane.specs.Lane.{popFast, grantFast, openFor, closeFast, reload, popFair}
 use Rattle.lane.specs.Table.{laneAt, setHead}
 use Rattle.lane.proofs.OrderLaws.{cond-holds, closed-reload-keeps, window-for-fits}
 use Rattle.lane.proofs.TableLaws.{frames, slot-of-lane}
-use Rattle.ready.specs.Header.{Shaped, issued, slots, queueCount, budget, capacity, laneCount, fastSlot}
+use Rattle.ready.specs.Header.{Shaped, issued, slots, queueCount, budget, capacity, fastSlot}
 use Rattle.ready.proofs.QueueLaws.{header-in, shaped-setHead}
-use Rattle.ready.specs.Queue.{queueOf, frontSlot}
-use Rattle.ready.specs.Registry.{freeOf}
+use Rattle.ready.specs.Queue.{frontSlot}
 use Rattle.ready.specs.Ready.{collectReady}
 use Rattle.receiver.specs.View.{flag, slotAt, view}
 use Rattle.receiver.specs.Order.{StoreInOrder}
@@ -39,10 +37,10 @@ use Rattle.receiver.specs.Drained.{Idle, Rests}
 use Rattle.receiver.specs.Receive.{elseTake, windowTook, fastTook, Affords, takeFast, openTook, takeWindow, collectedIfDue, pollLoop, refillTake, takeOne, takeLone, takeFair}
 use Rattle.receiver.proofs.ViewLaws.{slot-in}
 use Rattle.receiver.proofs.CountLaws.{passing-same}
-use Rattle.receiver.proofs.StoreLaws.{FreeSlot, free-slot}
-use Rattle.receiver.proofs.LaneFields.{Flagged, flagged, flagged-pop-fast, flagged-grant, flagged-pop-fair}
-use Rattle.receiver.proofs.TurnLaws.{slot-below, front-issued, front-registered, front-ordered, turning-budget}
-use Rattle.receiver.proofs.FrontLaws.{Keeps, keeps-self, keeps-then, keeps-ringed, Turned, polledFront, poll-front-turned, turns-keep}
+use Rattle.receiver.proofs.StoreLaws.{free-slot}
+use Rattle.receiver.proofs.LaneFields.{Flagged, flagged-pop-fast, flagged-grant, flagged-pop-fair}
+use Rattle.receiver.proofs.TurnLaws.{slot-below, front-issued, front-ordered, turning-budget}
+use Rattle.receiver.proofs.FrontLaws.{Keeps, keeps-self, keeps-then, Turned, polledFront, poll-front-turned, turns-keep}
 use Rattle.receiver.proofs.CollectKeeps.{collect-keeps}
 
 -- ---- a store in order is ready for turns

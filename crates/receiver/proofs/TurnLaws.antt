@@ -1,27 +1,26 @@
 -- What the turns of a receive keep of the table.
 -- Assumes nothing.
-use mathlib.Core.Path.{_≡_, refl, sym, ap, ap₂, _∙_, subst}
+use mathlib.Core.Path.{_≡_, refl, sym, ap, _∙_, subst}
 use mathlib.Core.Logic.{_≢_}
-use mathlib.Core.Bool.{Bool, true, false, cond}
-use mathlib.Core.List.{List, [], _∷_, _++_}
-use Prim.Native.Nat.{ℕ, zero, suc, _+_, _-_, _*_, _≤_, _<_}
+use mathlib.Core.Bool.{cond}
+use mathlib.Core.List.{List, _∷_}
+use Prim.Native.Nat.{ℕ, zero, suc, _+_, _*_, _≤_, _<_}
 use native.Mathlib.Nat.{mul-le-mul-right}
 use native.Mathlib.Omega.{arith}
-use borrow.Author.Tests.{eq-eqb, ne-eqb, eqb-false}
+use borrow.Author.Tests.{eq-eqb}
 use lib.Dec.{eqb}
 use lib.ListN.{length}
-use Rattle.model.specs.Lists.{if, count, same}
-use Rattle.model.proofs.Counting.{Same, equal, other, same?, same-self, count-append}
+use Rattle.model.specs.Lists.{count}
+use Rattle.model.proofs.Counting.{equal, other, same?, same-self}
 use Rattle.lane.specs.declared.lane.Lane.{Lane}
-use Rattle.lane.specs.declared.lane.EmptyLane.{EmptyLane}
 use Rattle.lane.specs.Ring.{ringOf, Within}
 use Rattle.lane.specs.Order.{InOrder}
-use Rattle.lane.specs.Table.{setHead, laneAt, putLane}
+use Rattle.lane.specs.Table.{setHead, laneAt}
 use Rattle.lane.proofs.OrderLaws.{cond-holds}
-use Rattle.lane.proofs.TableLaws.{frames, slot-of-lane}
+use Rattle.lane.proofs.TableLaws.{frames}
 use Rattle.ready.specs.Header.{Shaped, issued, slots, queueCount, freeCount, budget, capacity, laneCount}
 use Rattle.ready.specs.Queue.{QueueNames, queueOf, frontSlot, poppedFront}
-use Rattle.ready.specs.Registry.{freeOf, freed}
+use Rattle.ready.specs.Registry.{freeOf}
 use Rattle.ready.specs.Ready.{Linked}
 use Rattle.ready.proofs.Pigeonhole.{pigeonhole-less}
 use Rattle.ready.proofs.QueueLaws.{queue-frames, queue-front, shaped-setHead}

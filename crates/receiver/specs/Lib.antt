@@ -10,3 +10,4 @@ pub mod Opening
 pub mod Turn
 pub mod Drained
 pub mod Receive
+pub mod Target

@@ -15,7 +15,7 @@ use model::LaneId;
 use ready::header::Header;
 use ready::queue;
 
-fn with_turn(mut l: Lane, pending: u64, queued: u64, paused: u64) -> Lane
+pub(crate) fn with_turn(mut l: Lane, pending: u64, queued: u64, paused: u64) -> Lane
     ensures { λ r. ⌜ r ≡ withTurn pending queued paused l ⌝ }
 {
     l.pending = pending;

@@ -7,4 +7,5 @@ pub mod receiver;
 pub mod refusal;
 pub mod registry;
 pub mod sender;
+pub mod target;
 pub mod turn;

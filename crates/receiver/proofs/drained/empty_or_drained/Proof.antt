@@ -1,7 +1,7 @@
 -- `receiver::drained::empty_or_drained` meets its contract.
 -- Assumes nothing.
 use Rattle.receiver.specs.Drained.{emptyOrDrained}
-use borrow.Author.Tests.{eq-eqb, ne-eqb, lt-ltb, le-ltb}
+use borrow.Author.Tests.{eq-eqb, ne-eqb}
 use borrow.Author.Needs.{needs}
 use Rattle.receiver.proofs.drained.empty_or_drained.Statement.{statement}
 use Rattle.receiver.proofs.drained.empty_or_drained.Tie as tie

@@ -1,11 +1,10 @@
 -- `receiver::drained::retire_empty_paused` meets its contract.
 -- Assumes nothing.
 use Rattle.receiver.specs.Drained.{retireEmptyPaused}
-use Rattle.receiver.proofs.DrainedLaws.{Retiring, retiring-start, retiring-next, retiring-end, retire-room, paused-refunds, still-all}
+use Rattle.receiver.proofs.DrainedLaws.{retire-room, paused-refunds}
 use Rattle.lane.specs.declared.lane.Lane.{Lane}
-use borrow.Author.Tests.{eq-eqb, ne-eqb, lt-ltb, le-ltb}
-use native.Mathlib.Omega.{arith}
-use mathlib.Core.Path.{_≡_, refl, sym, ap, ap₂, _∙_, subst}
+use borrow.Author.Tests.{eq-eqb, ne-eqb}
+use mathlib.Core.Path.{sym, ap, _∙_}
 use borrow.Author.Needs.{needs}
 use Rattle.receiver.proofs.drained.retire_empty_paused.Statement.{statement}
 use Rattle.receiver.proofs.drained.retire_empty_paused.Tie as tie

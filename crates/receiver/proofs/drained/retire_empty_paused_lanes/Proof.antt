@@ -1,8 +1,7 @@
 -- `receiver::drained::retire_empty_paused_lanes` meets its contract.
 -- Assumes nothing.
-use Rattle.receiver.proofs.DrainedLaws.{Retiring, retiring-start, retiring-next, retiring-end, retire-room, paused-refunds, still-all}
+use Rattle.receiver.proofs.DrainedLaws.{Retiring, retiring-start, retiring-next, retiring-end}
 use Prim.Native.Nat.{_-_}
-use native.Mathlib.Omega.{arith}
 use borrow.Author.Needs.{needs}
 use Rattle.receiver.proofs.drained.retire_empty_paused_lanes.Statement.{statement}
 use Rattle.receiver.proofs.drained.retire_empty_paused_lanes.Tie as tie

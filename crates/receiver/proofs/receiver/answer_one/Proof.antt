@@ -3,9 +3,7 @@
 use Rattle.receiver.specs.Receive.{answerOne}
 use Rattle.receiver.specs.Drained.{Rests}
 use Rattle.receiver.specs.declared.turn.Took.{Took}
-use Prim.Native.Nat.{ℕ}
-use mathlib.Core.List.{List}
-use mathlib.Core.Path.{_≡_, refl, sym, ap, ap₂, _∙_, subst}
+use mathlib.Core.Path.{sym, ap, _∙_, subst}
 use borrow.Author.Needs.{needs}
 use Rattle.receiver.proofs.receiver.answer_one.Statement.{statement}
 use Rattle.receiver.proofs.receiver.answer_one.Tie as tie

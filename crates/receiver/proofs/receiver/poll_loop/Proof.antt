@@ -8,12 +8,8 @@ use mathlib.Core.List.{List}
 use Rattle.receiver.specs.Receive.{pollLoop}
 use Rattle.receiver.proofs.CollectKeeps.{collect-keeps}
 use Rattle.receiver.proofs.FrontLaws.{keeps-ringed, turns-keep}
-use Rattle.receiver.proofs.TurnLaws.{slot-below, ring-in, front-issued, front-ordered}
-use Rattle.receiver.proofs.ReceiveLaws.{turning-of, ringed-of, fast-room, window-room, lone-room, else-item, else-nothing, take-fast-unmoved, take-window-unmoved, take-lone-unmoved, unmoved-is, due-keeps, fair-keeps, turns-rest, take-one-rest, take-fair-rest, popped-as, take-fast-is, take-window-is, take-lone-is, fair-as}
-use Rattle.lane.specs.declared.lane.Lane.{Lane}
-use borrow.Author.Tests.{eq-eqb, ne-eqb, lt-ltb, le-ltb}
-use native.Mathlib.Omega.{arith}
-use mathlib.Core.Path.{_≡_, refl, sym, ap, ap₂, _∙_, subst}
+use Rattle.receiver.proofs.ReceiveLaws.{else-item, else-nothing}
+use mathlib.Core.Path.{sym, _∙_, subst}
 use borrow.Author.Needs.{needs}
 use Rattle.receiver.proofs.receiver.poll_loop.Statement.{statement}
 use Rattle.receiver.proofs.receiver.poll_loop.Tie as tie

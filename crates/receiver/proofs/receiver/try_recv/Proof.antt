@@ -1,15 +1,13 @@
 -- `receiver::receiver::try_recv` meets its contract.
 -- Assumes nothing.
 use Rattle.model.specs.declared.Answer.{Answer}
-use Rattle.receiver.proofs.ReceiveLaws.{turning-of, ringed-of, take-one-rest}
-use Rattle.receiver.specs.Receive.{tryRecv, takeOne, answerOne, withRings}
-use Rattle.receiver.specs.Refusal.{receiverVerdict}
+use Rattle.receiver.proofs.ReceiveLaws.{turning-of, take-one-rest}
+use Rattle.receiver.specs.Receive.{tryRecv, answerOne, withRings}
 use Rattle.receiver.specs.Words.{unlessRefused}
 use Rattle.receiver.specs.Drained.{Rests}
-use Rattle.receiver.specs.declared.turn.Took.{Took}
 use Prim.Native.Nat.{ℕ}
 use mathlib.Core.List.{List}
-use mathlib.Core.Path.{_≡_, refl, sym, ap, ap₂, _∙_, subst}
+use mathlib.Core.Path.{sym, ap, _∙_, subst}
 use borrow.Author.Needs.{needs}
 use Rattle.receiver.proofs.receiver.try_recv.Statement.{statement}
 use Rattle.receiver.proofs.receiver.try_recv.Tie as tie

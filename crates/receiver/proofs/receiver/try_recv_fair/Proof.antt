@@ -2,14 +2,12 @@
 -- Assumes nothing.
 use Rattle.model.specs.declared.Answer.{Answer}
 use Rattle.receiver.proofs.ReceiveLaws.{turning-of, ringed-of, take-fair-rest}
-use Rattle.receiver.specs.Receive.{tryRecvFair, takeFair, answerOne, withRings}
-use Rattle.receiver.specs.Refusal.{receiverVerdict}
+use Rattle.receiver.specs.Receive.{tryRecvFair, answerOne, withRings}
 use Rattle.receiver.specs.Words.{unlessRefused}
 use Rattle.receiver.specs.Drained.{Rests}
-use Rattle.receiver.specs.declared.turn.Took.{Took}
 use Prim.Native.Nat.{ℕ}
 use mathlib.Core.List.{List}
-use mathlib.Core.Path.{_≡_, refl, sym, ap, ap₂, _∙_, subst}
+use mathlib.Core.Path.{sym, ap, _∙_, subst}
 use borrow.Author.Needs.{needs}
 use Rattle.receiver.proofs.receiver.try_recv_fair.Statement.{statement}
 use Rattle.receiver.proofs.receiver.try_recv_fair.Tie as tie

@@ -3,9 +3,9 @@
 use Rattle.receiver.proofs.FrontLaws.{polled-as, left-room, gave-room, shaped-left, front-is}
 use Rattle.receiver.proofs.TurnLaws.{slot-below, ring-in, front-issued, front-ordered}
 use Rattle.receiver.specs.Turn.{pollFront, turnBy}
-use borrow.Author.Tests.{eq-eqb, ne-eqb}
+use borrow.Author.Tests.{eq-eqb}
 use native.Mathlib.Omega.{arith}
-use mathlib.Core.Path.{sym, ap, _∙_}
+use mathlib.Core.Path.{sym, _∙_}
 use borrow.Author.Needs.{needs}
 use Rattle.receiver.proofs.turn.poll_front.Statement.{statement}
 use Rattle.receiver.proofs.turn.poll_front.Tie as tie

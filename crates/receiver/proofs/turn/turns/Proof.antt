@@ -1,12 +1,11 @@
 -- `receiver::turn::turns` meets its contract.
 -- Assumes nothing.
 use Rattle.receiver.proofs.FrontLaws.{turns-end, turn-keeps, turn-fewer, turns-on, keeps-ringed}
-use Rattle.receiver.specs.declared.turn.Turn.{Turn}
 use Rattle.receiver.specs.Turn.{Turning, Ringed, turns}
 use Rattle.ready.specs.Header.{queueCount}
 use lib.ListN.{length}
 use native.Mathlib.Omega.{arith}
-use mathlib.Core.Path.{_≡_, refl, sym, ap, _∙_}
+use mathlib.Core.Path.{_≡_, refl, _∙_}
 use borrow.Author.Needs.{needs}
 use Rattle.receiver.proofs.turn.turns.Statement.{statement}
 use Rattle.receiver.proofs.turn.turns.Tie as tie
