@@ -115,8 +115,8 @@ const STYLES: &[Style] = &[
         slots: (1, 5),
         lanes: 2,
         acts: &[
-            (Register, 1), (Send, 8), (Unsignalled, 1), (Fill, 12), (Plain, 8), (Fair, 2), (Targeted, 4), (Batch, 6), (Pause, 2), (Resume, 3),
-            (Release, 1), (PollAll, 1), (Held, 1), (Aim, 24), (Drain, 1),
+            (Register, 3), (Send, 12), (Unsignalled, 2), (Fill, 5), (Drop, 1), (Plain, 8), (Fair, 5), (Targeted, 8), (Batch, 10), (Pause, 8),
+            (Resume, 10), (Release, 3), (PollAll, 3), (Held, 3), (Close, 1), (Aim, 20), (Drain, 1),
         ],
     },
     Style {
@@ -175,8 +175,8 @@ const STYLES: &[Style] = &[
         slots: (2, 7),
         lanes: 3,
         acts: &[
-            (Register, 2), (Send, 10), (Unsignalled, 3), (Fill, 8), (Drop, 2), (Plain, 6), (Fair, 1), (Targeted, 3), (Batch, 6), (Pause, 4),
-            (Resume, 4), (Close, 1), (PollAll, 2), (Held, 2), (Zero, 14), (Drain, 1), (End, 1),
+            (Register, 6), (Send, 14), (Unsignalled, 4), (Fill, 4), (Drop, 3), (Plain, 6), (Fair, 2), (Targeted, 6), (Batch, 12), (Pause, 8),
+            (Resume, 8), (Close, 1), (PollAll, 4), (Held, 4), (Zero, 16), (Drain, 1), (End, 1),
         ],
     },
     Style {
@@ -386,7 +386,9 @@ impl<W: Write> Stream<W> {
             if self.state().queue.is_empty() || self.random.one_in(200) {
                 self.send(SEND, 70);
             }
-            self.plain();
+            if self.plain() == Answer::Empty {
+                self.emit(POLL_ALL, &[]);
+            }
         }
         if self.random.one_in(2) {
             let act = self.random.pick(&[Fair, Targeted, Batch, Pause, Send, Register, Release, Resume, Fill]);
@@ -402,6 +404,7 @@ impl<W: Write> Stream<W> {
             }
             if matches!(self.plain(), Answer::Empty | Answer::Disconnected) {
                 self.send(SEND, 70);
+                self.emit(POLL_ALL, &[]);
             }
         }
         // With the queue emptied or not, and lanes made ready or not.
@@ -496,7 +499,7 @@ impl<W: Write> Stream<W> {
             Plain => {
                 for _ in 0..self.times() {
                     let answer = self.plain();
-                    if self.over() || answer == Answer::Empty && !self.random.one_in(4) {
+                    if self.over() || !matches!(answer, Answer::Item(..)) && !self.random.one_in(4) {
                         break;
                     }
                 }
@@ -504,7 +507,7 @@ impl<W: Write> Stream<W> {
             Fair => {
                 for _ in 0..self.times() {
                     let answer = self.emit(FAIR, &[]);
-                    if self.over() || answer == Answer::Empty && !self.random.one_in(4) {
+                    if self.over() || !matches!(answer, Answer::Item(..)) && !self.random.one_in(4) {
                         break;
                     }
                 }
@@ -637,6 +640,11 @@ impl<W: Write> Stream<W> {
         }
         let total: u64 = style.acts.iter().map(|(_, weight)| weight).sum();
         while !self.over() {
+            if self.state().open && self.state().living_senders() == 0 && self.random.one_in(3) {
+                for _ in 0..1 + self.random.below(3) {
+                    self.register();
+                }
+            }
             let mut at = self.random.below(total);
             for &(act, weight) in style.acts {
                 if at < weight {
