@@ -69,6 +69,8 @@ enum Act {
     Aim,
     /// Budget 0, and the queued lanes paused or not.
     Zero,
+    /// Near budget 0, several lanes with few items queued, marked and paused by turns, so that the order shows.
+    Tangle,
     /// All senders dropped, some lanes paused before, and then receives.
     End,
     /// Receives until there is nothing.
@@ -176,8 +178,15 @@ const STYLES: &[Style] = &[
         lanes: 3,
         acts: &[
             (Register, 6), (Send, 14), (Unsignalled, 4), (Fill, 4), (Drop, 3), (Plain, 6), (Fair, 2), (Targeted, 6), (Batch, 12), (Pause, 8),
-            (Resume, 8), (Close, 1), (PollAll, 4), (Held, 4), (Zero, 16), (Drain, 1), (End, 1),
+            (Resume, 8), (Close, 1), (PollAll, 4), (Held, 4), (Zero, 16), (Tangle, 4), (Drain, 1), (End, 1),
         ],
+    },
+    Style {
+        name: "tangle",
+        capacities: &[2, 4, 8, 64, 128],
+        slots: (3, 12),
+        lanes: 5,
+        acts: &[(Tangle, 30), (Send, 4), (Fill, 1), (Churn, 1), (Drain, 1), (Held, 1), (Resume, 2)],
     },
     Style {
         name: "wide",
@@ -409,19 +418,82 @@ impl<W: Write> Stream<W> {
         }
         // With the queue emptied or not, and lanes made ready or not.
         if !self.random.one_in(3) {
-            for _ in 0..self.state().queue.len() {
-                let Some(&x) = self.state().queue.front() else { break };
-                let state = self.state();
-                let id = [state.channel, x as u64, state.slots[x].generation];
-                let kind = if self.random.one_in(12) { CLOSE } else { PAUSE };
-                self.emit(kind, &id);
-            }
+            self.empty_queue();
         }
         for _ in 0..self.random.below(4) {
             let act = self.random.pick(&[Send, Unsignalled, Drop, Resume, PollAll, Targeted, Register, Churn]);
             self.act(act);
         }
         self.receive();
+    }
+
+    /// Pauses, or now and then closes, all that is queued.
+    fn empty_queue(&mut self) {
+        for _ in 0..self.state().queue.len() {
+            let Some(&x) = self.state().queue.front() else { break };
+            let state = self.state();
+            let id = [state.channel, x as u64, state.slots[x].generation];
+            let kind = if self.random.one_in(12) { CLOSE } else { PAUSE };
+            self.emit(kind, &id);
+        }
+    }
+
+    fn tangle(&mut self) {
+        while self.state().registered_lanes() < self.state().most_slots.min(7) && !self.over() {
+            let before = self.left;
+            self.register();
+            if self.left == before {
+                break;
+            }
+        }
+        let near = self.random.below(3);
+        for _ in 0..150 {
+            if self.state().budget <= near || self.over() {
+                break;
+            }
+            if self.plain() == Answer::Empty {
+                self.send(SEND, 8);
+            }
+        }
+        if self.random.one_in(2) {
+            self.empty_queue();
+        }
+        if self.random.one_in(3) {
+            for _ in 0..2 + self.random.below(2) {
+                let key = self.key(|slot| slot.living && slot.registered && !slot.paused && slot.ring.is_empty());
+                self.emit(DROP, &key);
+            }
+            self.plain();
+        }
+        for _ in 0..8 + self.random.below(24) {
+            match self.random.below(16) {
+                0..=2 => self.act(Resume),
+                3 => self.act(Pause),
+                4..=7 => {
+                    let [slot, generation] = self.key(|slot| slot.living && slot.registered && slot.ring.len() < 3);
+                    let item = self.next_item();
+                    self.emit(SEND, &[slot, generation, item]);
+                }
+                8 => {
+                    let id = self.id(|slot| slot.registered && slot.ring.len() > 1);
+                    self.emit(TARGETED, &id);
+                }
+                9..=12 => {
+                    self.plain();
+                }
+                13 | 14 => {
+                    let limit = 1 + self.random.below(3);
+                    self.emit(BATCH, &[limit]);
+                }
+                _ => {
+                    let act = self.random.pick(&[Drop, Register, PollAll, Close, Unsignalled]);
+                    self.act(act);
+                }
+            }
+            if self.over() {
+                break;
+            }
+        }
     }
 
     fn end(&mut self) {
@@ -557,6 +629,7 @@ impl<W: Write> Stream<W> {
             Stale => self.stale(),
             Aim => self.aim(),
             Zero => self.zero(),
+            Tangle => self.tangle(),
             End => self.end(),
             Drain => self.drain(),
             Churn => self.churn(),
