@@ -138,8 +138,8 @@ impl State {
         self.slots.iter().filter(|slot| slot.registered).count()
     }
 
-    pub fn living_senders(&self) -> usize {
-        self.slots.iter().filter(|slot| slot.living).count()
+    pub fn any_living(&self) -> bool {
+        self.slots.iter().any(|slot| slot.living)
     }
 
     fn held(&self) -> u64 {
@@ -224,7 +224,11 @@ impl State {
     fn leave_queue(&mut self, x: usize) {
         if self.slots[x].queued {
             self.slots[x].queued = false;
-            self.queue.retain(|&y| y != x);
+            if self.queue.front() == Some(&x) {
+                self.queue.pop_front();
+            } else {
+                self.queue.retain(|&y| y != x);
+            }
         }
     }
 
@@ -344,7 +348,7 @@ impl State {
 
     /// "Disconnected: no living sender and no registered lane, after empty paused lanes are retired."
     fn nothing(&mut self) -> Answer {
-        if self.living_senders() != 0 {
+        if self.any_living() {
             return Answer::Empty;
         }
         for x in 0..self.slots.len() {

@@ -334,14 +334,15 @@ impl<W: Write> Stream<W> {
             2 => lanes + 1,
             _ => u64::MAX,
         };
-        if most > lanes && !self.random.one_in(150) {
-            // The original has no refusal 8 or 9.
-            if full {
-                return;
-            }
-            if let Some(x) = older {
+        if most > lanes && (full || older.is_some()) {
+            // The original has no refusal 8 or 9. Mostly the slot's older sender is dropped, or nothing is done.
+            if self.random.one_in(300) {
+                self.here = self.here.min(12);
+            } else if let Some(x) = older {
                 let generation = self.state().slots[x].generation;
                 self.emit(DROP, &[x as u64, generation]);
+            } else {
+                return;
             }
         }
         self.emit(REGISTER, &[most]);
@@ -395,7 +396,7 @@ impl<W: Write> Stream<W> {
             if self.state().queue.is_empty() || self.random.one_in(200) {
                 self.send(SEND, 70);
             }
-            if self.plain() == Answer::Empty {
+            if self.plain() == Answer::Empty && self.random.one_in(2) {
                 self.emit(POLL_ALL, &[]);
             }
         }
@@ -413,7 +414,9 @@ impl<W: Write> Stream<W> {
             }
             if matches!(self.plain(), Answer::Empty | Answer::Disconnected) {
                 self.send(SEND, 70);
-                self.emit(POLL_ALL, &[]);
+                if self.random.one_in(2) {
+                    self.emit(POLL_ALL, &[]);
+                }
             }
         }
         // With the queue emptied or not, and lanes made ready or not.
@@ -497,6 +500,9 @@ impl<W: Write> Stream<W> {
     }
 
     fn end(&mut self) {
+        if self.state().slots.len() > 1_000 && !self.random.one_in(20) {
+            return self.drain();
+        }
         for x in 0..self.state().slots.len() {
             let state = self.state();
             let slot = &state.slots[x];
@@ -689,7 +695,7 @@ impl<W: Write> Stream<W> {
         self.here = match self.random.below(8) {
             0 => 40 + self.random.below(200),
             _ => 300 + self.random.below(2_500),
-        } + 3 * self.most_slots.unwrap_or(0);
+        } + 6 * self.most_slots.unwrap_or(0);
         let channel = self.random.pick(&[7, 0, u64::MAX, 1 << 40]);
         let (cursor, generation) = if self.random.one_in(100) {
             // Outside the original's domain; short.
@@ -709,11 +715,14 @@ impl<W: Write> Stream<W> {
             None => (1 + self.random.below(2 * style.lanes)).min(slots),
         };
         for _ in 0..lanes {
+            if self.over() {
+                return;
+            }
             self.emit(REGISTER, &[u64::MAX]);
         }
         let total: u64 = style.acts.iter().map(|(_, weight)| weight).sum();
         while !self.over() {
-            if self.state().open && self.state().living_senders() == 0 && self.random.one_in(3) {
+            if self.state().open && !self.state().any_living() && self.random.one_in(3) {
                 for _ in 0..1 + self.random.below(3) {
                     self.register();
                 }
