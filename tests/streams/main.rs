@@ -67,6 +67,8 @@ enum Act {
     Stale,
     /// Plain receives up to just before a limit of 64 or a batch of credit.
     Aim,
+    /// Both limits of 64, and at C 64 and 128 a batch of credit, brought to fall due on one item.
+    Align,
     /// Budget 0, and the queued lanes paused or not.
     Zero,
     /// Near budget 0, several lanes with few items queued, marked and paused by turns, so that the order shows.
@@ -113,22 +115,22 @@ const STYLES: &[Style] = &[
     },
     Style {
         name: "limits",
-        capacities: &[64, 128, 256, 100],
+        capacities: &[64, 128, 256, 100, 64, 128, 256, 512, 1_000],
         slots: (1, 5),
         lanes: 2,
         acts: &[
             (Register, 3), (Send, 12), (Unsignalled, 2), (Fill, 5), (Drop, 1), (Plain, 8), (Fair, 5), (Targeted, 8), (Batch, 10), (Pause, 8),
-            (Resume, 10), (Release, 3), (PollAll, 3), (Held, 3), (Close, 1), (Aim, 20), (Drain, 1),
+            (Resume, 10), (Release, 3), (PollAll, 3), (Held, 3), (Close, 1), (Aim, 16), (Align, 6), (Drain, 1),
         ],
     },
     Style {
         name: "lone",
-        capacities: &[1, 4, 64, 128, 256],
+        capacities: &[1, 4, 64, 128, 256, 512, 2_048],
         slots: (1, 2),
         lanes: 1,
         acts: &[
             (Send, 14), (Unsignalled, 1), (Fill, 8), (Plain, 14), (Fair, 18), (Targeted, 3), (Batch, 3), (Pause, 1), (Resume, 2), (Release, 1),
-            (Register, 1), (Drop, 1), (Held, 1), (Aim, 10),
+            (Register, 1), (Drop, 1), (Held, 1), (Aim, 8), (Align, 2),
         ],
     },
     Style {
@@ -388,9 +390,46 @@ impl<W: Write> Stream<W> {
             })
     }
 
+    /// Whether the front lane's next item completes a batch of credit.
+    fn at_credit(&self) -> bool {
+        let state = self.state();
+        state.queue.front().is_some_and(|&x| state.slots[x].unreleased + 1 == state.release_batch())
+    }
+
+    fn align(&mut self) {
+        for _ in 0..100 {
+            let answer = self.emit(BATCH, &[64]);
+            if self.over() || !matches!(answer, Answer::Items(_)) {
+                break;
+            }
+        }
+        // Found empty: bursts and unreleased counts 0; and budget 64.
+        self.emit(FAIR, &[]);
+        for _ in 0..1 + self.random.below(2) {
+            let times = self.state().capacity;
+            self.send(SEND, times);
+        }
+        for _ in 0..61 + self.random.below(4) {
+            self.plain();
+        }
+        self.after_aim();
+    }
+
+    fn after_aim(&mut self) {
+        if self.random.one_in(2) {
+            let act = self.random.pick(&[Fair, Targeted, Batch, Pause, Send, Register, Release, Resume, Fill]);
+            self.act(act);
+        }
+        for _ in 0..1 + self.random.below(4) {
+            self.receive();
+        }
+    }
+
     fn aim(&mut self) {
-        for _ in 0..130 {
-            if self.at_limit() || self.over() {
+        let credit = self.random.one_in(3);
+        let steps = if credit { self.state().release_batch() + 70 } else { 130 };
+        for _ in 0..steps {
+            if self.over() || if credit { self.at_credit() } else { self.at_limit() } {
                 break;
             }
             if self.state().queue.is_empty() || self.random.one_in(200) {
@@ -400,11 +439,7 @@ impl<W: Write> Stream<W> {
                 self.emit(POLL_ALL, &[]);
             }
         }
-        if self.random.one_in(2) {
-            let act = self.random.pick(&[Fair, Targeted, Batch, Pause, Send, Register, Release, Resume, Fill]);
-            self.act(act);
-        }
-        self.receive();
+        self.after_aim();
     }
 
     fn zero(&mut self) {
@@ -634,6 +669,7 @@ impl<W: Write> Stream<W> {
             }
             Stale => self.stale(),
             Aim => self.aim(),
+            Align => self.align(),
             Zero => self.zero(),
             Tangle => self.tangle(),
             End => self.end(),
