@@ -1,11 +1,12 @@
 //! Record streams from a seed, and the text form of stored ones.
 //!
-//!     streams SEED RECORDS [--slots N] [--style NAME] [--rings N] [--table N] [--output N]
+//!     streams SEED RECORDS [--slots N] [--style NAME] [--shifted] [--rings N] [--table N] [--output N]
 //!     streams text < FILE        the records of a stored stream
 //!     streams expected < FILE    the lines that it expects
 //!
 //! A stream is a row of openings, each in a style of its own; the first has style SEED modulo the number of styles. The rules run
 //! along, so that a style can aim at a state. --slots N makes every opening wide: up to N lanes, for stores that hold them.
+//! --shifted gives every opening a first cursor and generation near 2^64, which the original does not have.
 
 #[allow(dead_code)]
 mod records;
@@ -212,6 +213,8 @@ struct Stream<W: Write> {
     item: u64,
     /// Wide openings only, with up to so many lanes.
     most_slots: Option<u64>,
+    /// Every opening has a first cursor and generation that the original does not have.
+    shifted: bool,
 }
 
 impl<W: Write> Stream<W> {
@@ -733,7 +736,10 @@ impl<W: Write> Stream<W> {
             _ => 300 + self.random.below(2_500),
         } + 6 * self.most_slots.unwrap_or(0);
         let channel = self.random.pick(&[7, 0, u64::MAX, 1 << 40]);
-        let (cursor, generation) = if self.random.one_in(100) {
+        let (cursor, generation) = if self.shifted {
+            let below_top = [0, 1, 3, 70, 1_000].map(|n| u64::MAX - n);
+            (self.random.pick(&below_top), self.random.pick(&below_top))
+        } else if self.random.one_in(100) {
             // Outside the original's domain; short.
             self.here = self.here.min(60);
             let near_top = u64::MAX - self.random.below(4);
@@ -812,11 +818,18 @@ fn main() -> io::Result<()> {
     };
     let mut most_slots = None;
     let mut only = None;
-    for option in options.chunks(2) {
-        match *option {
-            ["--slots", count] => most_slots = Some(number(count)),
-            ["--style", name] => only = Some(STYLES.iter().position(|s| s.name == name).expect("a style's name")),
-            _ => panic!("no such option: {option:?}"),
+    let mut shifted = false;
+    let mut options = options.iter();
+    while let Some(&option) = options.next() {
+        let mut value = || options.next().unwrap_or_else(|| panic!("{option} needs a value"));
+        match option {
+            "--slots" => most_slots = Some(number(value())),
+            "--style" => {
+                let name = value();
+                only = Some(STYLES.iter().position(|style| style.name == *name).expect("a style's name"));
+            }
+            "--shifted" => shifted = true,
+            _ => panic!("no such option: {option}"),
         }
     }
     let mut stream = Stream {
@@ -827,6 +840,7 @@ fn main() -> io::Result<()> {
         here: 0,
         item: 0,
         most_slots,
+        shifted,
     };
     if stream.random.one_in(10) {
         stream.emit(PLAIN, &[]);
