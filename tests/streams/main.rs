@@ -1,0 +1,859 @@
+//! Record streams from a seed, and the text form of stored ones.
+//!
+//!     streams SEED RECORDS [--slots N] [--style NAME] [--shifted] [--rings N] [--table N] [--output N]
+//!     streams text < FILE        the records of a stored stream
+//!     streams expected < FILE    the lines that it expects
+//!
+//! A stream is a row of openings, each in a style of its own; the first has style SEED modulo the number of styles. The rules run
+//! along, so that a style can aim at a state. --slots N makes every opening wide: up to N lanes, for stores that hold them.
+//! --shifted gives every opening a first cursor and generation near 2^64, which the original does not have.
+
+#[allow(dead_code)]
+mod records;
+#[allow(dead_code)]
+#[path = "../rules/rules.rs"]
+mod rules;
+mod text;
+
+use std::io::{self, BufWriter, Write};
+
+use records::*;
+use rules::{Rules, Slot, State};
+
+/// Splitmix64.
+struct Random(u64);
+
+impl Random {
+    fn next(&mut self) -> u64 {
+        self.0 = self.0.wrapping_add(0x9e37_79b9_7f4a_7c15);
+        let mut z = self.0;
+        z = (z ^ (z >> 30)).wrapping_mul(0xbf58_476d_1ce4_e5b9);
+        z = (z ^ (z >> 27)).wrapping_mul(0x94d0_49bb_1331_11eb);
+        z ^ (z >> 31)
+    }
+
+    fn below(&mut self, n: u64) -> u64 {
+        self.next() % n
+    }
+
+    fn one_in(&mut self, n: u64) -> bool {
+        self.below(n) == 0
+    }
+
+    fn pick<T: Copy>(&mut self, all: &[T]) -> T {
+        all[self.below(all.len() as u64) as usize]
+    }
+}
+
+/// What a style does next; some are runs of several records.
+#[derive(Clone, Copy, PartialEq)]
+enum Act {
+    Register,
+    Send,
+    Unsignalled,
+    Fill,
+    Drop,
+    Plain,
+    Fair,
+    Targeted,
+    Batch,
+    Pause,
+    Resume,
+    Close,
+    Release,
+    PollAll,
+    CloseReceiver,
+    Held,
+    /// A key or channel that may be nobody's.
+    Stale,
+    /// Plain receives up to just before a limit of 64 or a batch of credit.
+    Aim,
+    /// Both limits of 64, and at C 64 and 128 a batch of credit, brought to fall due on one item.
+    Align,
+    /// Budget 0, and the queued lanes paused or not.
+    Zero,
+    /// Near budget 0, several lanes with few items queued, marked and paused by turns, so that the order shows.
+    Tangle,
+    /// All senders dropped, some lanes paused before, and then receives.
+    End,
+    /// Receives until there is nothing.
+    Drain,
+    /// One lane comes, sends a little and goes.
+    Churn,
+}
+
+use Act::*;
+
+struct Style {
+    name: &'static str,
+    capacities: &'static [u64],
+    slots: (u64, u64),
+    /// Lanes registered at first.
+    lanes: u64,
+    acts: &'static [(Act, u64)],
+}
+
+const STYLES: &[Style] = &[
+    Style {
+        name: "mixed",
+        capacities: &[1, 2, 3, 4, 8, 16],
+        slots: (1, 8),
+        lanes: 2,
+        acts: &[
+            (Register, 3), (Send, 20), (Unsignalled, 4), (Fill, 2), (Drop, 2), (Plain, 12), (Fair, 6), (Targeted, 4), (Batch, 4), (Pause, 3),
+            (Resume, 4), (Close, 1), (Release, 2), (PollAll, 2), (Held, 4), (Stale, 2), (Drain, 1), (Churn, 1), (End, 1),
+        ],
+    },
+    Style {
+        name: "churn",
+        capacities: &[1, 2, 4, 5, 64],
+        slots: (4, 24),
+        lanes: 4,
+        acts: &[
+            (Register, 10), (Send, 16), (Unsignalled, 2), (Drop, 8), (Plain, 10), (Fair, 5), (Targeted, 3), (Batch, 3), (Pause, 8), (Resume, 5),
+            (Close, 3), (Release, 1), (PollAll, 1), (Held, 3), (Stale, 2), (Drain, 2), (Churn, 12),
+        ],
+    },
+    Style {
+        name: "limits",
+        capacities: &[64, 128, 256, 100, 64, 128, 256, 512, 1_000],
+        slots: (1, 5),
+        lanes: 2,
+        acts: &[
+            (Register, 3), (Send, 12), (Unsignalled, 2), (Fill, 5), (Drop, 1), (Plain, 8), (Fair, 5), (Targeted, 8), (Batch, 10), (Pause, 8),
+            (Resume, 10), (Release, 3), (PollAll, 3), (Held, 3), (Close, 1), (Aim, 16), (Align, 6), (Drain, 1),
+        ],
+    },
+    Style {
+        name: "lone",
+        capacities: &[1, 4, 64, 128, 256, 512, 2_048],
+        slots: (1, 2),
+        lanes: 1,
+        acts: &[
+            (Send, 14), (Unsignalled, 1), (Fill, 8), (Plain, 14), (Fair, 18), (Targeted, 3), (Batch, 3), (Pause, 1), (Resume, 2), (Release, 1),
+            (Register, 1), (Drop, 1), (Held, 1), (Aim, 8), (Align, 2),
+        ],
+    },
+    Style {
+        name: "unsignalled",
+        capacities: &[1, 2, 4, 8, 64],
+        slots: (2, 10),
+        lanes: 3,
+        acts: &[
+            (Register, 2), (Send, 5), (Unsignalled, 22), (Drop, 2), (Plain, 12), (Fair, 8), (Targeted, 4), (Batch, 4), (Pause, 3), (Resume, 4),
+            (Close, 1), (PollAll, 10), (Release, 1), (Held, 3), (Drain, 2),
+        ],
+    },
+    Style {
+        name: "closed",
+        capacities: &[1, 2, 4, 64],
+        slots: (6, 60),
+        lanes: 4,
+        acts: &[
+            (Register, 12), (Send, 16), (Unsignalled, 3), (Fill, 2), (Drop, 6), (Plain, 10), (Fair, 5), (Targeted, 3), (Batch, 3), (Pause, 3),
+            (Resume, 3), (Close, 9), (Held, 5), (Stale, 4), (Drain, 2), (End, 1),
+        ],
+    },
+    Style {
+        name: "stale",
+        capacities: &[1, 2, 4],
+        slots: (1, 4),
+        lanes: 1,
+        acts: &[
+            (Register, 8), (Send, 10), (Unsignalled, 2), (Drop, 6), (Plain, 8), (Fair, 3), (Targeted, 3), (Batch, 3), (Pause, 3), (Resume, 3),
+            (Close, 4), (Held, 3), (Stale, 30), (CloseReceiver, 1),
+        ],
+    },
+    Style {
+        name: "endings",
+        capacities: &[1, 2, 4, 64],
+        slots: (1, 10),
+        lanes: 2,
+        acts: &[
+            (Register, 10), (Send, 14), (Unsignalled, 4), (Drop, 4), (Plain, 6), (Fair, 4), (Targeted, 3), (Batch, 4), (Pause, 5), (Resume, 2),
+            (Close, 1), (Held, 3), (PollAll, 1), (End, 8), (Drain, 2), (CloseReceiver, 1),
+        ],
+    },
+    Style {
+        name: "zero",
+        capacities: &[64, 128, 256, 64],
+        slots: (2, 7),
+        lanes: 3,
+        acts: &[
+            (Register, 6), (Send, 14), (Unsignalled, 4), (Fill, 4), (Drop, 3), (Plain, 6), (Fair, 2), (Targeted, 6), (Batch, 12), (Pause, 8),
+            (Resume, 8), (Close, 1), (PollAll, 4), (Held, 4), (Zero, 16), (Tangle, 4), (Drain, 1), (End, 1),
+        ],
+    },
+    Style {
+        name: "tangle",
+        capacities: &[2, 4, 8, 64, 128],
+        slots: (3, 12),
+        lanes: 5,
+        acts: &[(Tangle, 30), (Send, 4), (Fill, 1), (Churn, 1), (Drain, 1), (Held, 1), (Resume, 2)],
+    },
+    Style {
+        name: "wide",
+        capacities: &[1, 2, 4, 8],
+        slots: (65, 149),
+        lanes: 80,
+        acts: &[
+            (Register, 10), (Send, 40), (Unsignalled, 6), (Fill, 6), (Drop, 4), (Plain, 14), (Fair, 8), (Targeted, 4), (Batch, 8), (Pause, 4),
+            (Resume, 5), (Close, 2), (Release, 1), (PollAll, 1), (Held, 1), (Stale, 1), (Drain, 1), (Churn, 2), (Zero, 1), (Aim, 2),
+        ],
+    },
+];
+
+struct Stream<W: Write> {
+    random: Random,
+    rules: Rules,
+    output: W,
+    /// Records left of the stream, and of this opening.
+    left: u64,
+    here: u64,
+    item: u64,
+    /// Wide openings only, with up to so many lanes.
+    most_slots: Option<u64>,
+    /// Every opening has a first cursor and generation that the original does not have.
+    shifted: bool,
+}
+
+impl<W: Write> Stream<W> {
+    fn state(&self) -> &State {
+        self.rules.state.as_ref().expect("an opening was accepted")
+    }
+
+    fn emit(&mut self, kind: u16, fields: &[u64]) -> Answer {
+        let record = Record::new(kind, fields);
+        record.write(&mut self.output).expect("output is open");
+        self.left = self.left.saturating_sub(1);
+        self.here = self.here.saturating_sub(1);
+        self.rules.answer(&record)
+    }
+
+    fn over(&self) -> bool {
+        self.here == 0 || self.left == 0
+    }
+
+    /// An issued slot, if can be one that fits. A few slots at both ends of the pages and groups are taken more often.
+    fn slot(&mut self, fits: impl Fn(&Slot) -> bool) -> Option<usize> {
+        let issued = self.state().slots.len() as u64;
+        if issued == 0 {
+            return None;
+        }
+        let mut x = 0;
+        for _ in 0..12 {
+            x = match self.random.below(4) {
+                0 => self.random.below(issued.min(3)),
+                1 => self.random.pick(&[62, 63, 64, 65, 4094, 4095, 4096, 4097]) % issued,
+                _ => self.random.below(issued),
+            } as usize;
+            if fits(&self.state().slots[x]) {
+                break;
+            }
+        }
+        Some(x)
+    }
+
+    fn key(&mut self, fits: impl Fn(&Slot) -> bool) -> [u64; 2] {
+        match self.slot(fits) {
+            Some(x) => [x as u64, self.state().slots[x].generation],
+            None => [0, 0],
+        }
+    }
+
+    fn id(&mut self, fits: impl Fn(&Slot) -> bool) -> [u64; 3] {
+        let [slot, generation] = self.key(fits);
+        [self.state().channel, slot, generation]
+    }
+
+    /// How often a single call is made.
+    fn times(&mut self) -> u64 {
+        match self.random.below(10) {
+            0..=5 => 1,
+            6..=7 => 2 + self.random.below(5),
+            8 => 60 + self.random.below(7),
+            _ => 1 + self.random.below(130),
+        }
+    }
+
+    fn next_item(&mut self) -> u64 {
+        self.item += 1;
+        match self.random.below(40) {
+            0 => self.random.next(),
+            1 => u64::MAX,
+            2 => 0,
+            _ => self.item,
+        }
+    }
+
+    fn plain(&mut self) -> Answer {
+        if self.state().subtracts_from_zero() {
+            // The original ends here. Mostly another call takes its place, which the original has an answer to.
+            if self.random.one_in(60) {
+                self.here = self.here.min(12);
+            } else {
+                return match self.random.below(3) {
+                    0 => self.emit(FAIR, &[]),
+                    1 => self.emit(BATCH, &[0]),
+                    _ => {
+                        let limit = 1 + self.random.below(64);
+                        self.emit(BATCH, &[limit])
+                    }
+                };
+            }
+        }
+        self.emit(PLAIN, &[])
+    }
+
+    fn limit(&mut self) -> u64 {
+        let output = self.rules.lent.output;
+        match self.random.below(12) {
+            0 => 0,
+            1..=4 => 1 + self.random.below(4),
+            5 => output,
+            6 => output - 1,
+            7 if self.random.one_in(4) => output + 1 + self.random.below(3),
+            _ => self.random.below(output + 1),
+        }
+    }
+
+    fn receive(&mut self) -> Answer {
+        match self.random.below(8) {
+            0..=3 => self.plain(),
+            4..=5 => self.emit(FAIR, &[]),
+            _ => {
+                let limit = self.limit();
+                self.emit(BATCH, &[limit])
+            }
+        }
+    }
+
+    fn register(&mut self) {
+        let state = self.state();
+        let lanes = state.registered_lanes() as u64;
+        let full = state.free.is_empty() && state.slots.len() == state.most_slots;
+        let older = state.free.last().copied().filter(|&x| state.slots[x].living);
+        let most = match self.random.below(12) {
+            0 => lanes,
+            1 => self.random.below(lanes + 2),
+            2 => lanes + 1,
+            _ => u64::MAX,
+        };
+        if most > lanes && (full || older.is_some()) {
+            // The original has no refusal 8 or 9. Mostly the slot's older sender is dropped, or nothing is done.
+            if self.random.one_in(300) {
+                self.here = self.here.min(12);
+            } else if let Some(x) = older {
+                let generation = self.state().slots[x].generation;
+                self.emit(DROP, &[x as u64, generation]);
+            } else {
+                return;
+            }
+        }
+        self.emit(REGISTER, &[most]);
+    }
+
+    fn send(&mut self, kind: u16, times: u64) {
+        let [slot, generation] = self.key(|slot| slot.living);
+        for _ in 0..times {
+            let item = self.next_item();
+            let answer = self.emit(kind, &[slot, generation, item]);
+            if self.over() || matches!(answer, Answer::Refused(_)) && !self.random.one_in(8) {
+                break;
+            }
+        }
+    }
+
+    fn stale(&mut self) {
+        let [mut channel, mut slot, mut generation] = self.id(|_| true);
+        match self.random.below(6) {
+            0 => channel = channel.wrapping_add(1 + self.random.below(3)),
+            1 => generation = generation.wrapping_sub(1),
+            2 => generation = generation.wrapping_add(1),
+            3 => slot = self.random.below(self.state().most_slots as u64 + 2),
+            4 => slot = self.random.next(),
+            _ => {}
+        }
+        let kind = self.random.pick(&[SEND, UNSIGNALLED, DROP, TARGETED, PAUSE, RESUME, CLOSE]);
+        match kind {
+            SEND | UNSIGNALLED => self.emit(kind, &[slot, generation, 5]),
+            DROP if self.random.one_in(2) => self.emit(kind, &[slot, generation]),
+            DROP => self.emit(HELD, &[]),
+            _ => self.emit(kind, &[channel, slot, generation]),
+        };
+    }
+
+    /// Whether the front lane's next item meets a limit, or the budget is used up.
+    fn at_limit(&self) -> bool {
+        let state = self.state();
+        state.budget == 0
+            || state.queue.front().is_some_and(|&x| {
+                let slot = &state.slots[x];
+                slot.burst == 63 || slot.unreleased + 1 == state.release_batch()
+            })
+    }
+
+    /// Whether the front lane's next item completes a batch of credit.
+    fn at_credit(&self) -> bool {
+        let state = self.state();
+        state.queue.front().is_some_and(|&x| state.slots[x].unreleased + 1 == state.release_batch())
+    }
+
+    fn align(&mut self) {
+        for _ in 0..100 {
+            let answer = self.emit(BATCH, &[64]);
+            if self.over() || !matches!(answer, Answer::Items(_)) {
+                break;
+            }
+        }
+        // Found empty: bursts and unreleased counts 0; and budget 64.
+        self.emit(FAIR, &[]);
+        for _ in 0..1 + self.random.below(2) {
+            let times = self.state().capacity;
+            self.send(SEND, times);
+        }
+        for _ in 0..61 + self.random.below(4) {
+            self.plain();
+        }
+        self.after_aim();
+    }
+
+    fn after_aim(&mut self) {
+        if self.random.one_in(2) {
+            let act = self.random.pick(&[Fair, Targeted, Batch, Pause, Send, Register, Release, Resume, Fill]);
+            self.act(act);
+        }
+        for _ in 0..1 + self.random.below(4) {
+            self.receive();
+        }
+    }
+
+    fn aim(&mut self) {
+        let credit = self.random.one_in(3);
+        let steps = if credit { self.state().release_batch() + 70 } else { 130 };
+        for _ in 0..steps {
+            if self.over() || if credit { self.at_credit() } else { self.at_limit() } {
+                break;
+            }
+            if self.state().queue.is_empty() || self.random.one_in(200) {
+                self.send(SEND, 70);
+            }
+            if self.plain() == Answer::Empty && self.random.one_in(2) {
+                self.emit(POLL_ALL, &[]);
+            }
+        }
+        self.after_aim();
+    }
+
+    fn zero(&mut self) {
+        for _ in 0..200 {
+            if self.state().budget == 0 || self.over() {
+                break;
+            }
+            if matches!(self.plain(), Answer::Empty | Answer::Disconnected) {
+                self.send(SEND, 70);
+                if self.random.one_in(2) {
+                    self.emit(POLL_ALL, &[]);
+                }
+            }
+        }
+        // With the queue emptied or not, and lanes made ready or not.
+        if !self.random.one_in(3) {
+            self.empty_queue();
+        }
+        for _ in 0..self.random.below(4) {
+            let act = self.random.pick(&[Send, Unsignalled, Drop, Resume, PollAll, Targeted, Register, Churn]);
+            self.act(act);
+        }
+        self.receive();
+    }
+
+    /// Pauses, or now and then closes, all that is queued.
+    fn empty_queue(&mut self) {
+        for _ in 0..self.state().queue.len() {
+            let Some(&x) = self.state().queue.front() else { break };
+            let state = self.state();
+            let id = [state.channel, x as u64, state.slots[x].generation];
+            let kind = if self.random.one_in(12) { CLOSE } else { PAUSE };
+            self.emit(kind, &id);
+        }
+    }
+
+    fn tangle(&mut self) {
+        while self.state().registered_lanes() < self.state().most_slots.min(7) && !self.over() {
+            let before = self.left;
+            self.register();
+            if self.left == before {
+                break;
+            }
+        }
+        let near = self.random.below(3);
+        for _ in 0..150 {
+            if self.state().budget <= near || self.over() {
+                break;
+            }
+            if self.plain() == Answer::Empty {
+                self.send(SEND, 8);
+            }
+        }
+        if self.random.one_in(2) {
+            self.empty_queue();
+        }
+        if self.random.one_in(3) {
+            for _ in 0..2 + self.random.below(2) {
+                let key = self.key(|slot| slot.living && slot.registered && !slot.paused && slot.ring.is_empty());
+                self.emit(DROP, &key);
+            }
+            self.plain();
+        }
+        for _ in 0..8 + self.random.below(24) {
+            match self.random.below(16) {
+                0..=2 => self.act(Resume),
+                3 => self.act(Pause),
+                4..=7 => {
+                    let [slot, generation] = self.key(|slot| slot.living && slot.registered && slot.ring.len() < 3);
+                    let item = self.next_item();
+                    self.emit(SEND, &[slot, generation, item]);
+                }
+                8 => {
+                    let id = self.id(|slot| slot.registered && slot.ring.len() > 1);
+                    self.emit(TARGETED, &id);
+                }
+                9..=12 => {
+                    self.plain();
+                }
+                13 | 14 => {
+                    let limit = 1 + self.random.below(3);
+                    self.emit(BATCH, &[limit]);
+                }
+                _ => {
+                    let act = self.random.pick(&[Drop, Register, PollAll, Close, Unsignalled]);
+                    self.act(act);
+                }
+            }
+            if self.over() {
+                break;
+            }
+        }
+    }
+
+    fn end(&mut self) {
+        if self.state().slots.len() > 1_000 && !self.random.one_in(20) {
+            return self.drain();
+        }
+        for x in 0..self.state().slots.len() {
+            let state = self.state();
+            let slot = &state.slots[x];
+            let (living, generation, channel) = (slot.living, slot.generation, state.channel);
+            if self.over() {
+                return;
+            }
+            if self.random.one_in(4) {
+                self.emit(PAUSE, &[channel, x as u64, generation]);
+            }
+            if living && !self.random.one_in(30) {
+                self.emit(DROP, &[x as u64, generation]);
+            }
+        }
+        self.drain();
+        for _ in 0..self.random.below(6) {
+            let act = self.random.pick(&[Plain, Fair, Batch, Targeted, Resume, Register, Held]);
+            self.act(act);
+        }
+    }
+
+    fn drain(&mut self) {
+        let only = self.random.below(6);
+        for _ in 0..400 {
+            let answer = match only {
+                0 => self.plain(),
+                1 => self.emit(FAIR, &[]),
+                2 => self.emit(BATCH, &[64]),
+                _ => self.receive(),
+            };
+            if self.over() || matches!(answer, Answer::Empty | Answer::Disconnected | Answer::Refused(6)) {
+                break;
+            }
+        }
+    }
+
+    fn churn(&mut self) {
+        self.register();
+        let times = self.random.below(3);
+        self.send(SEND, times);
+        let [slot, generation] = self.key(|slot| slot.living);
+        if self.random.one_in(3) {
+            let channel = self.state().channel;
+            self.emit(CLOSE, &[channel, slot, generation]);
+        }
+        self.emit(DROP, &[slot, generation]);
+        if self.random.one_in(2) {
+            self.receive();
+        }
+    }
+
+    fn act(&mut self, act: Act) {
+        match act {
+            Register => self.register(),
+            Send => {
+                let times = 1 + self.random.below(3);
+                self.send(SEND, times);
+            }
+            Unsignalled => {
+                let times = 1 + self.random.below(3);
+                self.send(UNSIGNALLED, times);
+            }
+            Fill => {
+                let times = self.state().capacity + 1;
+                let kind = if self.random.one_in(8) { UNSIGNALLED } else { SEND };
+                self.send(kind, times);
+            }
+            Drop => {
+                let key = self.key(|slot| slot.living);
+                self.emit(DROP, &key);
+            }
+            Plain => {
+                for _ in 0..self.times() {
+                    let answer = self.plain();
+                    if self.over() || !matches!(answer, Answer::Item(..)) && !self.random.one_in(4) {
+                        break;
+                    }
+                }
+            }
+            Fair => {
+                for _ in 0..self.times() {
+                    let answer = self.emit(FAIR, &[]);
+                    if self.over() || !matches!(answer, Answer::Item(..)) && !self.random.one_in(4) {
+                        break;
+                    }
+                }
+            }
+            Targeted => {
+                let id = self.id(|slot| slot.registered);
+                for _ in 0..self.times() {
+                    let answer = self.emit(TARGETED, &id);
+                    if self.over() || !matches!(answer, Answer::Item(..)) {
+                        break;
+                    }
+                }
+            }
+            Batch => {
+                let limit = self.limit();
+                self.emit(BATCH, &[limit]);
+            }
+            Pause => {
+                let again = self.random.one_in(8);
+                let id = self.id(|slot| slot.registered && slot.paused == again);
+                self.emit(PAUSE, &id);
+            }
+            Resume => {
+                let paused = !self.random.one_in(8);
+                let id = self.id(|slot| slot.registered && slot.paused == paused);
+                self.emit(RESUME, &id);
+            }
+            Close => {
+                let id = self.id(|slot| slot.registered);
+                self.emit(CLOSE, &id);
+            }
+            Release => {
+                self.emit(RELEASE, &[]);
+            }
+            PollAll => {
+                self.emit(POLL_ALL, &[]);
+            }
+            CloseReceiver => {
+                if self.here < 60 || self.random.one_in(40) {
+                    self.emit(CLOSE_RECEIVER, &[]);
+                    self.here = self.here.min(25);
+                }
+            }
+            Held => {
+                self.emit(HELD, &[]);
+            }
+            Stale => self.stale(),
+            Aim => self.aim(),
+            Align => self.align(),
+            Zero => self.zero(),
+            Tangle => self.tangle(),
+            End => self.end(),
+            Drain => self.drain(),
+            Churn => self.churn(),
+        }
+    }
+
+    fn refused_opening(&mut self) {
+        let fields = self.random.pick(&[
+            [0, 1, 7, 0, 0],
+            [65_537, 1, 7, 0, 0],
+            [0, 0, 7, 0, 0],
+            [1, 0, 7, 0, 0],
+            [1, 8_193, 7, 0, 0],
+            [u64::MAX, u64::MAX, 7, 0, 0],
+            [65_536, 8_192, 7, 0, 0],
+        ]);
+        let answer = self.emit(OPEN, &fields);
+        assert!(self.rules.lent.rings > 1 << 28 || matches!(answer, Answer::Refused(_)));
+    }
+
+    /// Calls before the first registration; the original has an answer to these.
+    fn unregistered(&mut self) {
+        let channel = self.state().channel;
+        for _ in 0..self.random.below(6) {
+            match self.random.below(9) {
+                0 => self.emit(SEND, &[0, 0, 1]),
+                1 => self.emit(DROP, &[0, 0]),
+                2 => self.emit(TARGETED, &[channel, 0, 0]),
+                3 => self.emit(PAUSE, &[channel, 0, 0]),
+                4 => self.emit(BATCH, &[0]),
+                5 => self.emit(RELEASE, &[]),
+                6 => self.emit(POLL_ALL, &[]),
+                7 => self.emit(REGISTER, &[0]),
+                _ => self.emit(HELD, &[]),
+            };
+        }
+        if self.random.one_in(20) {
+            let kind = self.random.pick(&[PLAIN, FAIR]);
+            self.emit(kind, &[]);
+            self.here = self.here.min(20);
+        }
+    }
+
+    fn opening(&mut self, style: &Style) {
+        let lent = self.rules.lent;
+        let (low, high) = style.slots;
+        let (slots, capacity) = match self.most_slots {
+            Some(most) => (most - self.random.below(most / 16 + 1), self.random.pick(&[1, 2, 4])),
+            None => (low + self.random.below(high - low + 1), self.random.pick(style.capacities)),
+        };
+        let slots = slots.min((lent.table - 512) / 24);
+        let mut capacity = capacity;
+        while slots * capacity.next_power_of_two() > lent.rings && capacity > 1 {
+            capacity /= 2;
+        }
+        let slots = slots.min(lent.rings / capacity.next_power_of_two());
+        self.here = match self.random.below(8) {
+            0 => 40 + self.random.below(200),
+            _ => 300 + self.random.below(2_500),
+        } + 6 * self.most_slots.unwrap_or(0);
+        let channel = self.random.pick(&[7, 0, u64::MAX, 1 << 40]);
+        let (cursor, generation) = if self.shifted {
+            let below_top = [0, 1, 3, 70, 1_000].map(|n| u64::MAX - n);
+            (self.random.pick(&below_top), self.random.pick(&below_top))
+        } else if self.random.one_in(100) {
+            // Outside the original's domain; short.
+            self.here = self.here.min(60);
+            let near_top = u64::MAX - self.random.below(4);
+            self.random.pick(&[(near_top, 0), (0, near_top), (near_top, near_top), (3, 5)])
+        } else {
+            (0, 0)
+        };
+        let answer = self.emit(OPEN, &[capacity, slots, channel, cursor, generation]);
+        assert_eq!(answer, Answer::Done);
+        if self.random.one_in(6) {
+            self.unregistered();
+        }
+        let lanes = match self.most_slots {
+            Some(_) => slots - self.random.below(slots / 8 + 1),
+            None => (1 + self.random.below(2 * style.lanes)).min(slots),
+        };
+        for _ in 0..lanes {
+            if self.over() {
+                return;
+            }
+            self.emit(REGISTER, &[u64::MAX]);
+        }
+        let total: u64 = style.acts.iter().map(|(_, weight)| weight).sum();
+        while !self.over() {
+            if self.state().open && !self.state().any_living() && self.random.one_in(3) {
+                for _ in 0..1 + self.random.below(3) {
+                    self.register();
+                }
+            }
+            let mut at = self.random.below(total);
+            for &(act, weight) in style.acts {
+                if at < weight {
+                    self.act(act);
+                    break;
+                }
+                at -= weight;
+            }
+            if self.random.one_in(400) {
+                self.refused_opening();
+            }
+        }
+        if self.random.one_in(6) {
+            self.emit(CLOSE_RECEIVER, &[]);
+            for _ in 0..8 {
+                let act = self.random.pick(&[Held, Send, Unsignalled, Drop, Plain, Fair, Batch, Targeted, Pause, Register, Release, PollAll]);
+                self.act(act);
+            }
+        }
+    }
+
+    /// A record that is not one; it is the stream's last.
+    fn malformed(&mut self) {
+        let bytes: &[u8] = match self.random.below(7) {
+            0 => &[2],
+            1 => &[2, 0],
+            2 => &[2, 0, 5],
+            3 => &[2, 0, 16, 0],
+            4 => &[3, 0, 5, 0, 0],
+            5 => &[10, 0, 8, 0, 1, 0, 0],
+            _ => &[0, 0],
+        };
+        self.output.write_all(bytes).expect("output is open");
+    }
+}
+
+fn main() -> io::Result<()> {
+    let (lent, others) = Lent::from_arguments(std::env::args().skip(1));
+    let words: Vec<&str> = others.iter().map(String::as_str).collect();
+    let output = BufWriter::with_capacity(1 << 16, io::stdout().lock());
+    let number = |word: &str| word.parse::<u64>().unwrap_or_else(|_| panic!("not a number: {word}"));
+    let (seed, left, options) = match words[..] {
+        ["text"] => return text::records(io::stdin().lock(), output),
+        ["expected"] => return text::expected(io::stdin().lock(), output),
+        [seed, left, ref options @ ..] => (number(seed), number(left), options),
+        _ => panic!("streams SEED RECORDS [--slots N] [--style NAME], or streams text, or streams expected"),
+    };
+    let mut most_slots = None;
+    let mut only = None;
+    let mut shifted = false;
+    let mut options = options.iter();
+    while let Some(&option) = options.next() {
+        let mut value = || options.next().unwrap_or_else(|| panic!("{option} needs a value"));
+        match option {
+            "--slots" => most_slots = Some(number(value())),
+            "--style" => {
+                let name = value();
+                only = Some(STYLES.iter().position(|style| style.name == *name).expect("a style's name"));
+            }
+            "--shifted" => shifted = true,
+            _ => panic!("no such option: {option}"),
+        }
+    }
+    let mut stream = Stream {
+        random: Random(seed.wrapping_mul(0x2545_f491_4f6c_dd1d)),
+        rules: Rules::new(lent),
+        output,
+        left,
+        here: 0,
+        item: 0,
+        most_slots,
+        shifted,
+    };
+    if stream.random.one_in(10) {
+        stream.emit(PLAIN, &[]);
+        stream.refused_opening();
+        stream.emit(HELD, &[]);
+    }
+    let mut style = only.unwrap_or(seed as usize % STYLES.len());
+    while stream.left > 0 {
+        stream.opening(&STYLES[style]);
+        style = only.unwrap_or(stream.random.below(STYLES.len() as u64) as usize);
+    }
+    if stream.random.one_in(8) {
+        stream.malformed();
+    }
+    stream.output.flush()
+}
