@@ -42,7 +42,7 @@ module _ (s : State) (y v : ℕ) (q vs : List ℕ) (e : s .queue ≡ y ∷ q) (r
 abbrev pub chunked : State → ℕ → ℕ → State
 chunked s y n = withBudget (s .budget - n) (put y (popped (drop n (s .slotOf y .ring)) (s .slotOf y .unreleased + n) (s .slotOf y .burst + n) (s .slotOf y)) s)
 
-pub slot-path : (l m : Slot) → l .registered ≡ m .registered → l .living ≡ m .living → l .paused ≡ m .paused → l .pending ≡ m .pending → l .marked ≡ m .marked → l .generation ≡ m .generation → l .ring ≡ m .ring → l .unreleased ≡ m .unreleased → l .burst ≡ m .burst → l ≡ m
+slot-path : (l m : Slot) → l .registered ≡ m .registered → l .living ≡ m .living → l .paused ≡ m .paused → l .pending ≡ m .pending → l .marked ≡ m .marked → l .generation ≡ m .generation → l .ring ≡ m .ring → l .unreleased ≡ m .unreleased → l .burst ≡ m .burst → l ≡ m
 slot-path l m a b c d e f g h i = λ t. record { registered = a t; living = b t; paused = c t; pending = d t; marked = e t; generation = f t; ring = g t; unreleased = h t; burst = i t }
 
 give-item-chunk : (s : State) (y v : ℕ) (q vs : List ℕ) → s .queue ≡ y ∷ q → s .slotOf y .ring ≡ v ∷ vs → s .slotOf y .burst < 63 → s .slotOf y .unreleased + 1 ≢ releaseBatch (s .capacity) → 1 ≤ s .budget

@@ -5,9 +5,9 @@ use mathlib.Core.Bool.{Bool, true, false}
 use mathlib.Core.List.{List, [], _∷_, _++_, map}
 use Prim.Native.Nat.{ℕ, zero, suc, _+_, _-_, _≤_, _<_}
 use native.Mathlib.Omega.{arith}
-use lib.ListN.{length, take, drop}
+use lib.ListN.{length, getD, take, drop}
 use lib.Dec.{eqb, leb}
-use borrow.Author.Tests.{lt-leb, le-leb, eq-eqb, ne-eqb}
+use borrow.Author.Tests.{lt-leb, le-leb, ne-eqb}
 use Rattle.model.specs.declared.LaneKey.{LaneKey}
 use Rattle.model.specs.Lists.{if}
 use Rattle.model.specs.State.{Slot, State, keyOf, releaseBatch}
@@ -16,7 +16,9 @@ use Rattle.model.specs.Turn.{refill, unreleasedAfterOne, giveItem, Took,
 use Rattle.model.specs.Receive.{andMore, takeUpTo}
 use Rattle.model.proofs.Counting.{Same, equal, other, same?, self}
 use Rattle.model.proofs.Words.{state-path}
-use Rattle.model.proofs.Chunks.{slot-path, polled-front}
+use Rattle.model.proofs.Quiet.{poll}
+use Rattle.model.proofs.WaitInReceive.{Settled, nothing-queued, front, poll-settled}
+use Rattle.model.proofs.Chunks.{polled-front}
 
 -- The first n items of lane y, as they are handed out.
 abbrev pub firstOf : State → ℕ → ℕ → List (LaneKey × ℕ)
@@ -191,3 +193,31 @@ take-whole-chunk (suc m) s y q e f = ap (λ (k : ℕ). takeFirst k s) (one-less 
   where
     one-less : (k : ℕ) → suc k - 1 ≡ k
     one-less k = omega arith
+
+-- A BATCH IN CHUNKS
+
+-- the poll ends at a lane with an item, or with nothing queued
+polled-settled : (s : State) → Settled (polled s)
+unfolding poll
+polled-settled s = poll-settled false s
+
+pub polled-front-holds : (s : State) (y : ℕ) (q : List ℕ) → (polled s) .queue ≡ y ∷ q → 1 ≤ length ((polled s) .slotOf y .ring)
+polled-front-holds s y q e = go (polled-settled s)
+  where
+    go : Settled (polled s) → 1 ≤ length ((polled s) .slotOf y .ring)
+    go (nothing-queued f) = absurd (omega (arith, ap length (sym f ∙ e)))
+    go (front x v p vs f r) =
+        let x-is-y : x ≡ y = ap (λ (l : List ℕ). getD l 0 0) (sym f ∙ e) in
+        omega (arith, ap (λ (z : ℕ). length ((polled s) .slotOf z .ring)) x-is-y, ap length r)
+
+-- nothing is queued and nothing is ready
+pub take-up-to-none : (n : ℕ) (s : State) → 1 ≤ n → (polled s) .queue ≡ [] → takeUpTo n s ≡ ([], polled s)
+unfolding takeUpTo andMore takeOne giveFront
+take-up-to-none zero s h e = absurd (omega arith)
+take-up-to-none (suc m) s h e = ap (λ (l : List ℕ). (let t = giveFront false (polled s) l in andMore (t .0) (t .1) (takeUpTo m (t .1)))) e
+
+-- a chunk of the front lane
+pub take-up-to-polled : (n : ℕ) (s : State) (y : ℕ) (q : List ℕ) → (polled s) .queue ≡ y ∷ q → ChunkFits (polled s) y n → takeUpTo n s ≡ (firstOf (polled s) y n, given (polled s) y q n)
+unfolding takeUpTo takeOne
+take-up-to-polled zero s y q e f = absurd (omega (arith, f .some))
+take-up-to-polled (suc m) s y q e f = take-whole m (polled s) y q e f
