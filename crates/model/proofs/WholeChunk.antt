@@ -2,10 +2,11 @@
 -- Assumes nothing.
 use mathlib.Core.Path.{_≡_, refl, ap, sym, _∙_}
 use mathlib.Core.Bool.{Bool, true, false}
-use mathlib.Core.List.{List, [], _∷_, _++_, map}
-use Prim.Native.Nat.{ℕ, zero, suc, _+_, _-_, _≤_, _<_}
+use mathlib.Core.List.{List, [], _∷_, _++_, map, append-assoc}
+use Prim.Native.Nat.{ℕ, zero, suc, _+_, _-_, _≤_, _<_, min}
 use native.Mathlib.Omega.{arith}
-use lib.ListN.{length, getD, take, drop}
+use native.Mathlib.Nat.{zero-add, suc-add}
+use lib.ListN.{length, getD, take, drop, length-take, length-map}
 use lib.Dec.{eqb, leb}
 use borrow.Author.Tests.{lt-leb, le-leb, ne-eqb}
 use Rattle.model.specs.declared.LaneKey.{LaneKey}
@@ -221,3 +222,54 @@ pub take-up-to-polled : (n : ℕ) (s : State) (y : ℕ) (q : List ℕ) → (poll
 unfolding takeUpTo takeOne
 take-up-to-polled zero s y q e f = absurd (omega (arith, f .some))
 take-up-to-polled (suc m) s y q e f = take-whole m (polled s) y q e f
+
+-- What was handed out before, and what a take hands out after it.
+abbrev pub onto : List (LaneKey × ℕ) → Took → Took
+onto l t = (l ++ t .0, t .1)
+
+-- n items were there: m more are taken after them
+pub take-up-to-more : (n m : ℕ) (s : State) → length ((takeUpTo n s) .0) ≡ n → takeUpTo (n + m) s ≡ onto ((takeUpTo n s) .0) (takeUpTo m ((takeUpTo n s) .1))
+unfolding takeUpTo andMore
+take-up-to-more zero m s h = ap (λ (k : ℕ). takeUpTo k s) (zero-add m)
+take-up-to-more (suc n) m s h = ap (λ (k : ℕ). takeUpTo k s) (suc-add n m) ∙ go ((takeOne s) .0) ((takeOne s) .1) (take-up-to-more n m ((takeOne s) .1)) h
+  where
+    go : (l : List (LaneKey × ℕ)) (u : State) → (length ((takeUpTo n u) .0) ≡ n → takeUpTo (n + m) u ≡ onto ((takeUpTo n u) .0) (takeUpTo m ((takeUpTo n u) .1)))
+        → length ((andMore l u (takeUpTo n u)) .0) ≡ suc n → andMore l u (takeUpTo (n + m) u) ≡ onto ((andMore l u (takeUpTo n u)) .0) (takeUpTo m ((andMore l u (takeUpTo n u)) .1))
+    go [] u ih k = absurd (omega arith)
+    go (g ∷ l) u ih k = ap (λ (t : Took). (g ∷ t .0, t .1)) (ih (omega arith))
+
+-- fewer than n were there: nothing is queued and nothing is ready any more
+pub take-up-to-short : (n m : ℕ) (s : State) → length ((takeUpTo n s) .0) < n → takeUpTo (n + m) s ≡ takeUpTo n s
+unfolding takeUpTo andMore
+take-up-to-short zero m s h = absurd (omega arith)
+take-up-to-short (suc n) m s h = ap (λ (k : ℕ). takeUpTo k s) (suc-add n m) ∙ go ((takeOne s) .0) ((takeOne s) .1) (take-up-to-short n m ((takeOne s) .1)) h
+  where
+    go : (l : List (LaneKey × ℕ)) (u : State) → (length ((takeUpTo n u) .0) < n → takeUpTo (n + m) u ≡ takeUpTo n u)
+        → length ((andMore l u (takeUpTo n u)) .0) < suc n → andMore l u (takeUpTo (n + m) u) ≡ andMore l u (takeUpTo n u)
+    go [] u ih k = refl
+    go (g ∷ l) u ih k = ap (λ (t : Took). (g ∷ t .0, t .1)) (ih (omega arith))
+
+pub length-first-of : (n : ℕ) (s : State) (y : ℕ) → n ≤ length (s .slotOf y .ring) → length (firstOf s y n) ≡ n
+length-first-of n s y h = length-map (take n (s .slotOf y .ring)) (λ v. (keyOf s y, v)) ∙ length-take n (s .slotOf y .ring) ∙ least n (length (s .slotOf y .ring)) h
+  where
+    least : (a b : ℕ) → a ≤ b → min a b ≡ a
+    least a b i = omega arith
+
+-- a batch is a chunk of the front lane, and the batch of what is left of the limit
+module _ (limit n : ℕ) (s : State) (y : ℕ) (q : List ℕ) (e : (polled s) .queue ≡ y ∷ q) (f : ChunkFits (polled s) y n) (h : n ≤ limit) where
+  pub take-up-to-chunk : takeUpTo limit s ≡ onto (firstOf (polled s) y n) (takeUpTo (limit - n) (given (polled s) y q n))
+  take-up-to-chunk =
+      let first : takeUpTo n s ≡ (firstOf (polled s) y n, given (polled s) y q n) = take-up-to-polled n s y q e f in
+      let all : length ((takeUpTo n s) .0) ≡ n = ap (λ (t : Took). length (t .0)) first ∙ length-first-of n (polled s) y (f .in-ring) in
+      ap (λ (k : ℕ). takeUpTo k s) (split limit n h)
+      ∙ take-up-to-more n (limit - n) s all
+      ∙ ap (λ (t : Took). onto (t .0) (takeUpTo (limit - n) (t .1))) first
+    where
+      split : (a b : ℕ) → b ≤ a → a ≡ b + (a - b)
+      split a b i = omega arith
+
+  -- with l handed out before it: what a loop over chunks keeps
+  pub take-up-to-chunk-onto : (l : List (LaneKey × ℕ)) → onto l (takeUpTo limit s) ≡ onto (l ++ firstOf (polled s) y n) (takeUpTo (limit - n) (given (polled s) y q n))
+  take-up-to-chunk-onto l =
+      let t : Took = takeUpTo (limit - n) (given (polled s) y q n) in
+      ap (onto l) take-up-to-chunk ∙ ap (λ (i : List (LaneKey × ℕ)). (i, t .1)) (sym (append-assoc l (firstOf (polled s) y n) (t .0)))
