@@ -1,8 +1,8 @@
 -- A chunk of the front lane, taken at once, is that many of a batch's items: up to where the burst, the release batch or the budget runs out, and that item too.
 -- Assumes nothing.
-use mathlib.Core.Path.{_≡_, refl, ap, sym, _∙_}
+use mathlib.Core.Path.{_≡_, refl, ap, sym, _∙_, subst}
 use mathlib.Core.Bool.{Bool, true, false}
-use mathlib.Core.List.{List, [], _∷_, _++_, map, append-assoc}
+use mathlib.Core.List.{List, [], _∷_, _++_, map, append-assoc, append-nil}
 use Prim.Native.Nat.{ℕ, zero, suc, _+_, _-_, _≤_, _<_, min}
 use native.Mathlib.Omega.{arith}
 use native.Mathlib.Nat.{zero-add, suc-add}
@@ -17,6 +17,8 @@ use Rattle.model.specs.Turn.{refill, unreleasedAfterOne, giveItem, Took,
 use Rattle.model.specs.Receive.{andMore, takeUpTo}
 use Rattle.model.proofs.Counting.{Same, equal, other, same?, self}
 use Rattle.model.proofs.Words.{state-path}
+use Rattle.model.specs.Order.{Ordered}
+use Rattle.model.proofs.OrderKept.{give-front-ordered, take-one-ordered}
 use Rattle.model.proofs.Quiet.{poll}
 use Rattle.model.proofs.WaitInReceive.{Settled, nothing-queued, front, poll-settled}
 use Rattle.model.proofs.Chunks.{polled-front}
@@ -273,3 +275,30 @@ module _ (limit n : ℕ) (s : State) (y : ℕ) (q : List ℕ) (e : (polled s) .q
   take-up-to-chunk-onto l =
       let t : Took = takeUpTo (limit - n) (given (polled s) y q n) in
       ap (onto l) take-up-to-chunk ∙ ap (λ (i : List (LaneKey × ℕ)). (i, t .1)) (sym (append-assoc l (firstOf (polled s) y n) (t .0)))
+
+-- where such a loop ends: the limit is reached, or nothing is queued and nothing is ready
+pub take-none-onto : (l : List (LaneKey × ℕ)) (s : State) → onto l (takeUpTo 0 s) ≡ (l, s)
+unfolding takeUpTo
+take-none-onto l s = ap (λ (i : List (LaneKey × ℕ)). (i, s)) (append-nil l)
+
+pub take-up-to-none-onto : (l : List (LaneKey × ℕ)) (n : ℕ) (s : State) → 1 ≤ n → (polled s) .queue ≡ [] → onto l (takeUpTo n s) ≡ (l, polled s)
+take-up-to-none-onto l n s h e = ap (onto l) (take-up-to-none n s h e) ∙ ap (λ (i : List (LaneKey × ℕ)). (i, polled s)) (append-nil l)
+
+-- ORDER
+
+and-more-ordered : (l : List (LaneKey × ℕ)) (m : ℕ) (s : State) → Ordered s → (Ordered s → Ordered ((takeUpTo m s) .1)) → Ordered ((andMore l s (takeUpTo m s)) .1)
+unfolding andMore
+and-more-ordered [] m s o h = o
+and-more-ordered (g ∷ l) m s o h = h o
+
+-- a batch's takes keep it, and so does a chunk
+pub take-up-to-ordered : (n : ℕ) (s : State) → Ordered s → Ordered ((takeUpTo n s) .1)
+unfolding takeUpTo
+take-up-to-ordered zero s o = o
+take-up-to-ordered (suc m) s o = and-more-ordered ((takeOne s) .0) m ((takeOne s) .1) (take-one-ordered s o) (take-up-to-ordered m ((takeOne s) .1))
+
+pub given-ordered : (n : ℕ) (s : State) (y : ℕ) (q : List ℕ) → s .queue ≡ y ∷ q → ChunkFits s y n → Ordered s → Ordered (given s y q n)
+given-ordered n s y q e f o =
+    let t : Took = giveFront false s (s .queue) in
+    let u : Ordered (t .1) = give-front-ordered false s (s .queue) refl o in
+    subst (λ (r : Took). Ordered (r .1)) (take-whole-chunk n s y q e f) (and-more-ordered (t .0) (n - 1) (t .1) u (take-up-to-ordered (n - 1) (t .1)))
