@@ -1,7 +1,7 @@
 -- A chunk of the front lane, taken at once, is that many of a batch's items: up to where the burst, the release batch or the budget runs out, and that item too.
 -- Assumes nothing.
 use mathlib.Core.Path.{_≡_, refl, ap, sym, _∙_, subst}
-use mathlib.Core.Bool.{Bool, true, false}
+use mathlib.Core.Bool.{false}
 use mathlib.Core.List.{List, [], _∷_, _++_, map, append-assoc, append-nil}
 use Prim.Native.Nat.{ℕ, zero, suc, _+_, _-_, _≤_, _<_, min}
 use native.Mathlib.Omega.{arith}
@@ -15,9 +15,9 @@ use Rattle.model.specs.State.{Slot, State, keyOf, releaseBatch}
 use Rattle.model.specs.Changes.{withBudget, withQueue, put, popped}
 use Rattle.model.specs.Turn.{refill, unreleasedAfterOne, giveItem, Took, giveOldest, giveFront, polled, takeOne}
 use Rattle.model.specs.Receive.{andMore, takeUpTo}
+use Rattle.model.specs.Order.{Ordered}
 use Rattle.model.proofs.Counting.{Same, equal, other, same?, self}
 use Rattle.model.proofs.Words.{state-path}
-use Rattle.model.specs.Order.{Ordered}
 use Rattle.model.proofs.OrderKept.{give-front-ordered, take-one-ordered}
 use Rattle.model.proofs.Quiet.{poll}
 use Rattle.model.proofs.WaitInReceive.{Settled, nothing-queued, front, poll-settled}
