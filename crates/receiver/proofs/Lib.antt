@@ -41,3 +41,4 @@ pub mod DrainedLaws
 pub mod TargetLaws
 pub mod LeftView
 pub mod GaveView
+pub mod TurnView
