@@ -42,3 +42,4 @@ pub mod TargetLaws
 pub mod LeftView
 pub mod GaveView
 pub mod TurnView
+pub mod WindowView
