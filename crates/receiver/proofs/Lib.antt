@@ -43,3 +43,4 @@ pub mod LeftView
 pub mod GaveView
 pub mod TurnView
 pub mod WindowView
+pub mod WindowTakes
