@@ -44,3 +44,4 @@ pub mod GaveView
 pub mod TurnView
 pub mod WindowView
 pub mod WindowTakes
+pub mod TakeOneView
