@@ -40,3 +40,4 @@ pub mod ReceiveLaws
 pub mod DrainedLaws
 pub mod TargetLaws
 pub mod NothingTakenLaws
+pub mod LeftView
