@@ -41,3 +41,4 @@ pub mod DrainedLaws
 pub mod TargetLaws
 pub mod NothingTakenLaws
 pub mod LeftView
+pub mod FoundEmptyLaws
