@@ -1,13 +1,13 @@
 -- A lane found empty that was stored and left the queue, wherever it stood there: what the rules see of it, and that a store in order is left.
 -- Assumes nothing.
-use mathlib.Core.Path.{_≡_, refl, sym, ap, _∙_, subst}
+use mathlib.Core.Path.{_≡_, sym, ap, _∙_, subst}
 use mathlib.Core.Logic.{_≢_}
 use mathlib.Core.Bool.{Bool, true, false, cond, not}
 use mathlib.Core.List.{List}
 use Prim.Native.Nat.{ℕ, _+_, _-_, _<_}
 use native.Mathlib.Omega.{arith}
 use Rattle.model.specs.Lists.{count}
-use Rattle.model.specs.State.{Slot, State}
+use Rattle.model.specs.State.{Slot}
 use Rattle.model.specs.Changes.{withQueue, put, settledEmpty}
 use Rattle.model.specs.Order.{Ordered}
 use Rattle.model.specs.Turn as rules

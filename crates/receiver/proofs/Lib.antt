@@ -42,3 +42,5 @@ pub mod TargetLaws
 pub mod NothingTakenLaws
 pub mod LeftView
 pub mod FoundEmptyLaws
+pub mod TargetTookLaws
+pub mod TryRecvFromLaws
