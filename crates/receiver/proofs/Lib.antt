@@ -44,3 +44,5 @@ pub mod LeftView
 pub mod FoundEmptyLaws
 pub mod TargetTookLaws
 pub mod TryRecvFromLaws
+pub mod HandsLaws
+pub mod StaleNever
