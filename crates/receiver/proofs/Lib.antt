@@ -40,3 +40,15 @@ pub mod ReceiveLaws
 pub mod DrainedLaws
 pub mod TargetLaws
 pub mod OutputLaws
+pub mod NothingTakenLaws
+pub mod LeftView
+pub mod GaveView
+pub mod TurnView
+pub mod WindowView
+pub mod WindowTakes
+pub mod TakeOneView
+pub mod FoundEmptyLaws
+pub mod TargetTookLaws
+pub mod TryRecvFromLaws
+pub mod HandsLaws
+pub mod StaleNever
