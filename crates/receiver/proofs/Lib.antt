@@ -52,3 +52,7 @@ pub mod TargetTookLaws
 pub mod TryRecvFromLaws
 pub mod HandsLaws
 pub mod StaleNever
+pub mod LookLaws
+pub mod ChunkLaws
+pub mod DrainLaws
+pub mod BatchLaws
