@@ -51,3 +51,4 @@ pub mod TargetTookLaws
 pub mod TryRecvFromLaws
 pub mod HandsLaws
 pub mod StaleNever
+pub mod ChannelKept
