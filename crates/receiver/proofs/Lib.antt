@@ -52,3 +52,4 @@ pub mod TryRecvFromLaws
 pub mod HandsLaws
 pub mod StaleNever
 pub mod ChannelKept
+pub mod TryRecvLaws
