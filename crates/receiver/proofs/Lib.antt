@@ -53,3 +53,5 @@ pub mod HandsLaws
 pub mod StaleNever
 pub mod ChannelKept
 pub mod TryRecvLaws
+pub mod TakeFairView
+pub mod TryRecvFairLaws

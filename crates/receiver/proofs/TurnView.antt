@@ -56,6 +56,15 @@ pub record TookAs (r : List ℕ) (o : Took × List ℕ) (w : rules.Took) : Type 
 unfoldable pub turnsFrom : Bool → List ℕ → State → rules.Took
 turnsFrom fair q s = let u = rules.runDownFrom q s in rules.giveFront fair u (u .queue)
 
+-- a front lane that has an item gives it
+pub turns-from-front : (fair : Bool) (s : State) (x v : ℕ) (q vs : List ℕ) → s .queue ≡ x ∷ q → s .slotOf x .ring ≡ v ∷ vs
+    → turnsFrom fair (x ∷ q) s ≡ ((keyOf s x, v) ∷ [], rules.giveItem s x q vs (either fair (leb 63 (s .slotOf x .burst))))
+unfolding turnsFrom rules.runDownFrom rules.giveFront rules.giveOldest
+turns-from-front fair s x v q vs e f =
+    ap (λ (l : List ℕ). let u = if (nonEmpty l) s (rules.runDownFrom q (rules.beforeNextTurn q (rules.settleEmpty x q s))) in rules.giveFront fair u (u .queue)) f
+    ∙ ap (rules.giveFront fair s) e
+    ∙ ap (rules.giveOldest s fair x q) f
+
 -- ---- the front lane by the queue's first slot
 
 module _ (t r : List ℕ) (o : StoreInOrder t r) (fair : Bool) (x : ℕ) (q : List ℕ) (e : queueOf t ≡ x ∷ q) where
@@ -84,11 +93,7 @@ module _ (t r : List ℕ) (o : StoreInOrder t r) (fair : Bool) (x : ℕ) (q : Li
         ∙ ap₂ (λ (a b : ℕ). record { slot = a; generation = b }) (slot-of-lane t x) (ap (λ (y : Slot). y .generation) (sym (slot-in t r x (front .is-issued))))
 
     turns-given : turnsFrom fair (x ∷ q) s ≡ ((keyOf s x, item) ∷ [], rules.giveItem s x q (held (ringOf x (capacity t)) r m) (either fair (leb 63 (s .slotOf x .burst))))
-    unfolding turnsFrom rules.runDownFrom rules.giveFront rules.giveOldest
-    turns-given =
-        ap (λ (l : List ℕ). let u = if (nonEmpty l) s (rules.runDownFrom q (rules.beforeNextTurn q (rules.settleEmpty x q s))) in rules.giveFront fair u (u .queue)) (gave-first t r o x q e fair item rotate m k)
-        ∙ ap (rules.giveFront fair s) queue-seen
-        ∙ ap (rules.giveOldest s fair x q) (gave-first t r o x q e fair item rotate m k)
+    turns-given = turns-from-front fair s x item q (held (ringOf x (capacity t)) r m) queue-seen (gave-first t r o x q e fair item rotate m k)
 
     took-given : TookAs r (Took.Item item (m .key), gaveFront t rotate m) (turnsFrom fair (x ∷ q) s)
     took-given =
@@ -147,6 +152,10 @@ turns-within-alike (x ∷ q) t r fair o e =
         (ih (budgetMet (leftFront t found)) (left-ordered t r o fair x q e found k) (left-rest t r o fair x q e found k))
 
 -- the rules' run down and their front lane's item
+pub turns-from-is : (fair : Bool) (s : State) → turnsFrom fair (s .queue) s ≡ (let u = rules.runDown s in rules.giveFront fair u (u .queue))
+unfolding turnsFrom rules.runDown
+turns-from-is fair s = refl
+
 pub turns-alike : (t r : List ℕ) (fair : Bool) → StoreInOrder t r → TookAs r (turns t r fair) (let s = rules.runDown (view t r) in rules.giveFront fair s (s .queue))
 unfolding turns turnsFrom rules.runDown view
 turns-alike t r fair o = subst (λ (n : ℕ). TookAs r (turnsWithin n t r fair) (turnsFrom fair (queueOf t) (view t r))) (length-queue t) (turns-within-alike (queueOf t) t r fair o refl)
