@@ -1,14 +1,14 @@
 -- The fast window and the front lane's window: an item of either is the one that the rules take.
 -- Assumes nothing.
-use mathlib.Core.Path.{_≡_, refl, sym, ap, ap₂, _∙_, subst}
+use mathlib.Core.Path.{_≡_, refl, sym, ap, _∙_, subst}
 use mathlib.Core.Bool.{Bool, true, false, cond}
 use mathlib.Core.List.{List, [], _∷_}
 use Prim.Native.Nat.{ℕ, _+_, _-_, _≤_, _<_}
 use native.Mathlib.Omega.{arith}
 use borrow.Author.Tests.{ltb-true, eqb-true, eqb-false, lt-leb}
-use lib.Dec.{eqb, ltb, leb}
+use lib.Dec.{eqb, ltb}
 use lib.ListN.{length, take, drop}
-use Rattle.model.specs.State.{Slot, State, keyOf}
+use Rattle.model.specs.State.{Slot, keyOf}
 use Rattle.model.specs.Turn as rules
 use Rattle.model.proofs.Chunks.{take-one-front}
 use Rattle.lane.specs.declared.ring.Ring.{Ring}
@@ -28,7 +28,7 @@ use Rattle.ready.proofs.QueueLaws.{queue-front}
 use Rattle.receiver.specs.declared.turn.Took.{Took}
 use Rattle.receiver.specs.declared.turn.Took.the-variants as Took
 use Rattle.receiver.specs.View.{slotAt, view}
-use Rattle.receiver.specs.Order.{Fast, Stores, StoreInOrder}
+use Rattle.receiver.specs.Order.{Stores, StoreInOrder}
 use Rattle.receiver.specs.Turn.{frontLane}
 use Rattle.receiver.specs.Receive.{windowTook, fastTook, takeFast, openTook, takeWindow}
 use Rattle.receiver.proofs.ViewLaws.{slot-in, view-fast-slot}
