@@ -22,7 +22,7 @@ use Rattle.lane.specs.Order.{Counts, InOrder, poppedLane}
 use Rattle.lane.specs.Table.{laneAt, setHead}
 use Rattle.lane.proofs.OrderLaws.{cond-holds, pop-fair-keeps}
 use Rattle.lane.proofs.HeldLaws.{pop-fair-takes-first}
-use Rattle.lane.proofs.TableLaws.{frames, slot-of-lane}
+use Rattle.lane.proofs.TableLaws.{frames}
 use Rattle.ready.specs.Header.{issued, queueCount, budget, capacity}
 use Rattle.ready.specs.Queue.{queueOf, frontSlot, poppedFront}
 use Rattle.ready.specs.Ready.{collectReady}
@@ -35,8 +35,9 @@ use Rattle.receiver.specs.Receive.{windowTook, openTook, takeLone, takeF
 use Rattle.receiver.proofs.ViewLaws.{view-budget, view-fast-slot}
 use Rattle.receiver.proofs.StoreLaws.{issued-ring-in}
 use Rattle.receiver.proofs.CollectedView.{view-collect-all}
-use Rattle.receiver.proofs.LaneFields.{Flagged, flagged, flagged-pop-fair}
+use Rattle.receiver.proofs.LaneFields.{flagged, flagged-pop-fair}
 use Rattle.receiver.proofs.LaneView.{pop-fair-more}
+use Rattle.receiver.proofs.SameFlags.{slot-by}
 use Rattle.receiver.proofs.BetweenTurns.{FrontLane, front-lane, full-budget-in-order, collected-in-order}
 use Rattle.receiver.proofs.ReceiveLaws.{take-lone-unmoved}
 use Rattle.receiver.proofs.TurnView.{TookAs, turnsFrom, turns-from-front, turns-from-is, turns-alike, no-length}
@@ -85,14 +86,13 @@ module _ (t r : List ℕ) (o : StoreInOrder t r) (b : budget t ≡ 64) where
     unfolding view
     lone-taken item m e =
         let k = pops-fair t r (o .stores) x (front .is-issued) (front .registered) b item m e in
-        let at : m .key .slot ≡ x = ap (λ (z : Flagged). z .0 .slot) (k .same-flags) ∙ slot-of-lane t x in
         let s = step-fast-moved t r (o .stores) x in
         let same : view (setHead t 12 x) r ≡ view t r = view-fast-slot t r (o .stores .shaped) x in
         let left : List ℕ = held (ringOf x (capacity t)) r m in
         let given : turnsFrom true (queueOf t) (view t r) ≡ ((keyOf (view t r) x, item) ∷ [], rules.giveItem (view t r) x [] left true) =
         ap (λ (q : List ℕ). turnsFrom true q (view t r)) queue-is
         ∙ turns-from-front true (view t r) x item [] left queue-is (window-first t r o x [] queue-is item 0 m k (setHead t 12 x) s same) in
-        subst (λ (z : ℕ). TookAs r (windowTook (setHead t 12 z) item m) (turnsFrom true (queueOf t) (view t r))) (sym at)
+        subst (λ (z : ℕ). TookAs r (windowTook (setHead t 12 z) item m) (turnsFrom true (queueOf t) (view t r))) (sym (slot-by t x m (k .same-flags)))
         (subst (TookAs r (windowTook (setHead t 12 x) item m)) (sym given)
         (window-took t r o x [] queue-is item 0 m k (setHead t 12 x) s same true refl refl (λ z. absurd (no refl z))))
 
