@@ -41,13 +41,15 @@ pub mod DrainedLaws
 pub mod TargetLaws
 pub mod OutputLaws
 pub mod NothingTakenLaws
+pub mod SameFlags
+pub mod EmptyLaneLaws
+pub mod FoundEmptyLaws
 pub mod LeftView
 pub mod GaveView
 pub mod TurnView
 pub mod WindowView
 pub mod WindowTakes
 pub mod TakeOneView
-pub mod FoundEmptyLaws
 pub mod TargetTookLaws
 pub mod TryRecvFromLaws
 pub mod HandsLaws
@@ -56,3 +58,7 @@ pub mod LookLaws
 pub mod ChunkLaws
 pub mod DrainLaws
 pub mod BatchLaws
+pub mod ChannelKept
+pub mod TryRecvLaws
+pub mod TakeFairView
+pub mod TryRecvFairLaws
