@@ -2,7 +2,7 @@
 -- Assumes nothing.
 use mathlib.Core.Path.{_≡_, refl, sym, ap, ap₂, _∙_, subst}
 use mathlib.Core.Bool.{Bool, true, false, cond}
-use mathlib.Core.List.{List, [], _∷_, _++_, map}
+use mathlib.Core.List.{List, [], _∷_, _++_, map, append-nil, append-assoc}
 use Prim.Native.Nat.{ℕ, zero, suc, _+_, _-_, _≤_, _<_}
 use native.Mathlib.Omega.{arith}
 use borrow.Author.Tests.{eq-eqb, ne-eqb, eqb-false}
@@ -27,14 +27,6 @@ use Rattle.receiver.proofs.OutputLaws.{output-none, output-chunk, lengt
 
 abbrev Handed : Type 0
 Handed = List (LaneKey × ℕ)
-
-append-nil : (l : Handed) → l ++ [] ≡ l
-append-nil [] = refl
-append-nil (g ∷ l) = ap (λ (m : Handed). g ∷ m) (append-nil l)
-
-append-assoc : (l m n : Handed) → (l ++ m) ++ n ≡ l ++ (m ++ n)
-append-assoc [] m n = refl
-append-assoc (g ∷ l) m n = ap (λ (k : Handed). g ∷ k) (append-assoc l m n)
 
 length-tab : (n : ℕ) (f : ℕ → ℕ) → length (tab n f) ≡ n
 length-tab zero f = refl

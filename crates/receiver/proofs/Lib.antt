@@ -45,6 +45,7 @@ pub mod SameFlags
 pub mod EmptyLaneLaws
 pub mod FoundEmptyLaws
 pub mod LeftView
+pub mod FrontBack
 pub mod GaveView
 pub mod TurnView
 pub mod WindowView
