@@ -55,11 +55,12 @@ pub mod TargetTookLaws
 pub mod TryRecvFromLaws
 pub mod HandsLaws
 pub mod StaleNever
-pub mod LookLaws
-pub mod ChunkLaws
-pub mod DrainLaws
-pub mod BatchLaws
 pub mod ChannelKept
 pub mod TryRecvLaws
 pub mod TakeFairView
 pub mod TryRecvFairLaws
+pub mod LookLaws
+pub mod ChunkLaws
+pub mod DrainLaws
+pub mod BatchLaws
+pub mod LookView
