@@ -7,7 +7,7 @@ use mathlib.Core.List.{List, [], _∷_, _++_}
 use Prim.Native.Nat.{ℕ, _+_, _-_}
 use native.Mathlib.Omega.{arith}
 use Rattle.model.specs.Lists.{if, count}
-use Rattle.model.specs.State.{Slot, State}
+use Rattle.model.specs.State.{State}
 use Rattle.model.specs.Changes.{withQueue, withBudget, put, withRing, popped}
 use Rattle.model.proofs.OrderKept as kept
 use Rattle.lane.specs.declared.lane.Lane.{Lane}

@@ -64,3 +64,6 @@ pub mod ChunkLaws
 pub mod DrainLaws
 pub mod BatchLaws
 pub mod LookView
+pub mod ChunkView
+pub mod DrainView
+pub mod TryRecvBatchLaws

@@ -30,9 +30,9 @@ use Rattle.receiver.specs.declared.drain.Front.the-variants as Front
 use Rattle.receiver.specs.declared.drain.Look.{Look}
 use Rattle.receiver.specs.View.{slotAt, view}
 use Rattle.receiver.specs.Order.{Stores, StoreInOrder}
-use Rattle.receiver.specs.Turn.{Turning, frontLane, leftFront, budgetMet}
+use Rattle.receiver.specs.Turn.{leftFront, budgetMet}
 use Rattle.receiver.specs.Receive.{collectedIfDue}
-use Rattle.receiver.specs.Drain.{lookBy, lookFront, afterLook, runDownWithin, runDown, elseFront, refreshActive, Fronts, Reached}
+use Rattle.receiver.specs.Drain.{lookBy, lookFront, afterLook, runDownWithin, runDown, elseFront, refreshActive, Reached}
 use Rattle.receiver.proofs.ViewLaws.{slot-in}
 use Rattle.receiver.proofs.StoreLaws.{issued-ring-in}
 use Rattle.receiver.proofs.CollectedView.{view-collect-all}
@@ -42,7 +42,7 @@ use Rattle.receiver.proofs.ReceiveLaws.{turning-of}
 use Rattle.receiver.proofs.EmptyLaneLaws.{Empties, empties-by-refill}
 use Rattle.receiver.proofs.TurnView.{none-held, left-ordered, view-left, left-rest}
 use Rattle.receiver.proofs.TakeOneView.{due, due-in-order, due-view}
-use Rattle.receiver.proofs.LookLaws.{Searched, run-down-searched}
+use Rattle.receiver.proofs.LookLaws.{run-down-searched}
 
 -- the rules see the state that the search leaves, and the words are in order
 pub record ReachedAs (r : List ℕ) (o : Front × List ℕ) (s : State) : Type 0 where
