@@ -4,3 +4,4 @@ pub mod CollectKeeps
 pub mod ReceiveLaws
 pub mod DrainedLaws
 pub mod TargetLaws
+pub mod OutputLaws
