@@ -86,7 +86,7 @@ module _ (t r : List ℕ) (o : Stores t r) (x : ℕ) (h : x < issued t) where
   none-queued zero = refl
   none-queued (suc n) = rw (ne-eqb (suc n) 0 (λ e. omega arith), le-leb 1 (suc n) (omega arith))
 
-  may-queue-alike : mayQueue lane ≡ states.mayQueue (view t r) x
+  pub may-queue-alike : mayQueue (laneAt t x) ≡ states.mayQueue (view t r) x
   unfolding mayQueue states.mayQueue slotAt view
   may-queue-alike =
       go (flag (lane .registered)) refl

@@ -2,3 +2,4 @@ pub mod Turn
 pub mod Drained
 pub mod Receive
 pub mod Target
+pub mod Hands
