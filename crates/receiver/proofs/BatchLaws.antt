@@ -22,20 +22,20 @@ use Rattle.ready.specs.Header.{Shaped, issued, queueCount, capacity, laneCount,
 use Rattle.ready.specs.Queue.{queueOf}
 use Rattle.ready.specs.Registry.{freeOf}
 use Rattle.ready.proofs.RegistryLaws.{registry-frames}
-use Rattle.receiver.specs.View.{flag}
-use Rattle.receiver.specs.declared.refusal.Verdict.{Verdict}
-use Rattle.receiver.specs.declared.refusal.Verdict.the-variants.{Pass, Refuse}
-use Rattle.receiver.specs.Refusal.{receiverVerdict, andThen}
-use Rattle.receiver.specs.Words.{unlessRefused}
+use Rattle.store.specs.View.{flag}
+use Rattle.store.specs.declared.refusal.Verdict.{Verdict}
+use Rattle.store.specs.declared.refusal.Verdict.the-variants.{Pass, Refuse}
+use Rattle.store.specs.Refusal.{receiverVerdict, andThen}
+use Rattle.store.specs.Words.{unlessRefused}
 use Rattle.receiver.specs.Turn.{Turning}
 use Rattle.receiver.specs.Drained.{Idle}
 use Rattle.receiver.specs.Receive.{withRings}
-use Rattle.receiver.specs.Batch.{forSlots, AllRefundable, releaseSlot, releaseAll}
+use Rattle.control.specs.Batch.{forSlots, AllRefundable, releaseSlot, releaseAll}
 use Rattle.receiver.specs.Drain.{drained, drainInto, roomVerdict, batchVerdict, answerItems, RestsAt, batchAnswer, tryRecvBatchInto, handedBy, batchHands, batchInto}
-use Rattle.receiver.proofs.CountLaws.{one}
-use Rattle.receiver.proofs.StepLaws.{Step, step-from, step-put-lane}
-use Rattle.receiver.proofs.CreditLaws.{GivesBack, gives-back}
-use Rattle.receiver.proofs.SlotLoops.{release-slot-is, slot-released, head-release-slot}
+use Rattle.store.proofs.CountLaws.{one}
+use Rattle.store.proofs.StepLaws.{Step, step-from, step-put-lane}
+use Rattle.store.proofs.CreditLaws.{GivesBack, gives-back}
+use Rattle.control.proofs.SlotLoops.{release-slot-is, slot-released, head-release-slot}
 use Rattle.receiver.proofs.TurnLaws.{turning-step}
 use Rattle.receiver.proofs.DrainLaws.{drained-keeps, drained-rests}
 use Rattle.receiver.proofs.OutputLaws.{output-none}

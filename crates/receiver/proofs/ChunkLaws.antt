@@ -22,7 +22,7 @@ use Rattle.ready.specs.Header.{slots, budget, capacity}
 use Rattle.ready.specs.Queue.{frontSlot}
 use Rattle.receiver.specs.Turn.{Turning, Ringed, frontLane, lessOne, rotatedIf, gaveFront}
 use Rattle.receiver.specs.Drain.{Fronts, fullBudget, chunkSize, chunkItems, chunkLane, gaveChunk, chunkGiven}
-use Rattle.receiver.proofs.LaneFields.{Flagged, flagged, flagged-at-batch, flagged-end, RefillKept, refill-kept}
+use Rattle.store.proofs.LaneFields.{Flagged, flagged, flagged-at-batch, flagged-end, RefillKept, refill-kept}
 use Rattle.receiver.proofs.TurnLaws.{slot-below, ring-in, front-issued, front-ordered, turning-budget}
 use Rattle.receiver.proofs.FrontLaws.{Keeps, turning-gave, head-gave, length-gave}
 

@@ -25,13 +25,13 @@ use Rattle.lane.proofs.OrderLaws.{chunk-within}
 use Rattle.lane.proofs.HeldLaws.{move-chunk-takes-first, refill-is}
 use Rattle.ready.specs.Header.{budget, capacity}
 use Rattle.ready.specs.Queue.{queueOf, frontSlot, poppedFront}
-use Rattle.receiver.specs.View.{slotAt, view}
-use Rattle.receiver.specs.Order.{Stores, StoreInOrder}
+use Rattle.store.specs.View.{slotAt, view}
+use Rattle.store.specs.Order.{Stores, StoreInOrder}
 use Rattle.receiver.specs.Drain.{Fronts, fullBudget, chunkItems, chunkLane, gaveChunk, chunkGiven}
-use Rattle.receiver.proofs.ViewLaws.{slot-in}
-use Rattle.receiver.proofs.LaneView.{looked-counts}
+use Rattle.store.proofs.ViewLaws.{slot-in}
+use Rattle.store.proofs.LaneView.{looked-counts}
 use Rattle.receiver.proofs.SameFlags.{key-by}
-use Rattle.receiver.proofs.BetweenTurns.{FrontLane, front-lane}
+use Rattle.store.proofs.BetweenTurns.{FrontLane, front-lane}
 use Rattle.receiver.proofs.TurnLaws.{queue-is}
 use Rattle.receiver.proofs.ReceiveLaws.{ringed-of}
 use Rattle.receiver.proofs.FrontBack.{Back, back-view, back-stores}

@@ -15,8 +15,8 @@ use Rattle.ready.specs.Header.{budget, capacity}
 use Rattle.ready.specs.Queue.{queueOf, frontSlot, poppedFront}
 use Rattle.receiver.specs.declared.drain.Front.{Front}
 use Rattle.receiver.specs.declared.drain.Front.the-variants as Front
-use Rattle.receiver.specs.View.{view}
-use Rattle.receiver.specs.Order.{StoreInOrder}
+use Rattle.store.specs.View.{view}
+use Rattle.store.specs.Order.{StoreInOrder}
 use Rattle.receiver.specs.Drain.{refreshActive, Reached, fullBudget, chunkSize, chunkGiven, Drained, chunkThen, drainedWithin, drained}
 use Rattle.receiver.proofs.ReceiveLaws.{turning-of}
 use Rattle.receiver.proofs.LookLaws.{refresh-searched}

@@ -17,14 +17,14 @@ use Rattle.lane.proofs.TableLaws.{slot-of-lane}
 use Rattle.ready.specs.Header.{Shaped, issued, slots, freeCount, laneCount, capacity}
 use Rattle.ready.specs.Queue.{queueOf}
 use Rattle.ready.proofs.QueueLaws.{length-queue}
-use Rattle.receiver.specs.Registry.{retireLane}
-use Rattle.receiver.specs.Batch.{forSlots}
+use Rattle.store.specs.Registry.{retireLane}
+use Rattle.control.specs.Batch.{forSlots}
 use Rattle.receiver.specs.Turn.{retiredIf}
 use Rattle.receiver.specs.Drained.{Idle, retireEmptyPaused, retireEmptyPausedLanes}
-use Rattle.receiver.proofs.StepLaws.{step-from}
-use Rattle.receiver.proofs.RetireFrames.{length-retire-lane}
-use Rattle.receiver.proofs.SlotLoops.{sub-zero, slots-next, slots-end}
-use Rattle.receiver.proofs.LaneFields.{Flagged, flagged-looked}
+use Rattle.store.proofs.StepLaws.{step-from}
+use Rattle.store.proofs.RetireFrames.{length-retire-lane}
+use Rattle.control.proofs.SlotLoops.{sub-zero, slots-next, slots-end}
+use Rattle.store.proofs.LaneFields.{Flagged, flagged-looked}
 use Rattle.receiver.proofs.TurnLaws.{slot-below, some-lane, free-room}
 use Rattle.receiver.proofs.FrontLaws.{turning-retire, head-retired}
 

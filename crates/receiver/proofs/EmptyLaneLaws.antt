@@ -19,9 +19,9 @@ use Rattle.lane.specs.Order.{InOrder, refilledLane, polledLane}
 use Rattle.lane.specs.Table.{laneAt}
 use Rattle.lane.proofs.OrderLaws.{refill-keeps, poll-keeps}
 use Rattle.ready.specs.Header.{issued, capacity}
-use Rattle.receiver.specs.Order.{Stores}
-use Rattle.receiver.proofs.LaneFields.{Emptied, RefillKept, PollKept, refill-kept, poll-kept}
-use Rattle.receiver.proofs.LaneView.{FoundIdle, settled-idle, poll-idle}
+use Rattle.store.specs.Order.{Stores}
+use Rattle.store.proofs.LaneFields.{Emptied, RefillKept, PollKept, refill-kept, poll-kept}
+use Rattle.store.proofs.LaneView.{FoundIdle, settled-idle, poll-idle}
 
 -- the slots of the rules, field by field
 pub slot-path : (l m : Slot) → l .registered ≡ m .registered → l .living ≡ m .living → l .paused ≡ m .paused → l .pending ≡ m .pending → l .marked ≡ m .marked

@@ -21,16 +21,16 @@ use Rattle.lane.proofs.TableLaws.{slot-of-lane}
 use Rattle.ready.specs.Header.{issued, slots, freeCount, budget, capacity, fastSlot, laneCount, livingCount}
 use Rattle.ready.specs.Queue.{queueOf}
 use Rattle.ready.specs.Ready.{pageBit}
-use Rattle.receiver.specs.View.{flag, slotOf, slotAt, view}
-use Rattle.receiver.specs.Order.{Flags, Stores, StoreInOrder}
-use Rattle.receiver.specs.Registry.{retired, retireLane}
+use Rattle.store.specs.View.{flag, slotOf, slotAt, view}
+use Rattle.store.specs.Order.{Flags, Stores, StoreInOrder}
+use Rattle.store.specs.Registry.{retired, retireLane}
 use Rattle.receiver.specs.Turn.{retiredIf}
-use Rattle.receiver.proofs.ViewLaws.{slot-in, view-put-lane}
-use Rattle.receiver.proofs.StepLaws.{Step}
-use Rattle.receiver.proofs.StoreLaws.{lane-counted, registered-seen, OtherWindows, Owes, stores-after}
-use Rattle.receiver.proofs.SignalLaws.{idle-flag}
-use Rattle.receiver.proofs.RetireLaws.{view-retire-lane, step-retire-lane}
-use Rattle.receiver.proofs.LaneFields.{Fixed}
+use Rattle.store.proofs.ViewLaws.{slot-in, view-put-lane}
+use Rattle.store.proofs.StepLaws.{Step}
+use Rattle.store.proofs.StoreLaws.{lane-counted, registered-seen, OtherWindows, Owes, stores-after}
+use Rattle.store.proofs.SignalLaws.{idle-flag}
+use Rattle.store.proofs.RetireLaws.{view-retire-lane, step-retire-lane}
+use Rattle.store.proofs.LaneFields.{Fixed}
 use Rattle.receiver.proofs.EmptyLaneLaws.{slot-path, Empties}
 
 module _ (t r : List ℕ) (o : StoreInOrder t r) (x : ℕ) (h : x < issued t) (g : laneAt t x .registered ≡ 1) (found : EmptyLane) (k : Empties t r x found) where

@@ -18,16 +18,16 @@ use Rattle.lane.specs.Table.{laneAt, putLane, setHead}
 use Rattle.ready.specs.Header.{budget, capacity, fastSlot, laneCount, livingCount}
 use Rattle.ready.specs.Queue.{queueOf, rotated}
 use Rattle.ready.proofs.QueueLaws.{queue-putLane, shaped-putLane}
-use Rattle.receiver.specs.View.{view}
-use Rattle.receiver.specs.Order.{Stores, StoreInOrder}
+use Rattle.store.specs.View.{view}
+use Rattle.store.specs.Order.{Stores, StoreInOrder}
 use Rattle.receiver.specs.Turn.{rotatedIf}
-use Rattle.receiver.proofs.ViewLaws.{view-put-holding, view-rotated, view-budget}
-use Rattle.receiver.proofs.StepLaws.{Step, step-start, step-put-lane, step-rotated, step-budget}
-use Rattle.receiver.proofs.StoreLaws.{Owes, stores-after, windows-front}
-use Rattle.receiver.proofs.BackLaws.{back-own, back-other}
-use Rattle.receiver.proofs.LaneFields.{Flagged, flagged}
+use Rattle.store.proofs.ViewLaws.{view-put-holding, view-rotated, view-budget}
+use Rattle.store.proofs.StepLaws.{Step, step-start, step-put-lane, step-rotated, step-budget}
+use Rattle.store.proofs.StoreLaws.{Owes, stores-after, windows-front}
+use Rattle.store.proofs.BackLaws.{back-own, back-other}
+use Rattle.store.proofs.LaneFields.{Flagged, flagged}
 use Rattle.receiver.proofs.SameFlags.{flags-by, slot-by}
-use Rattle.receiver.proofs.BetweenTurns.{FrontLane, front-lane}
+use Rattle.store.proofs.BetweenTurns.{FrontLane, front-lane}
 
 less-none : {a b : ℕ} → b ≡ 0 → a - b ≡ a
 less-none z = omega arith

@@ -28,17 +28,17 @@ use Rattle.ready.specs.Queue.{queueOf, frontSlot, poppedFront, rotated}
 use Rattle.ready.specs.Registry.{freeOf, freed}
 use Rattle.ready.proofs.QueueLaws.{queue-frames, header-in}
 use Rattle.ready.proofs.RegistryLaws.{registry-frames, length-free, free-freed}
-use Rattle.receiver.specs.View.{flag}
-use Rattle.receiver.specs.Registry.{retired, retireLane}
+use Rattle.store.specs.View.{flag}
+use Rattle.store.specs.Registry.{retired, retireLane}
 use Rattle.receiver.specs.declared.turn.Took.{Took}
 use Rattle.receiver.specs.declared.turn.Took.the-variants as Took
 use Rattle.receiver.specs.declared.turn.Turn.{Turn}
 use Rattle.receiver.specs.declared.turn.Turn.the-variants as Turn
 use Rattle.receiver.specs.Turn.{Turning, Ringed, retiredIf, leftFront, budgetMet, lessOne, rotatedIf, gaveFront, turnBy, pollFront, after, turnsWithin, turns}
-use Rattle.receiver.proofs.CountLaws.{one}
-use Rattle.receiver.proofs.StepLaws.{Step, step-from, step-put-lane, step-popped-front, step-rotated, step-freed, step-budget, step-lane-count}
-use Rattle.receiver.proofs.RetireFrames.{freed-unless-last-is, length-retire-lane}
-use Rattle.receiver.proofs.LaneFields.{Fixed, Flagged, flagged, Emptied, PollKept, poll-kept}
+use Rattle.store.proofs.CountLaws.{one}
+use Rattle.store.proofs.StepLaws.{Step, step-from, step-put-lane, step-popped-front, step-rotated, step-freed, step-budget, step-lane-count}
+use Rattle.store.proofs.RetireFrames.{freed-unless-last-is, length-retire-lane}
+use Rattle.store.proofs.LaneFields.{Fixed, Flagged, flagged, Emptied, PollKept, poll-kept}
 use Rattle.receiver.proofs.TurnLaws.{slot-below, some-lane, not-free, free-room, queue-is, front-issued, front-registered, front-alone, front-ordered, turning-step, turning-met}
 
 -- ---- retiring a lane that is in no queue

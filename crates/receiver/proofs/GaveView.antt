@@ -24,14 +24,14 @@ use Rattle.lane.proofs.OrderLaws.{poll-keeps}
 use Rattle.lane.proofs.HeldLaws.{poll-takes-first}
 use Rattle.ready.specs.Header.{issued, budget, capacity}
 use Rattle.ready.specs.Queue.{queueOf}
-use Rattle.receiver.specs.View.{slotAt, view}
-use Rattle.receiver.specs.Order.{Stores, StoreInOrder}
+use Rattle.store.specs.View.{slotAt, view}
+use Rattle.store.specs.Order.{Stores, StoreInOrder}
 use Rattle.receiver.specs.Turn.{lessOne, gaveFront}
-use Rattle.receiver.proofs.ViewLaws.{slot-in}
-use Rattle.receiver.proofs.StoreLaws.{issued-ring-in}
-use Rattle.receiver.proofs.LaneFields.{flagged, PollKept, poll-kept}
-use Rattle.receiver.proofs.LaneView.{Polled, poll-counts}
-use Rattle.receiver.proofs.BetweenTurns.{FrontLane, front-lane}
+use Rattle.store.proofs.ViewLaws.{slot-in}
+use Rattle.store.proofs.StoreLaws.{issued-ring-in}
+use Rattle.store.proofs.LaneFields.{flagged, PollKept, poll-kept}
+use Rattle.store.proofs.LaneView.{Polled, poll-counts}
+use Rattle.store.proofs.BetweenTurns.{FrontLane, front-lane}
 use Rattle.receiver.proofs.FrontBack.{Back, back-view, back-stores}
 
 -- the budget after an item is the rules'

@@ -16,11 +16,11 @@ use Rattle.model.specs.Outcome.{Outcome, says}
 use Rattle.model.specs.Receive as rules
 use Rattle.model.proofs.Moves.{unless-law}
 use Rattle.receiver.specs.Hands.{handsOf}
-use Rattle.receiver.specs.Order.{StoreInOrder}
-use Rattle.receiver.specs.View.{view}
-use Rattle.receiver.specs.Words.{Words}
+use Rattle.store.specs.Order.{StoreInOrder}
+use Rattle.store.specs.View.{view}
+use Rattle.store.specs.Words.{Words}
 use Rattle.receiver.specs.Target.{tryRecvFrom}
-use Rattle.receiver.proofs.RefusalLaws.{seen}
+use Rattle.store.proofs.RefusalLaws.{seen}
 use Rattle.receiver.proofs.TryRecvFromLaws.{try-recv-from-alike}
 
 -- what is handed out is what is answered

@@ -19,13 +19,13 @@ use Rattle.lane.proofs.TableLaws.{frames}
 use Rattle.ready.specs.Header.{slots, queueCount, freeCount, budget, fastSlot, laneCount, livingCount}
 use Rattle.ready.specs.Queue.{queueOf, poppedFront}
 use Rattle.ready.proofs.QueueLaws.{queue-frames, length-queue, queue-putLane, shaped-putLane}
-use Rattle.receiver.specs.View.{view}
-use Rattle.receiver.specs.Order.{StoreInOrder}
+use Rattle.store.specs.View.{view}
+use Rattle.store.specs.Order.{StoreInOrder}
 use Rattle.receiver.specs.Turn.{leftFront, budgetMet}
-use Rattle.receiver.proofs.ViewLaws.{view-popped-front, view-budget}
-use Rattle.receiver.proofs.StepLaws.{Step, step-start, step-put-lane, step-popped-front}
-use Rattle.receiver.proofs.StoreLaws.{room-in-free, windows-front}
-use Rattle.receiver.proofs.BetweenTurns.{FrontLane, front-lane, full-budget-in-order}
+use Rattle.store.proofs.ViewLaws.{view-popped-front, view-budget}
+use Rattle.store.proofs.StepLaws.{Step, step-start, step-put-lane, step-popped-front}
+use Rattle.store.proofs.StoreLaws.{room-in-free, windows-front}
+use Rattle.store.proofs.BetweenTurns.{FrontLane, front-lane, full-budget-in-order}
 use Rattle.receiver.proofs.FoundEmptyLaws.{found-slot, found-view, settled-view, settled-in-order}
 pub use Rattle.receiver.proofs.EmptyLaneLaws.{slot-path, Empties, empties-by-poll, empties-by-refill}
 

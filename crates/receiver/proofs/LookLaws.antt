@@ -26,7 +26,7 @@ use Rattle.receiver.specs.Turn.{Turning, frontLane, leftFront}
 use Rattle.receiver.specs.Receive.{collectedIfDue}
 use Rattle.receiver.specs.Drained.{Idle}
 use Rattle.receiver.specs.Drain.{lookBy, lookFront, afterLook, runDownWithin, runDown, elseFront, refreshActive, Reached}
-use Rattle.receiver.proofs.LaneFields.{Emptied, RefillKept, refill-kept}
+use Rattle.store.proofs.LaneFields.{Emptied, RefillKept, refill-kept}
 use Rattle.receiver.proofs.TurnLaws.{slot-below, some-lane, free-room, front-issued, front-registered, front-ordered, turning-met}
 use Rattle.receiver.proofs.FrontLaws.{Keeps, keeps-self, keeps-then, left-slot, turning-left, head-left, length-left, count-left, head-met, length-met}
 use Rattle.receiver.proofs.CollectKeeps.{collect-keeps}

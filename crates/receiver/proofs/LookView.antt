@@ -28,15 +28,15 @@ use Rattle.ready.proofs.QueueLaws.{length-queue, front-is}
 use Rattle.receiver.specs.declared.drain.Front.{Front}
 use Rattle.receiver.specs.declared.drain.Front.the-variants as Front
 use Rattle.receiver.specs.declared.drain.Look.{Look}
-use Rattle.receiver.specs.View.{slotAt, view}
-use Rattle.receiver.specs.Order.{Stores, StoreInOrder}
+use Rattle.store.specs.View.{slotAt, view}
+use Rattle.store.specs.Order.{Stores, StoreInOrder}
 use Rattle.receiver.specs.Turn.{leftFront, budgetMet}
 use Rattle.receiver.specs.Receive.{collectedIfDue}
 use Rattle.receiver.specs.Drain.{lookBy, lookFront, afterLook, runDownWithin, runDown, elseFront, refreshActive, Reached}
-use Rattle.receiver.proofs.ViewLaws.{slot-in}
-use Rattle.receiver.proofs.StoreLaws.{issued-ring-in}
-use Rattle.receiver.proofs.CollectedView.{view-collect-all}
-use Rattle.receiver.proofs.BetweenTurns.{FrontLane, front-lane, collected-in-order}
+use Rattle.store.proofs.ViewLaws.{slot-in}
+use Rattle.store.proofs.StoreLaws.{issued-ring-in}
+use Rattle.store.proofs.CollectedView.{view-collect-all}
+use Rattle.store.proofs.BetweenTurns.{FrontLane, front-lane, collected-in-order}
 use Rattle.receiver.proofs.TurnLaws.{queue-is}
 use Rattle.receiver.proofs.ReceiveLaws.{turning-of}
 use Rattle.receiver.proofs.EmptyLaneLaws.{Empties, empties-by-refill}

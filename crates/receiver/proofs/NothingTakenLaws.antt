@@ -31,21 +31,21 @@ use Rattle.ready.specs.Header.{issued, slots, budget, capacity, fastSlot, freeC
 use Rattle.ready.specs.Queue.{queueOf}
 use Rattle.ready.specs.Registry.{freed}
 use Rattle.ready.proofs.QueueLaws.{shaped-putLane}
-use Rattle.receiver.specs.View.{flag, slotAt, view}
-use Rattle.receiver.specs.Order.{Stores, StoreInOrder}
-use Rattle.receiver.specs.Registry.{retired, freedUnlessLast, retireLane}
-use Rattle.receiver.specs.Batch.{forSlots}
+use Rattle.store.specs.View.{flag, slotAt, view}
+use Rattle.store.specs.Order.{Stores, StoreInOrder}
+use Rattle.store.specs.Registry.{retired, freedUnlessLast, retireLane}
+use Rattle.control.specs.Batch.{forSlots}
 use Rattle.receiver.specs.Turn.{retiredIf}
 use Rattle.receiver.specs.Drained.{retireEmptyPaused, retireEmptyPausedLanes, emptyOrDrained, nothingTaken}
 use Rattle.receiver.specs.Receive.{withRings}
-use Rattle.receiver.proofs.ViewLaws.{slot-in, view-put-flags, view-lane-count, view-freed}
-use Rattle.receiver.proofs.RefusalLaws.{seen}
-use Rattle.receiver.proofs.StepLaws.{Step, step-start}
-use Rattle.receiver.proofs.StoreLaws.{Owes, stores-after, windows-kept, lane-counted, room-in-free, issued-ring-in}
-use Rattle.receiver.proofs.RetireFrames.{shaped-lowered, room-lowered}
-use Rattle.receiver.proofs.RetireLaws.{step-retire-lane}
-use Rattle.receiver.proofs.LaneFields.{Flagged, flagged, flagged-looked}
-use Rattle.receiver.proofs.LaneView.{looked, looked-seen, looked-empty}
+use Rattle.store.proofs.ViewLaws.{slot-in, view-put-flags, view-lane-count, view-freed}
+use Rattle.store.proofs.RefusalLaws.{seen}
+use Rattle.store.proofs.StepLaws.{Step, step-start}
+use Rattle.store.proofs.StoreLaws.{Owes, stores-after, windows-kept, lane-counted, room-in-free, issued-ring-in}
+use Rattle.store.proofs.RetireFrames.{shaped-lowered, room-lowered}
+use Rattle.store.proofs.RetireLaws.{step-retire-lane}
+use Rattle.store.proofs.LaneFields.{Flagged, flagged, flagged-looked}
+use Rattle.store.proofs.LaneView.{looked, looked-seen, looked-empty}
 
 -- ---- a lane that was looked at retires
 

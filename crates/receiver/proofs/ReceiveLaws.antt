@@ -26,8 +26,8 @@ use Rattle.ready.specs.Header.{Shaped, issued, slots, queueCount, budget, capac
 use Rattle.ready.proofs.QueueLaws.{header-in, shaped-setHead}
 use Rattle.ready.specs.Queue.{frontSlot}
 use Rattle.ready.specs.Ready.{collectReady}
-use Rattle.receiver.specs.View.{flag, slotAt, view}
-use Rattle.receiver.specs.Order.{StoreInOrder}
+use Rattle.store.specs.View.{flag, slotAt, view}
+use Rattle.store.specs.Order.{StoreInOrder}
 use Rattle.receiver.specs.declared.turn.Took.{Took}
 use Rattle.receiver.specs.declared.turn.Took.the-variants as Took
 use Rattle.receiver.specs.declared.turn.Turn.{Turn}
@@ -35,10 +35,10 @@ use Rattle.receiver.specs.declared.turn.Turn.the-variants as Turn
 use Rattle.receiver.specs.Turn.{registeredIn, Turning, Ringed, frontLane, turnBy, pollFront, after, turnsWithin, turns}
 use Rattle.receiver.specs.Drained.{Idle, Rests}
 use Rattle.receiver.specs.Receive.{elseTake, windowTook, fastTook, Affords, takeFast, openTook, takeWindow, collectedIfDue, pollLoop, refillTake, takeOne, takeLone, takeFair}
-use Rattle.receiver.proofs.ViewLaws.{slot-in}
-use Rattle.receiver.proofs.CountLaws.{passing-same}
-use Rattle.receiver.proofs.StoreLaws.{free-slot}
-use Rattle.receiver.proofs.LaneFields.{Flagged, flagged-pop-fast, flagged-grant, flagged-pop-fair}
+use Rattle.store.proofs.ViewLaws.{slot-in}
+use Rattle.store.proofs.CountLaws.{passing-same}
+use Rattle.store.proofs.StoreLaws.{free-slot}
+use Rattle.store.proofs.LaneFields.{Flagged, flagged-pop-fast, flagged-grant, flagged-pop-fair}
 use Rattle.receiver.proofs.TurnLaws.{slot-below, front-issued, front-ordered, turning-budget}
 use Rattle.receiver.proofs.FrontLaws.{Keeps, keeps-self, keeps-then, Turned, polledFront, poll-front-turned, turns-keep}
 use Rattle.receiver.proofs.CollectKeeps.{collect-keeps}

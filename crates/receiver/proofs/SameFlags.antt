@@ -9,10 +9,10 @@ use Rattle.lane.specs.declared.lane.Lane.{Lane}
 use Rattle.lane.specs.Table.{laneAt}
 use Rattle.lane.proofs.TableLaws.{slot-of-lane}
 use Rattle.ready.specs.Header.{issued}
-use Rattle.receiver.specs.View.{slotAt, view}
-use Rattle.receiver.specs.Order.{Flags}
-use Rattle.receiver.proofs.ViewLaws.{slot-in}
-use Rattle.receiver.proofs.LaneFields.{Flagged, flagged}
+use Rattle.store.specs.View.{slotAt, view}
+use Rattle.store.specs.Order.{Flags}
+use Rattle.store.proofs.ViewLaws.{slot-in}
+use Rattle.store.proofs.LaneFields.{Flagged, flagged}
 
 pub flags-by : (l m : Lane) → flagged m ≡ flagged l → Flags l → Flags m
 flags-by l m e f =

@@ -13,9 +13,9 @@ use Rattle.model.specs.State.{Slot}
 use Rattle.lane.specs.Table.{laneAt}
 use Rattle.ready.specs.Header.{issued}
 use Rattle.ready.specs.Queue.{queueOf}
-use Rattle.receiver.specs.View.{flag, slotAt, view}
-use Rattle.receiver.specs.Order.{StoreInOrder}
-use Rattle.receiver.proofs.ViewLaws.{slot-in}
+use Rattle.store.specs.View.{flag, slotAt, view}
+use Rattle.store.specs.Order.{StoreInOrder}
+use Rattle.store.proofs.ViewLaws.{slot-in}
 
 -- what stands behind an entry of the queue
 pub record QueuedLane (t : List ℕ) (x : ℕ) : Type 0 where

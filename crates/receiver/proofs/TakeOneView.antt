@@ -20,14 +20,14 @@ use Rattle.ready.specs.Ready.{collectReady}
 use Rattle.ready.proofs.QueueLaws.{length-queue}
 use Rattle.receiver.specs.declared.turn.Took.{Took}
 use Rattle.receiver.specs.declared.turn.Took.the-variants as Took
-use Rattle.receiver.specs.View.{view}
-use Rattle.receiver.specs.Order.{StoreInOrder}
+use Rattle.store.specs.View.{view}
+use Rattle.store.specs.Order.{StoreInOrder}
 use Rattle.receiver.specs.Turn.{turns}
 use Rattle.receiver.specs.Drained.{Rests}
 use Rattle.receiver.specs.Receive.{elseTake, takeFast, takeWindow, collectedIfDue, pollLoop, refillTake, takeOne}
-use Rattle.receiver.proofs.ViewLaws.{view-budget}
-use Rattle.receiver.proofs.CollectedView.{view-collect-all, view-collect-group}
-use Rattle.receiver.proofs.BetweenTurns.{full-budget-in-order, collected-in-order}
+use Rattle.store.proofs.ViewLaws.{view-budget}
+use Rattle.store.proofs.CollectedView.{view-collect-all, view-collect-group}
+use Rattle.store.proofs.BetweenTurns.{full-budget-in-order, collected-in-order}
 use Rattle.receiver.proofs.ReceiveLaws.{turning-of, turns-rest, Unmoved, take-fast-unmoved, take-window-unmoved}
 use Rattle.receiver.proofs.TurnView.{TookAs, turns-alike, rests-queue}
 use Rattle.receiver.proofs.WindowTakes.{TakesAs, take-fast-takes, take-window-takes}

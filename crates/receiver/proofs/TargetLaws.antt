@@ -19,10 +19,10 @@ use Rattle.lane.proofs.TableLaws.{slot-of-lane}
 use Rattle.ready.specs.Header.{Shaped, issued, slots, queueCount, freeCount, capacity, laneCount}
 use Rattle.ready.specs.Queue.{removed}
 use Rattle.ready.proofs.QueueLaws.{queue-has-room}
-use Rattle.receiver.specs.Order.{StoreInOrder}
+use Rattle.store.specs.Order.{StoreInOrder}
 use Rattle.receiver.specs.Turn.{Turning, retiredIf}
 use Rattle.receiver.specs.Target.{targetSettled, targetTook, takeFrom}
-use Rattle.receiver.proofs.LaneFields.{Fixed, Flagged, flagged, RefillKept, refill-kept, flagged-targeted}
+use Rattle.store.proofs.LaneFields.{Fixed, Flagged, flagged, RefillKept, refill-kept, flagged-targeted}
 use Rattle.receiver.proofs.TurnLaws.{slot-below, ring-in, some-lane, free-room}
 use Rattle.receiver.proofs.ReceiveLaws.{turning-of, ringed-of}
 use lib.ListN.{length}

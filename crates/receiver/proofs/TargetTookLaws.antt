@@ -26,22 +26,22 @@ use Rattle.ready.specs.Header.{Shaped, issued, slots, queueCount, budget, capac
 use Rattle.ready.specs.Queue.{queueOf, pushedBack}
 use Rattle.ready.specs.Ready.{pageBit}
 use Rattle.ready.proofs.QueueLaws.{shaped-putLane, length-queue}
-use Rattle.receiver.specs.View.{flag, slotOf, slotAt, view}
-use Rattle.receiver.specs.Order.{Flags, Stores, StoreInOrder}
-use Rattle.receiver.specs.Sender.{markedIfIdle}
-use Rattle.receiver.specs.Control.{withTurn}
-use Rattle.receiver.specs.Batch.{mayQueue}
+use Rattle.store.specs.View.{flag, slotOf, slotAt, view}
+use Rattle.store.specs.Order.{Flags, Stores, StoreInOrder}
+use Rattle.store.specs.Signal.{markedIfIdle}
+use Rattle.control.specs.Control.{withTurn}
+use Rattle.control.specs.Batch.{mayQueue}
 use Rattle.receiver.specs.Target.{targetQueued, targetKept}
-use Rattle.receiver.proofs.ViewLaws.{slot-in, view-put-lane, view-pushed-back, put-put, put-own}
-use Rattle.receiver.proofs.StepLaws.{Step, step-start, step-put-lane, step-pushed-back}
-use Rattle.receiver.proofs.StoreLaws.{stores-after, windows-kept, windows-pushed-back, issued-ring-in, room-in-queue}
-use Rattle.receiver.proofs.SignalLaws.{idle-flag, markedIf, view-put-marked-if-idle, step-marked-if-idle}
-use Rattle.receiver.proofs.SignalFrames.{shaped-marked-if-idle, head-marked-if-idle}
-use Rattle.receiver.proofs.BackLaws.{back-own, back-other}
-use Rattle.receiver.proofs.LaneFields.{Flagged, flagged, flagged-reload, flagged-targeted}
-use Rattle.receiver.proofs.LaneView.{looked, looked-counts, pop-targeted-counts, unreleasedAfter, unreleasedSeen, burstSeen}
+use Rattle.store.proofs.ViewLaws.{slot-in, view-put-lane, view-pushed-back, put-put, put-own}
+use Rattle.store.proofs.StepLaws.{Step, step-start, step-put-lane, step-pushed-back}
+use Rattle.store.proofs.StoreLaws.{stores-after, windows-kept, windows-pushed-back, issued-ring-in, room-in-queue}
+use Rattle.store.proofs.SignalLaws.{idle-flag, markedIf, view-put-marked-if-idle, step-marked-if-idle}
+use Rattle.store.proofs.SignalFrames.{shaped-marked-if-idle, head-marked-if-idle}
+use Rattle.store.proofs.BackLaws.{back-own, back-other}
+use Rattle.store.proofs.LaneFields.{Flagged, flagged, flagged-reload, flagged-targeted}
+use Rattle.store.proofs.LaneView.{looked, looked-counts, pop-targeted-counts, unreleasedAfter, unreleasedSeen, burstSeen}
 use Rattle.receiver.proofs.TargetLaws.{target-filled}
-use Rattle.receiver.proofs.PollAllLaws.{may-queue-alike}
+use Rattle.control.proofs.PollAllLaws.{may-queue-alike}
 use Rattle.receiver.proofs.EmptyLaneLaws.{slot-path}
 
 -- the lane that was looked at, one item later

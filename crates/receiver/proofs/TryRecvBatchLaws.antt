@@ -21,18 +21,18 @@ use Rattle.model.specs.Turn.{Took}
 use Rattle.model.specs.Receive as rules
 use Rattle.model.proofs.Moves.{nothing-taken-gives-none}
 use Rattle.model.proofs.OrderKept.{release-all-ordered}
-use Rattle.receiver.specs.declared.refusal.Verdict.{Verdict}
-use Rattle.receiver.specs.declared.refusal.Verdict.the-variants.{Pass, Refuse}
-use Rattle.receiver.specs.View.{view}
-use Rattle.receiver.specs.Order.{StoreInOrder}
-use Rattle.receiver.specs.Refusal.{andThen}
-use Rattle.receiver.specs.Words.{Words}
+use Rattle.store.specs.declared.refusal.Verdict.{Verdict}
+use Rattle.store.specs.declared.refusal.Verdict.the-variants.{Pass, Refuse}
+use Rattle.store.specs.View.{view}
+use Rattle.store.specs.Order.{StoreInOrder}
+use Rattle.store.specs.Refusal.{andThen}
+use Rattle.store.specs.Words.{Words}
 use Rattle.receiver.specs.Receive.{withRings}
 use Rattle.receiver.specs.Drained.{nothingTaken}
-use Rattle.receiver.specs.Batch.{releaseAll}
+use Rattle.control.specs.Batch.{releaseAll}
 use Rattle.receiver.specs.Drain.{Drained, drained, roomVerdict, batchVerdict, answerItems, batchAnswer, tryRecvBatchInto, handedBy, batchHands}
-use Rattle.receiver.proofs.RefusalLaws.{seen, firstOf, first-of-append, receiver-verdict, refused-alike, unless-refused-case}
-use Rattle.receiver.proofs.ReleaseConsumedLaws.{view-release-all, stores-release-all}
+use Rattle.store.proofs.RefusalLaws.{seen, firstOf, first-of-append, receiver-verdict, refused-alike, unless-refused-case}
+use Rattle.control.proofs.ReleaseConsumedLaws.{view-release-all, stores-release-all}
 use Rattle.receiver.proofs.NothingTakenLaws.{nothing-taken-alike, nothing-taken-keeps}
 use Rattle.receiver.proofs.DrainView.{DrainedAs, drained-alike}
 

@@ -8,13 +8,13 @@ use Rattle.model.specs.declared.Refusal.the-variants.{ReceiverClosed}
 use Rattle.model.specs.Turn as rules-turn
 use Rattle.model.specs.Receive as rules
 use Rattle.ready.specs.Header.{channel}
-use Rattle.receiver.specs.View.{view}
-use Rattle.receiver.specs.Order.{StoreInOrder}
-use Rattle.receiver.specs.Refusal.{receiverVerdict}
-use Rattle.receiver.specs.Words.{Words}
+use Rattle.store.specs.View.{view}
+use Rattle.store.specs.Order.{StoreInOrder}
+use Rattle.store.specs.Refusal.{receiverVerdict}
+use Rattle.store.specs.Words.{Words}
 use Rattle.receiver.specs.Hands.{handsOf}
 use Rattle.receiver.specs.Receive.{takeFair, answerOne, withRings, tryRecvFair}
-use Rattle.receiver.proofs.RefusalLaws.{seen, receiver-verdict, refused-alike, unless-refused-case}
+use Rattle.store.proofs.RefusalLaws.{seen, receiver-verdict, refused-alike, unless-refused-case}
 use Rattle.receiver.proofs.HandsLaws.{try-recv-fair-answers, hands-by-answer}
 use Rattle.receiver.proofs.TakeFairView.{take-fair-alike}
 use Rattle.receiver.proofs.ChannelKept.{take-fair-channel}

@@ -28,18 +28,18 @@ use Rattle.lane.proofs.TableLaws.{frames}
 use Rattle.ready.specs.Header.{issued, slots, freeCount, budget, capacity, channel, fastSlot, laneCount, livingCount}
 use Rattle.ready.specs.Queue.{queueOf, removed}
 use Rattle.ready.proofs.QueueLaws.{queue-frames, shaped-putLane}
-use Rattle.receiver.specs.View.{slotAt, view}
-use Rattle.receiver.specs.Order.{Stores, StoreInOrder}
-use Rattle.receiver.specs.Refusal.{idVerdict}
+use Rattle.store.specs.View.{slotAt, view}
+use Rattle.store.specs.Order.{Stores, StoreInOrder}
+use Rattle.store.specs.Refusal.{idVerdict}
 use Rattle.receiver.specs.Turn.{retiredIf}
 use Rattle.receiver.specs.Receive.{withRings}
 use Rattle.receiver.specs.Target.{targetSettled, targetTook, takeFrom, tryRecvFrom}
-use Rattle.receiver.proofs.ViewLaws.{slot-in, view-removed}
-use Rattle.receiver.proofs.RefusalLaws.{seen, id-verdict, id-passes, refused-alike, unless-refused-case}
-use Rattle.receiver.proofs.StepLaws.{Step, step-start, step-put-lane, step-removed}
-use Rattle.receiver.proofs.StoreLaws.{room-in-free, store-in-order-after, windows-without}
-use Rattle.receiver.proofs.LaneFields.{Flagged, flagged-reload}
-use Rattle.receiver.proofs.LaneView.{looked}
+use Rattle.store.proofs.ViewLaws.{slot-in, view-removed}
+use Rattle.store.proofs.RefusalLaws.{seen, id-verdict, id-passes, refused-alike, unless-refused-case}
+use Rattle.store.proofs.StepLaws.{Step, step-start, step-put-lane, step-removed}
+use Rattle.store.proofs.StoreLaws.{room-in-free, store-in-order-after, windows-without}
+use Rattle.store.proofs.LaneFields.{Flagged, flagged-reload}
+use Rattle.store.proofs.LaneView.{looked}
 use Rattle.receiver.proofs.EmptyLaneLaws.{Empties, empties-by-refill}
 use Rattle.receiver.proofs.FoundEmptyLaws.{found-slot, found-view, found-dropped, settled-view, settled-in-order}
 use Rattle.receiver.proofs.TargetTookLaws.{target-takes, target-view, target-stores}

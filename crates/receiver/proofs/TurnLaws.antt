@@ -26,10 +26,10 @@ use Rattle.ready.proofs.Pigeonhole.{pigeonhole-less}
 use Rattle.ready.proofs.QueueLaws.{queue-frames, queue-front, shaped-setHead}
 use Rattle.ready.proofs.NamesLaws.{names-same}
 use Rattle.ready.proofs.RegistryLaws.{registry-frames, length-free}
-use Rattle.receiver.specs.View.{flag}
+use Rattle.store.specs.View.{flag}
 use Rattle.receiver.specs.Turn.{registeredIn, Turning, Ringed, budgetMet}
-use Rattle.receiver.proofs.CountLaws.{one, passing-same, passing-but, passing-some}
-use Rattle.receiver.proofs.StepLaws.{Step, linked-by}
+use Rattle.store.proofs.CountLaws.{one, passing-same, passing-but, passing-some}
+use Rattle.store.proofs.StepLaws.{Step, linked-by}
 
 -- ---- what a registered lane gives
 

@@ -26,13 +26,13 @@ use Rattle.ready.proofs.QueueLaws.{length-queue, front-is}
 use Rattle.receiver.specs.declared.turn.Took.{Took}
 use Rattle.receiver.specs.declared.turn.Took.the-variants as Took
 use Rattle.receiver.specs.declared.turn.Turn.{Turn}
-use Rattle.receiver.specs.View.{slotAt, view}
-use Rattle.receiver.specs.Order.{StoreInOrder}
+use Rattle.store.specs.View.{slotAt, view}
+use Rattle.store.specs.Order.{StoreInOrder}
 use Rattle.receiver.specs.Turn.{leftFront, budgetMet, gaveFront, turnBy, pollFront, after, turnsWithin, turns}
 use Rattle.receiver.specs.Drained.{Rests}
-use Rattle.receiver.proofs.ViewLaws.{slot-in}
+use Rattle.store.proofs.ViewLaws.{slot-in}
 use Rattle.receiver.proofs.SameFlags.{key-by}
-use Rattle.receiver.proofs.BetweenTurns.{FrontLane, front-lane}
+use Rattle.store.proofs.BetweenTurns.{FrontLane, front-lane}
 use Rattle.receiver.proofs.ReceiveLaws.{turning-of, turns-rest}
 use Rattle.receiver.proofs.EmptyLaneLaws.{Empties, empties-by-poll}
 use Rattle.receiver.proofs.LeftView.{left-view, left-in-order, left-queue, met-view, met-in-order}

@@ -23,16 +23,16 @@ use Rattle.lane.specs.Table.{laneAt, putLane, setHead}
 use Rattle.ready.specs.Header.{budget, capacity, fastSlot, laneCount, livingCount}
 use Rattle.ready.specs.Queue.{queueOf}
 use Rattle.ready.proofs.QueueLaws.{shaped-putLane}
-use Rattle.receiver.specs.View.{slotAt, view}
-use Rattle.receiver.specs.Order.{Stores, StoreInOrder}
+use Rattle.store.specs.View.{slotAt, view}
+use Rattle.store.specs.Order.{Stores, StoreInOrder}
 use Rattle.receiver.specs.Receive.{windowTook}
-use Rattle.receiver.proofs.ViewLaws.{slot-in, view-put-holding, view-budget}
-use Rattle.receiver.proofs.StepLaws.{Step, step-start, step-put-lane, step-budget, step-fast-slot}
-use Rattle.receiver.proofs.StoreLaws.{below-slots, Owes, stores-after, windows-front}
-use Rattle.receiver.proofs.LaneFields.{Flagged, flagged}
+use Rattle.store.proofs.ViewLaws.{slot-in, view-put-holding, view-budget}
+use Rattle.store.proofs.StepLaws.{Step, step-start, step-put-lane, step-budget, step-fast-slot}
+use Rattle.store.proofs.StoreLaws.{below-slots, Owes, stores-after, windows-front}
+use Rattle.store.proofs.LaneFields.{Flagged, flagged}
 use Rattle.receiver.proofs.SameFlags.{flags-by, slot-by, key-by}
-use Rattle.receiver.proofs.LaneView.{unreleasedSeen, burstSeen}
-use Rattle.receiver.proofs.BetweenTurns.{FrontLane, front-lane}
+use Rattle.store.proofs.LaneView.{unreleasedSeen, burstSeen}
+use Rattle.store.proofs.BetweenTurns.{FrontLane, front-lane}
 use Rattle.receiver.proofs.LeftView.{refill-some}
 use Rattle.receiver.proofs.TurnView.{TookAs}
 

@@ -20,18 +20,18 @@ use Rattle.lane.specs.Lane.{headOn, charged, addBurst, releaseAtBatch, refill, 
 use Rattle.lane.specs.Table.{putLane, setHead}
 use Rattle.ready.specs.Header.{queueCount, budget, capacity}
 use Rattle.ready.specs.Ready.{collectReady}
-use Rattle.receiver.specs.declared.refusal.Verdict.{Verdict}
-use Rattle.receiver.specs.declared.refusal.Verdict.the-variants.{Pass, Refuse}
+use Rattle.store.specs.declared.refusal.Verdict.{Verdict}
+use Rattle.store.specs.declared.refusal.Verdict.the-variants.{Pass, Refuse}
 use Rattle.receiver.specs.declared.drain.Front.{Front}
 use Rattle.receiver.specs.declared.drain.Front.the-variants as Front
 use Rattle.receiver.specs.declared.drain.Look.{Look}
 use Rattle.receiver.specs.declared.drain.Look.the-variants as Look
-use Rattle.receiver.specs.Refusal.{receiverVerdict, andThen}
-use Rattle.receiver.specs.Words.{Words, unlessRefused}
+use Rattle.store.specs.Refusal.{receiverVerdict, andThen}
+use Rattle.store.specs.Words.{Words, unlessRefused}
 use Rattle.receiver.specs.Turn.{Turning, frontLane, leftFront, budgetMet, rotatedIf}
 use Rattle.receiver.specs.Drained.{Idle, nothingTaken}
 use Rattle.receiver.specs.Receive.{collectedIfDue, withRings}
-use Rattle.receiver.specs.Batch.{releaseAll}
+use Rattle.control.specs.Batch.{releaseAll}
 
 -- ---- the lane whose turn it is
 

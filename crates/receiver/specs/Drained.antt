@@ -12,7 +12,7 @@ use Rattle.lane.specs.Table.{laneAt}
 use Rattle.ready.specs.Header.{issued, queueCount, laneCount, livingCount}
 use Rattle.receiver.specs.declared.turn.Took.{Took}
 use Rattle.receiver.specs.declared.turn.Took.the-variants as Took
-use Rattle.receiver.specs.Batch.{forSlots}
+use Rattle.control.specs.Batch.{forSlots}
 use Rattle.receiver.specs.Turn.{Turning, retiredIf}
 
 -- what is asked of the table where nothing was taken: no lane is queued

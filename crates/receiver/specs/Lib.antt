@@ -1,12 +1,3 @@
-pub mod View
-pub mod Order
-pub mod Refusal
-pub mod Words
-pub mod Sender
-pub mod Registry
-pub mod Control
-pub mod Batch
-pub mod Opening
 pub mod Turn
 pub mod Drained
 pub mod Receive

@@ -17,8 +17,8 @@ use Rattle.ready.specs.Queue.{frontSlot}
 use Rattle.ready.specs.Ready.{collectReady}
 use Rattle.receiver.specs.declared.turn.Took.{Took}
 use Rattle.receiver.specs.declared.turn.Took.the-variants as Took
-use Rattle.receiver.specs.Refusal.{receiverVerdict}
-use Rattle.receiver.specs.Words.{Words, unlessRefused}
+use Rattle.store.specs.Refusal.{receiverVerdict}
+use Rattle.store.specs.Words.{Words, unlessRefused}
 use Rattle.receiver.specs.Turn.{frontLane, turns}
 use Rattle.receiver.specs.Drained.{nothingTaken}
 

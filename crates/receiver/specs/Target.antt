@@ -16,10 +16,10 @@ use Rattle.lane.specs.Lane.{refill, popTargeted}
 use Rattle.lane.specs.Table.{laneAt, putLane}
 use Rattle.ready.specs.Header.{capacity, channel}
 use Rattle.ready.specs.Queue.{pushedBack, removed}
-use Rattle.receiver.specs.Refusal.{idVerdict}
-use Rattle.receiver.specs.Words.{Words, unlessRefused}
-use Rattle.receiver.specs.Sender.{markedIfIdle}
-use Rattle.receiver.specs.Control.{withTurn}
+use Rattle.store.specs.Refusal.{idVerdict}
+use Rattle.store.specs.Words.{Words, unlessRefused}
+use Rattle.store.specs.Signal.{markedIfIdle}
+use Rattle.control.specs.Control.{withTurn}
 use Rattle.receiver.specs.Turn.{retiredIf}
 use Rattle.receiver.specs.Receive.{withRings}
 

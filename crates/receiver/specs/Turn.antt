@@ -24,8 +24,8 @@ use Rattle.receiver.specs.declared.turn.Took.{Took}
 use Rattle.receiver.specs.declared.turn.Took.the-variants as Took
 use Rattle.receiver.specs.declared.turn.Turn.{Turn}
 use Rattle.receiver.specs.declared.turn.Turn.the-variants as Turn
-use Rattle.receiver.specs.View.{flag}
-use Rattle.receiver.specs.Registry.{retireLane}
+use Rattle.store.specs.View.{flag}
+use Rattle.store.specs.Registry.{retireLane}
 
 -- the number of registered lanes
 unfoldable pub registeredIn : List ℕ → ℕ

@@ -3,7 +3,7 @@ ghost use mathlib.Core.Path.{_≡_};
 ghost use Prim.Native.Nat.{_+_, _≤_, _<_};
 ghost use lib.ListN.{length};
 ghost use Rattle.ready.specs.Header.{Shaped, slots, queueCount, budget};
-ghost use Rattle.receiver.specs.Order.{StoreInOrder};
+ghost use Rattle.store.specs.Order.{StoreInOrder};
 ghost use Rattle.receiver.specs.Turn.{Turning, Ringed};
 ghost use Rattle.receiver.specs.Drain.{
   Fronts,
@@ -20,12 +20,10 @@ ghost use Rattle.receiver.specs.Drain.{
   answerItems,
   batchInto,
 };
-use crate::batch;
 use crate::drained;
 use crate::receiver;
-use crate::refusal;
-use crate::refusal::Verdict;
 use crate::turn;
+use control::batch;
 use lane::lane::Lane;
 use lane::lane::Refill;
 use lane::num;
@@ -35,6 +33,8 @@ use model::Refusal;
 use ready::header::Header;
 use ready::queue;
 use ready::ready as marks;
+use store::refusal;
+use store::refusal::Verdict;
 
 // The front lane with items at hand, or no lane is queued.
 pub enum Front {

@@ -3,7 +3,7 @@ ghost use mathlib.Core.Path.{_≡_};
 ghost use Prim.Native.Nat.{_<_};
 ghost use Rattle.lane.specs.Order.{poppedLane};
 ghost use Rattle.ready.specs.Header.{Shaped, slots, budget};
-ghost use Rattle.receiver.specs.Order.{StoreInOrder};
+ghost use Rattle.store.specs.Order.{StoreInOrder};
 ghost use Rattle.receiver.specs.Turn.{Turning, Ringed};
 ghost use Rattle.receiver.specs.Drained.{Rests};
 ghost use Rattle.receiver.specs.Receive.{
@@ -23,8 +23,6 @@ ghost use Rattle.receiver.specs.Receive.{
   tryRecvFair,
 };
 use crate::drained;
-use crate::refusal;
-use crate::refusal::Verdict;
 use crate::turn;
 use crate::turn::Took;
 use lane::lane::Lane;
@@ -35,6 +33,8 @@ use model::LaneId;
 use ready::header::Header;
 use ready::queue;
 use ready::ready as marks;
+use store::refusal;
+use store::refusal::Verdict;
 
 // An item of a window: its lane goes back, and the budget is charged.
 fn took_of_window(t: &mut [u64], item: u64, l: Lane) -> Took

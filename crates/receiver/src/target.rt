@@ -3,13 +3,10 @@ ghost use mathlib.Core.Path.{_≡_};
 ghost use Prim.Native.Nat.{_<_};
 ghost use Rattle.lane.specs.Table.{laneAt};
 ghost use Rattle.ready.specs.Header.{Shaped, issued, slots, queueCount, freeCount, laneCount};
-ghost use Rattle.receiver.specs.Order.{StoreInOrder};
+ghost use Rattle.store.specs.Order.{StoreInOrder};
 ghost use Rattle.receiver.specs.Target.{targetSettled, targetQueued, targetKept, takeFrom, tryRecvFrom};
-use crate::lane_control;
-use crate::refusal;
-use crate::refusal::Verdict;
-use crate::sender;
 use crate::turn;
+use control::lane_control;
 use lane::lane::EmptyLane;
 use lane::lane::Lane;
 use lane::lane::Refill;
@@ -18,6 +15,9 @@ use model::Answer;
 use model::LaneId;
 use ready::header::Header;
 use ready::queue;
+use store::refusal;
+use store::refusal::Verdict;
+use store::signal;
 
 fn settle_target(t: &mut [u64], found: EmptyLane) -> Answer
     requires { ⌜ Shaped (now t) × (found .lane .key .slot < slots (now t)) × (freeCount (now t) < slots (now t)) × (0 < laneCount (now t)) ⌝ }
@@ -39,7 +39,7 @@ fn queue_target(t: &mut [u64], l: Lane)
     ensures { λ _. ⌜ now (t .exit) ≡ targetQueued (now (t .entry)) l ⌝ }
 {
     lane_control::with_turn(l, 1, 1, 0).store(t);
-    sender::mark_if_idle(t, l);
+    signal::mark_if_idle(t, l);
     queue::push_back(t, l.key.slot);
 }
 

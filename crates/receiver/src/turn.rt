@@ -4,7 +4,6 @@ ghost use Prim.Native.Nat.{_*_, _≤_, _<_};
 ghost use lib.ListN.{length};
 ghost use Rattle.ready.specs.Header.{Shaped, slots, queueCount, freeCount, laneCount, capacity};
 ghost use Rattle.receiver.specs.Turn.{Turning, Ringed, retiredIf, leftFront, budgetMet, lessOne, rotatedIf, gaveFront, pollFront, turns};
-use crate::registry;
 use lane::lane::EmptyLane;
 use lane::lane::Lane;
 use lane::lane::LanePoll;
@@ -12,6 +11,7 @@ use lane::ring::Ring;
 use model::LaneKey;
 use ready::header::Header;
 use ready::queue;
+use store::registry;
 
 // What a take hands out.
 pub enum Took {

@@ -1,7 +1,7 @@
 -- `receiver::drain::batch_verdict` meets its contract.
 -- Assumes nothing.
 use Rattle.receiver.specs.Drain.{batchVerdict}
-use Rattle.receiver.specs.Refusal.{andThen}
+use Rattle.store.specs.Refusal.{andThen}
 use mathlib.Core.Path.{sym, _∙_}
 use borrow.Author.Needs.{needs}
 use Rattle.receiver.proofs.drain.batch_verdict.Statement.{statement}

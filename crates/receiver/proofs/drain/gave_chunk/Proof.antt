@@ -2,7 +2,7 @@
 -- Assumes nothing.
 use Rattle.receiver.specs.Drain.{gaveChunk}
 use Rattle.receiver.proofs.ChunkLaws.{end-keeps-flags}
-use Rattle.receiver.proofs.LaneFields.{Flagged}
+use Rattle.store.proofs.LaneFields.{Flagged}
 use Rattle.lane.proofs.TableLaws.{frames}
 use lib.ListN.{length-set}
 use native.Mathlib.Omega.{arith}

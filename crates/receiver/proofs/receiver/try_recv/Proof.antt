@@ -3,7 +3,7 @@
 use Rattle.model.specs.declared.Answer.{Answer}
 use Rattle.receiver.proofs.ReceiveLaws.{turning-of, take-one-rest}
 use Rattle.receiver.specs.Receive.{tryRecv, answerOne, withRings}
-use Rattle.receiver.specs.Words.{unlessRefused}
+use Rattle.store.specs.Words.{unlessRefused}
 use Rattle.receiver.specs.Drained.{Rests}
 use Prim.Native.Nat.{ℕ}
 use mathlib.Core.List.{List}

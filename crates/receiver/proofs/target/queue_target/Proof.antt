@@ -1,7 +1,7 @@
 -- `receiver::target::queue_target` meets its contract.
 -- Assumes nothing.
 use Rattle.receiver.specs.Target.{targetQueued}
-use Rattle.receiver.proofs.SignalFrames.{shaped-marked-if-idle, head-marked-if-idle}
+use Rattle.store.proofs.SignalFrames.{shaped-marked-if-idle, head-marked-if-idle}
 use Rattle.ready.proofs.QueueLaws.{shaped-putLane}
 use Rattle.lane.proofs.TableLaws.{frames}
 use native.Mathlib.Omega.{arith}

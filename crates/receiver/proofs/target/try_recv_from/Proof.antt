@@ -1,9 +1,9 @@
 -- `receiver::target::try_recv_from` meets its contract.
 -- Assumes nothing.
-use Rattle.receiver.proofs.RefusalLaws.{id-passes}
+use Rattle.store.proofs.RefusalLaws.{id-passes}
 use Rattle.receiver.specs.Target.{tryRecvFrom}
 use Rattle.receiver.specs.Receive.{withRings}
-use Rattle.receiver.specs.Words.{unlessRefused}
+use Rattle.store.specs.Words.{unlessRefused}
 use Rattle.model.specs.declared.Answer.{Answer}
 use Prim.Native.Nat.{ℕ}
 use mathlib.Core.List.{List}

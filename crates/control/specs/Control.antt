@@ -1,0 +1,63 @@
+-- Pause, resume, close lane and close receiver, as words.
+-- Assumes nothing.
+use mathlib.Core.Bool.{cond}
+use mathlib.Core.List.{List}
+use Prim.Native.Nat.{ℕ, _+_}
+use lib.Dec.{eqb}
+use Rattle.model.specs.declared.LaneId.{LaneId}
+use Rattle.model.specs.declared.Answer.the-variants.{Done}
+use Rattle.lane.specs.declared.lane.Lane.{Lane}
+use Rattle.lane.specs.Lane.{releasePending}
+use Rattle.lane.specs.Table.{laneAt, putLane, setHead}
+use Rattle.ready.specs.Queue.{pushedBack, removed}
+use Rattle.store.specs.Refusal.{receiverVerdict, idVerdict}
+use Rattle.store.specs.Words.{Words, unlessRefused}
+use Rattle.store.specs.Signal.{markedIfIdle}
+use Rattle.store.specs.Registry.{retireLane}
+
+-- a lane with another signal, in or out of the queue, paused or not
+abbrev pub withTurn : ℕ → ℕ → ℕ → Lane → Lane
+withTurn pending queued paused l =
+    record {
+      key = l .key;
+      tail = l .tail;
+      released = l .released;
+      head = l .head;
+      known = l .known;
+      cached = l .cached;
+      unreleased = l .unreleased;
+      burst = l .burst;
+      window = l .window;
+      pending = pending;
+      queued = queued;
+      paused = paused;
+      registered = l .registered;
+      living = l .living;
+    }
+
+-- credit goes back "on `pause`"; a paused lane is in no queue
+unfoldable pub pausedLane : Lane → Lane
+pausedLane l = withTurn (l .pending) 0 1 (releasePending l .lane)
+
+unfoldable pub paused : List ℕ → Lane → List ℕ
+paused t l = removed (putLane t (pausedLane l)) (l .key .slot)
+
+unfoldable pub pause : List ℕ → List ℕ → LaneId → Words
+pause t r i = unlessRefused (idVerdict t i) t r (Done, paused t (laneAt t (i .key .slot)), r)
+
+-- "Whatever queues a lane, resume too, puts it at the back." Its signal is marked.
+unfoldable pub resumed : List ℕ → Lane → List ℕ
+resumed t l = cond (eqb (l .paused) 1) (pushedBack (markedIfIdle (putLane t (withTurn 1 1 0 l)) l) (l .key .slot)) t
+
+unfoldable pub resume : List ℕ → List ℕ → LaneId → Words
+resume t r i = unlessRefused (idVerdict t i) t r (Done, resumed t (laneAt t (i .key .slot)), r)
+
+unfoldable pub closed : List ℕ → Lane → List ℕ
+closed t l = retireLane (removed t (l .key .slot)) l
+
+unfoldable pub closeLane : List ℕ → List ℕ → LaneId → Words
+closeLane t r i = unlessRefused (idVerdict t i) t r (Done, closed t (laneAt t (i .key .slot)), r)
+
+-- "Closing the receiver retires no lane"
+unfoldable pub closeReceiver : List ℕ → List ℕ → Words
+closeReceiver t r = unlessRefused (receiverVerdict t) t r (Done, setHead t 7 0, r)

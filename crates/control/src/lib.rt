@@ -1,0 +1,3 @@
+// The receiver calls that hand nothing out, on a store in order.
+pub mod batch;
+pub mod lane_control;

@@ -1,0 +1,259 @@
+-- The two sends: what the rules see of the words after is the rules' step, and they leave a store in order.
+-- Assumes nothing.
+use mathlib.Core.Path.{_≡_, refl, sym, ap, _∙_, subst}
+use mathlib.Core.Logic.{_≢_}
+use mathlib.Core.Bool.{Bool, true, false, not}
+use mathlib.Core.List.{List, [], _∷_, _++_}
+use Prim.Native.Nat.{ℕ, _*_, _≤_, _<_}
+use native.Mathlib.Omega.{arith}
+use borrow.Author.Tests.{eq-eqb, ne-eqb, eqb-true, eqb-false, le-leb, lt-leb}
+use lib.Dec.{eqb, leb}
+use lib.ListN.{length, set, length-set}
+use Rattle.model.specs.declared.LaneKey.{LaneKey}
+use Rattle.model.specs.declared.Refusal.{Refusal}
+use Rattle.model.specs.declared.Refusal.the-variants.{NoSuchSender, LaneClosed, Full}
+use Rattle.model.specs.declared.Answer.{Answer}
+use Rattle.model.specs.declared.Answer.the-variants.{Taken}
+use Rattle.model.specs.declared.SenderCall.the-variants.{TrySend, TrySendUnsignaled}
+use Rattle.model.specs.declared.Call.the-variants.{Sender}
+use Rattle.model.specs.Lists.{both}
+use Rattle.model.specs.State.{Slot, State, senderLives, isFull}
+use Rattle.model.specs.Changes as rules
+use Rattle.model.specs.Changes.{put}
+use Rattle.model.specs.Outcome.{Outcome, says, unless}
+use Rattle.model.specs.Sender as rules-sender
+use Rattle.model.specs.Rules.{outcome}
+use Rattle.lane.specs.declared.lane.Lane.{Lane}
+use Rattle.lane.specs.declared.ring.Ring.{Ring}
+use Rattle.lane.specs.declared.consumer.Sent.{Sent}
+use Rattle.lane.specs.declared.consumer.Sent.the-variants as Sent
+use Rattle.lane.specs.Cursor.{after, distance}
+use Rattle.lane.specs.Ring.{Within, ringOf, place, push}
+use Rattle.lane.specs.Lane.{withCursors, held, sent, pushAndFlush}
+use Rattle.lane.specs.Order.{InOrder, sentLane}
+use Rattle.lane.specs.Table.{laneAt, putLane}
+use Rattle.lane.proofs.TableLaws.{frames, slot-of-lane}
+use Rattle.lane.proofs.RingLaws.{length-items}
+use Rattle.lane.proofs.OrderLaws.{push-and-flush-keeps}
+use Rattle.ready.specs.Header.{issued, slots, budget, capacity, fastSlot, laneCount, livingCount}
+use Rattle.ready.specs.Queue.{queueOf}
+use Rattle.ready.specs.Ready.{pageBit}
+use Rattle.ready.proofs.QueueLaws.{shaped-putLane}
+use Rattle.store.specs.View.{slotOf, slotAt, view}
+use Rattle.store.specs.Order.{Stores, StoreInOrder}
+use Rattle.store.specs.Refusal.{sendVerdict}
+use Rattle.store.specs.Words.{Words, unlessRefused}
+use Rattle.store.specs.Signal.{markedIfIdle}
+use Rattle.sender.specs.Sender.{withSender, takenSignaled, sendSignaled, sendUnsignaled, pushed, trySend, trySendUnsignaled}
+use Rattle.store.proofs.ViewLaws.{slot-in, view-sent}
+use Rattle.store.proofs.RefusalLaws.{seen, unless-append, unless-refused-case, refused-alike, send-verdict, Sends, send-passes}
+use Rattle.store.proofs.StepLaws.{Step, step-start, step-put-lane}
+use Rattle.store.proofs.StoreLaws.{issued-ring-in, span-is, store-in-order-after, Owes, stores-after, windows-kept}
+use Rattle.store.proofs.SignalLaws.{idle-flag, view-put-marked-if-idle, step-marked-if-idle}
+
+-- ---- what a push comes to
+
+-- the lane with one more item published
+abbrev grown : Lane → Lane
+grown l = withCursors (after (l .tail) 1) (l .released) (l .head) (l .known) l
+
+module _ (ring : Ring) (r : List ℕ) (v : ℕ) (l : Lane) where
+  push-full : distance (l .tail) (l .released) ≡ ring .capacity → pushAndFlush ring r v l ≡ (Sent.Full l, r)
+  unfolding pushAndFlush sent push
+  push-full e = rw (eq-eqb _ _ e)
+
+  push-taken : distance (l .tail) (l .released) ≢ ring .capacity → pushAndFlush ring r v l ≡ (Sent.Taken (grown l), set r (place ring (l .tail)) v)
+  unfolding pushAndFlush sent push
+  push-taken n = rw (ne-eqb _ _ n)
+
+-- a number within a bound has reached it exactly if it is the bound
+reached : (d C : ℕ) → d ≤ C → leb C d ≡ eqb d C
+reached d C h = go (eqb d C) refl
+  where
+    go : (b : Bool) → eqb d C ≡ b → leb C d ≡ b
+    go true e = le-leb C d (omega (arith, eqb-true d C e))
+    go false e = lt-leb C d (omega (arith, eqb-false d C e))
+
+-- ---- a send to a lane that is open
+
+module _ (t r : List ℕ) (k : LaneKey) (v : ℕ) (o : Stores t r) (p : Sends t k) where
+  abbrev x : ℕ
+  x = k .slot
+
+  abbrev l : Lane
+  l = laneAt t x
+
+  abbrev C : ℕ
+  C = capacity t
+
+  abbrev s : State
+  s = view t r
+
+  is-issued : x < issued t
+  is-issued = p .lives .is-issued
+
+  order : InOrder C l
+  order = o .lanes x is-issued (p .registered)
+
+  ring-in : Within (ringOf x C) (length r)
+  ring-in = issued-ring-in t r o x is-issued
+
+  -- the rules' test of a full ring is the ring's
+  full-alike : isFull s x ≡ eqb (distance (l .tail) (l .released)) C
+  unfolding isFull view slotAt held
+  full-alike =
+      rw (slot-in t r x is-issued, length-items (ringOf x C) r (l .head) (distance (l .tail) (l .head)), ← span-is C (o .power .most) l order)
+      (reached (distance (l .tail) (l .released)) C (order .cursors .tail-within))
+
+  -- an item refused as full, or taken
+  sent-case : (P : Sent × List ℕ → Bool → Type 0) → P (Sent.Full l, r) true
+      → (distance (l .tail) (l .released) ≢ C → P (Sent.Taken (grown l), set r (place (ringOf x C) (l .tail)) v) false) → P (pushed t r k v) (isFull s x)
+  sent-case P f g = rw full-alike (go (eqb (distance (l .tail) (l .released)) C) refl)
+    where
+      go : (b : Bool) → eqb (distance (l .tail) (l .released)) C ≡ b → P (pushed t r k v) b
+      go true e = rw (push-full (ringOf x C) r v l (eqb-true _ _ e)) f
+      go false e = rw (push-taken (ringOf x C) r v l (eqb-false _ _ e)) (g (eqb-false _ _ e))
+
+  module _ (n : distance (l .tail) (l .released) ≢ C) where
+    abbrev q : List ℕ
+    q = set r (place (ringOf x C) (l .tail)) v
+
+    -- the lane with its item, whatever its signal
+    view-taken : (m : Lane) → m .key .slot ≡ x → m .head ≡ l .head → m .tail ≡ after (l .tail) 1
+        → view (putLane t m) q ≡ put x (slotOf m (pageBit t x) (held (ringOf x C) r l ++ (v ∷ []))) s
+    view-taken m e a b =
+        let w : pushAndFlush (ringOf x C) r v l ≡ (Sent.Taken (grown l), q) = push-taken (ringOf x C) r v l n in
+        ap (λ (z : Sent × List ℕ). view (putLane t m) (z .1)) (sym w)
+        ∙ view-sent t r (o .shaped) x is-issued ring-in v order n m e
+        (a ∙ ap (λ (z : Sent × List ℕ). sentLane (z .0) .head) (sym w)) (b ∙ ap (λ (z : Sent × List ℕ). sentLane (z .0) .tail) (sym w))
+
+    order-taken : InOrder C (grown l)
+    order-taken =
+        subst (λ (z : Sent × List ℕ). InOrder C (sentLane (z .0))) (push-taken (ringOf x C) r v l n) (push-and-flush-keeps (ringOf x C) (o .power .most) r v l order)
+
+    -- what a send owes for the lane, whatever its signal
+    owes-taken : (pending : ℕ) → pending ≤ 1 → Owes t x (withSender pending (l .living) (grown l)) (queueOf t) (fastSlot t) (budget t) (laneCount t) (livingCount t)
+    owes-taken pending h =
+        let f = o .flags x is-issued in
+        record {
+          flags = record { pending-flag = h; queued-flag = f .queued-flag; paused-flag = f .paused-flag; registered-flag = f .registered-flag; living-flag = f .living-flag };
+          order = λ e. record { cursors = order-taken .cursors; counts = order-taken .counts };
+          fast-below = o .fast-below;
+          once = o .named .once x;
+          flagged = λ e. o .named .flagged x is-issued e;
+          rest = λ y d. refl;
+          window = λ e g. o .windows x is-issued e g;
+          windows = windows-kept t r o x (budget t) (omega arith);
+          lane-count = refl;
+          living-count = refl;
+        }
+
+    long-enough : slots t * C ≤ length q
+    long-enough = rw (length-set r (place (ringOf x C) (l .tail)) v) (o .rings-room)
+
+    -- ---- the two kinds
+
+    signaled-view : seen (sendSignaled t (Sent.Taken (grown l), q)) ≡ (Taken (not (s .slotOf x .pending)), put x (rules.signalled (rules.pushed v (s .slotOf x))) s)
+    unfolding sendSignaled takenSignaled slotAt
+    signaled-view =
+        let m : Lane = withSender 1 (l .living) (grown l) in
+        let at : l .key .slot ≡ x = slot-of-lane t x in
+        let idle = idle-flag (l .pending) (o .flags x is-issued .pending-flag) in
+        ap (λ (z : State). (Taken (eqb (l .pending) 0), z))
+        (view-put-marked-if-idle (putLane t m) q (shaped-putLane t (o .shaped) m) (grown l) x at (simp frames is-issued) _ s (view-taken m at refl refl))
+        ∙ rw (slot-in t r x is-issued, idle)
+
+    unsignaled-view : seen (sendUnsignaled t (Sent.Taken (grown l), q)) ≡ (Taken false, put x (rules.pushed v (s .slotOf x)) s)
+    unfolding sendUnsignaled slotAt
+    unsignaled-view =
+        ap (λ (z : State). (Taken false, z)) (view-taken (grown l) (slot-of-lane t x) refl refl) ∙ rw (slot-in t r x is-issued)
+
+    start : Step t t x l (queueOf t) (fastSlot t) (budget t) (laneCount t) (livingCount t)
+    start = step-start t r o x
+
+    signaled-stores : Stores (markedIfIdle (putLane t (withSender 1 (l .living) (grown l))) (grown l)) q
+    signaled-stores =
+        let m : Lane = withSender 1 (l .living) (grown l) in
+        let at : l .key .slot ≡ x = slot-of-lane t x in
+        stores-after t r _ q o x is-issued m (queueOf t) (fastSlot t) (budget t) (laneCount t) (livingCount t)
+        (step-marked-if-idle (step-put-lane start m at is-issued) (grown l) (rw at is-issued)) (owes-taken 1 (omega arith)) long-enough
+
+    unsignaled-stores : Stores (putLane t (grown l)) q
+    unsignaled-stores =
+        stores-after t r _ q o x is-issued (grown l) (queueOf t) (fastSlot t) (budget t) (laneCount t) (livingCount t)
+        (step-put-lane start (grown l) (slot-of-lane t x) is-issued) (owes-taken (l .pending) (o .flags x is-issued .pending-flag)) long-enough
+
+  -- ---- full, or taken
+
+  -- the rules' outcome where the lane is open
+  abbrev unlessFull : Answer → Slot → Answer × State
+  unlessFull a z = (unless ((isFull s x, Full) ∷ []) s (says a (put x z s))) .1
+
+  signaled-alike : seen (sendSignaled t (pushed t r k v)) ≡ unlessFull (Taken (not (s .slotOf x .pending))) (rules.signalled (rules.pushed v (s .slotOf x)))
+  unfolding sendSignaled unless
+  signaled-alike =
+      sent-case
+      (λ z b. seen (sendSignaled t z) ≡ (unless ((b, Full) ∷ []) s (says (Taken (not (s .slotOf x .pending))) (put x (rules.signalled (rules.pushed v (s .slotOf x))) s))) .1)
+      refl signaled-view
+
+  unsignaled-alike : seen (sendUnsignaled t (pushed t r k v)) ≡ unlessFull (Taken false) (rules.pushed v (s .slotOf x))
+  unfolding sendUnsignaled unless
+  unsignaled-alike =
+      sent-case (λ z b. seen (sendUnsignaled t z) ≡ (unless ((b, Full) ∷ []) s (says (Taken false) (put x (rules.pushed v (s .slotOf x)) s))) .1) refl unsignaled-view
+
+  signaled-keeps : Stores ((sendSignaled t (pushed t r k v)) .1) ((sendSignaled t (pushed t r k v)) .2)
+  unfolding sendSignaled takenSignaled
+  signaled-keeps = sent-case (λ z b. Stores ((sendSignaled t z) .1) ((sendSignaled t z) .2)) o signaled-stores
+
+  unsignaled-keeps : Stores ((sendUnsignaled t (pushed t r k v)) .1) ((sendUnsignaled t (pushed t r k v)) .2)
+  unfolding sendUnsignaled
+  unsignaled-keeps = sent-case (λ z b. Stores ((sendUnsignaled t z) .1) ((sendUnsignaled t z) .2)) o unsignaled-stores
+
+-- ---- the calls
+
+module _ (t r : List ℕ) (k : LaneKey) (v : ℕ) (o : StoreInOrder t r) where
+  -- the tests that both sends share, and the ring's
+  abbrev shared : List (Bool × Refusal)
+  shared =
+      (not (senderLives (view t r) k), NoSuchSender)
+      ∷ (not (both (view t r .isOpen) (view t r .slotOf (k .slot) .registered)), LaneClosed) ∷ []
+
+  abbrev full : List (Bool × Refusal)
+  full = (isFull (view t r) (k .slot), Full) ∷ []
+
+  -- a call with these tests, where it is as the rules say once the shared ones pass
+  sends-alike : (w : Words) (a : Outcome) → (Sends t k → seen w ≡ (unless full (view t r) a) .1)
+      → seen (unlessRefused (sendVerdict t k) t r w) ≡ (unless (shared ++ full) (view t r) a) .1
+  sends-alike w a f =
+      refused-alike (sendVerdict t k) shared t r w (unless full (view t r) a) (send-verdict t r k) (λ e. f (send-passes t k e))
+      ∙ ap (λ (z : Outcome). z .1) (sym (unless-append shared full (view t r) a))
+
+  sends-keep : (w : Words) → (Sends t k → Stores (w .1) (w .2)) → Stores ((unlessRefused (sendVerdict t k) t r w) .1) ((unlessRefused (sendVerdict t k) t r w) .2)
+  sends-keep w f = unless-refused-case (λ z. Stores (z .1) (z .2)) (sendVerdict t k) t r w (λ why e. o .stores) (λ e. f (send-passes t k e))
+
+  -- a send does what the rules say, and answers as they do
+  pub try-send-alike : seen (trySend t r k v) ≡ (rules-sender.trySend (view t r) k v) .1
+  unfolding trySend rules-sender.trySend
+  try-send-alike = sends-alike (sendSignaled t (pushed t r k v)) _ (signaled-alike t r k v (o .stores))
+
+  pub try-send-unsignaled-alike : seen (trySendUnsignaled t r k v) ≡ (rules-sender.trySendUnsignaled (view t r) k v) .1
+  unfolding trySendUnsignaled rules-sender.trySendUnsignaled
+  try-send-unsignaled-alike = sends-alike (sendUnsignaled t (pushed t r k v)) _ (unsignaled-alike t r k v (o .stores))
+
+  -- and leaves a store in order
+  pub try-send-keeps : Stores ((trySend t r k v) .1) ((trySend t r k v) .2)
+  unfolding trySend
+  try-send-keeps = sends-keep (sendSignaled t (pushed t r k v)) (signaled-keeps t r k v (o .stores))
+
+  pub try-send-unsignaled-keeps : Stores ((trySendUnsignaled t r k v) .1) ((trySendUnsignaled t r k v) .2)
+  unfolding trySendUnsignaled
+  try-send-unsignaled-keeps = sends-keep (sendUnsignaled t (pushed t r k v)) (unsignaled-keeps t r k v (o .stores))
+
+  pub try-send-in-order : StoreInOrder ((trySend t r k v) .1) ((trySend t r k v) .2)
+  unfolding outcome rules-sender.senderOutcome
+  try-send-in-order = store-in-order-after t r (Sender (TrySend k v)) (trySend t r k v) o try-send-alike try-send-keeps
+
+  pub try-send-unsignaled-in-order : StoreInOrder ((trySendUnsignaled t r k v) .1) ((trySendUnsignaled t r k v) .2)
+  unfolding outcome rules-sender.senderOutcome
+  try-send-unsignaled-in-order =
+      store-in-order-after t r (Sender (TrySendUnsignaled k v)) (trySendUnsignaled t r k v) o try-send-unsignaled-alike try-send-unsignaled-keeps

@@ -1,0 +1,3 @@
+// Opening, and the sender calls on a store in order.
+pub mod mpsc;
+pub mod sender;

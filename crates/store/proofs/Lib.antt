@@ -1,0 +1,17 @@
+pub mod ViewLaws
+pub mod RefusalLaws
+pub mod StepLaws
+pub mod CountLaws
+pub mod StoreLaws
+pub mod CollectedView
+pub mod CollectedStore
+pub mod BetweenTurns
+pub mod EnqueueLaws
+pub mod RetireFrames
+pub mod SignalFrames
+pub mod CreditLaws
+pub mod SignalLaws
+pub mod BackLaws
+pub mod RetireLaws
+pub mod LaneView
+pub mod LaneFields

@@ -1,0 +1,80 @@
+-- A lane retires: what the rules see of it, and the run of stores that it belongs to.
+-- Assumes nothing.
+use mathlib.Core.Path.{_≡_, refl, sym, ap, ap₂, _∙_}
+use mathlib.Core.Bool.{Bool, true, false, cond}
+use mathlib.Core.List.{List, _∷_}
+use Prim.Native.Nat.{ℕ, _-_, _<_}
+use lib.Dec.{eqb}
+use Rattle.model.specs.Lists.{if}
+use Rattle.model.specs.State.{Slot, State}
+use Rattle.model.specs.Changes as changes
+use Rattle.model.specs.Changes.{put, withFree, withFlags, withSignal}
+use Rattle.model.specs.Turn as rules
+use Rattle.lane.specs.declared.lane.Lane.{Lane}
+use Rattle.lane.specs.Table.{laneAt, putLane, setHead}
+use Rattle.lane.proofs.TableLaws.{frames, slot-of-lane}
+use Rattle.ready.specs.Header.{Shaped, issued, slots, freeCount, laneCount}
+use Rattle.ready.specs.Registry.{freed}
+use Rattle.ready.proofs.QueueLaws.{shaped-putLane}
+use Rattle.store.specs.View.{flag, slotAt, view}
+use Rattle.store.specs.Registry.{retired, freedUnlessLast, retireLane}
+use Rattle.store.proofs.ViewLaws.{slot-in, view-put-flags, view-lane-count, view-freed}
+use Rattle.store.proofs.StepLaws.{Step, step-put-lane, step-lane-count, step-freed}
+use Rattle.store.proofs.RetireFrames.{shaped-lowered, room-lowered}
+
+module _ (t r : List ℕ) (s : Shaped t) (x : ℕ) (h : x < issued t) where
+  abbrev old : Lane
+  old = laneAt t x
+
+  abbrev slot : Slot
+  slot = view t r .slotOf x
+
+  -- the lane stored as unregistered, and counted no more
+  abbrev lowered : List ℕ
+  lowered = setHead (putLane t (retired old)) 13 (laneCount t - 1)
+
+  slot-retired : withFlags (flag (retired old .registered)) (flag (retired old .living)) (flag (retired old .paused)) (withSignal (flag (retired old .pending)) (slot .marked) slot)
+      ≡ changes.retired slot
+  unfolding slotAt
+  slot-retired =
+      let sees = slot-in t r x h in
+      ap₂ (λ (a b : Bool). withFlags false a false (withSignal b (slot .marked) slot)) (sym (ap (λ (m : Slot). m .living) sees)) (sym (ap (λ (m : Slot). m .pending) sees))
+
+  view-lowered : view lowered r ≡ put x (changes.retired slot) (view t r)
+  view-lowered =
+      view-lane-count (putLane t (retired old)) r (shaped-putLane t s (retired old)) (laneCount t - 1)
+      ∙ view-put-flags t r s x h (retired old) refl refl refl refl refl
+      ∙ ap (λ (m : Slot). put x m (view t r)) slot-retired
+
+  generation-seen : slot .generation ≡ old .key .generation
+  unfolding slotAt
+  generation-seen = ap (λ (m : Slot). m .generation) (slot-in t r x h)
+
+  pub view-retire-lane : freeCount t < slots t → view (retireLane t old) r ≡ rules.retireLane x (view t r)
+  unfolding retireLane freedUnlessLast rules.retireLane
+  view-retire-lane room =
+      ap (λ (y : ℕ). view (cond (eqb (old .key .generation) 18446744073709551615) lowered (freed lowered y)) r) (slot-of-lane t x)
+      ∙ go (eqb (old .key .generation) 18446744073709551615)
+      ∙ ap (λ (n : ℕ). withFree (if (eqb n 18446744073709551615) (view t r .free) (x ∷ view t r .free)) (put x (changes.retired slot) (view t r))) (sym generation-seen)
+    where
+      go : (b : Bool) → view (cond b lowered (freed lowered x)) r ≡ withFree (if b (view t r .free) (x ∷ view t r .free)) (put x (changes.retired slot) (view t r))
+      go true = view-lowered
+      go false =
+          view-freed lowered r (shaped-lowered t (retired old) (laneCount t - 1) s) x (room-lowered t (retired old) (laneCount t - 1) room)
+          ∙ ap (λ (v : State). withFree (x ∷ v .free) v) view-lowered
+
+-- in a run of stores
+pub step-retire-lane : {t u : List ℕ} {x : ℕ} {l : Lane} {w : List ℕ} {f b n m : ℕ} → Step t u x l w f b n m → (o : Lane) → o .key .slot ≡ x → x < issued t
+    → freeCount u < slots u → Step t (retireLane u o) x (retired o) w f b (laneCount u - 1) m
+unfolding retireLane freedUnlessLast
+step-retire-lane {t = t} {u = u} {x = x} {l = l} {w = w} {f = f} {b = b} {n = n} {m = m} k o e h room = go (eqb (o .key .generation) 18446744073709551615)
+  where
+    low : List ℕ
+    low = setHead (putLane u (retired o)) 13 (laneCount u - 1)
+
+    step : Step t low x (retired o) w f b (laneCount u - 1) m
+    step = step-lane-count (step-put-lane k (retired o) e h) (laneCount u - 1)
+
+    go : (c : Bool) → Step t (cond c low (freed low (o .key .slot))) x (retired o) w f b (laneCount u - 1) m
+    go true = step
+    go false = step-freed step (o .key .slot) (room-lowered u (retired o) (laneCount u - 1) room)

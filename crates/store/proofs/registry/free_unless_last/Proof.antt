@@ -1,0 +1,22 @@
+-- `store::registry::free_unless_last` meets its contract.
+-- Assumes nothing.
+use Rattle.store.specs.Registry.{freedUnlessLast}
+use borrow.Author.Tests.{eq-eqb, ne-eqb}
+use borrow.Author.Needs.{needs}
+use Rattle.store.proofs.registry.free_unless_last.Statement.{statement}
+use Rattle.store.proofs.registry.free_unless_last.Tie as tie
+
+returns : tie.Need-returns
+unfolding freedUnlessLast
+returns c = simp (eq-eqb _ _ (c .if1 .taken))
+
+returns-2 : tie.Need-returns-2
+unfolding freedUnlessLast
+returns-2 c = simp (ne-eqb _ _ (c .before .before .before .before .if1 .left)) (c .before .before .free .ensures)
+
+pub free-unless-last-spec : {M : Type 1} → statement M
+free-unless-last-spec = tie.close (tie.spec
+    returns
+    (λ c κs. search needs)
+    (λ c. search needs)
+    returns-2)
