@@ -45,4 +45,5 @@ pub mod FoundEmptyLaws
 pub mod TargetTookLaws
 pub mod TryRecvFromLaws
 pub mod HandsLaws
+pub mod KeysKept
 pub mod StaleNever
