@@ -47,3 +47,4 @@ pub mod TryRecvFromLaws
 pub mod HandsLaws
 pub mod KeysKept
 pub mod StaleNever
+pub mod RefusedUnmoved

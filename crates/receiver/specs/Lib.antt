@@ -12,3 +12,4 @@ pub mod Drained
 pub mod Receive
 pub mod Target
 pub mod Hands
+pub mod Runs
