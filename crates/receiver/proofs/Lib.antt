@@ -41,6 +41,11 @@ pub mod DrainedLaws
 pub mod TargetLaws
 pub mod NothingTakenLaws
 pub mod LeftView
+pub mod GaveView
+pub mod TurnView
+pub mod WindowView
+pub mod WindowTakes
+pub mod TakeOneView
 pub mod FoundEmptyLaws
 pub mod TargetTookLaws
 pub mod TryRecvFromLaws
@@ -48,3 +53,7 @@ pub mod HandsLaws
 pub mod KeysKept
 pub mod StaleNever
 pub mod RefusedUnmoved
+pub mod ChannelKept
+pub mod TryRecvLaws
+pub mod TakeFairView
+pub mod TryRecvFairLaws

@@ -96,7 +96,7 @@ module _ (t r : List ℕ) (o : StoreInOrder t r) (h : fastSlot t < issued t) (e 
       (o .stores .shaped, rw at (slot-below t (turning-of t r o) (fastSlot t) h), omega (arith, w, o .stores .windows (fastSlot t) h e w .within))
 
 -- a window granted is within the budget
-granted-within : (C b : ℕ) (l : Lane) → C ≤ 65536 → InOrder C l → grantFast C b l .window ≤ b
+pub granted-within : (C b : ℕ) (l : Lane) → C ≤ 65536 → InOrder C l → grantFast C b l .window ≤ b
 unfolding grantFast openFor
 granted-within C b l s o = window-for-fits C s b (reload (closeFast l)) (closed-reload-keeps C s l o) .3
 
