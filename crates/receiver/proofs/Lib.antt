@@ -57,3 +57,6 @@ pub mod ChannelKept
 pub mod TryRecvLaws
 pub mod TakeFairView
 pub mod TryRecvFairLaws
+pub mod CallLaws
+pub mod Simulation
+pub mod Demands

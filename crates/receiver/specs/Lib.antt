@@ -13,3 +13,4 @@ pub mod Receive
 pub mod Target
 pub mod Hands
 pub mod Runs
+pub mod Demands

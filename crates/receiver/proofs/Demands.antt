@@ -1,0 +1,81 @@
+-- The demands, of every list of calls on the two stores: the words simulate the rules, and so the rules' theorems hold of them.
+-- Assumes nothing.
+use mathlib.Core.Path.{_≡_, refl, subst}
+use mathlib.Core.Bool.{Bool, true, false, cond}
+use mathlib.Core.List.{List, [], _∷_}
+use Prim.Native.Nat.{ℕ}
+use lib.Dec.{eqb, ltb}
+use Rattle.model.specs.declared.LaneKey.{LaneKey}
+use Rattle.model.specs.declared.Call.{Call}
+use Rattle.model.specs.Lists.{if, both, Each}
+use Rattle.model.specs.State as rules
+use Rattle.model.specs.State.{vacant, hasLane}
+use Rattle.model.specs.Runs.{after}
+use Rattle.model.specs.Words.{CallFits, runsThatFit}
+use Rattle.model.specs.Demand1.{RefusalChangesNothing}
+use Rattle.model.specs.Demand2.{Demand2In}
+use Rattle.model.proofs.Words.{words-demand2, words-demand3, words-none-after-close, words-held-as-counted, words-hands-as-answered}
+use Rattle.lane.specs.Ring.{ringOf}
+use Rattle.lane.specs.Lane.{held}
+use Rattle.lane.specs.Table.{laneAt}
+use Rattle.ready.specs.Header.{issued, capacity}
+use Rattle.receiver.specs.View.{flag, slotAt, view}
+use Rattle.receiver.specs.Order.{StoreInOrder}
+use Rattle.receiver.specs.Runs.{BatchWords, theStores}
+use Rattle.receiver.specs.Demands.{itemsIn, runs, StaysInOrder, RefusalsChangeNothing, ItemsInOrder, AnswersTell, LanesWaitBounded, NoneAfterClose, HeldIsCounted}
+use Rattle.receiver.proofs.RefusedUnmoved.{open-unmoved}
+use Rattle.receiver.proofs.CallLaws.{BatchLaws, call-unmoved, output-unmoved, call-keeps}
+use Rattle.receiver.proofs.Simulation.{stores-simulate}
+
+-- a lane's ring in the words is the ring that the rules see
+ring-seen : (t r : List ℕ) (k : LaneKey) → rules.ringOf (view t r) k ≡ itemsIn t r k
+unfolding rules.ringOf hasLane itemsIn view slotAt vacant
+ring-seen t r k = go (ltb (k .slot) (issued t)) refl
+  where
+    vs : List ℕ
+    vs = held (ringOf (k .slot) (capacity t)) r (laneAt t (k .slot))
+
+    both-alike : (a b : Bool) → if (both a b) vs [] ≡ cond a (cond b vs []) []
+    both-alike true true = refl
+    both-alike true false = refl
+    both-alike false b = refl
+
+    go : (b : Bool) → ltb (k .slot) (issued t) ≡ b → rules.ringOf (view t r) k ≡ itemsIn t r k
+    go true e = rw e (both-alike (flag (laneAt t (k .slot) .registered)) (eqb (laneAt t (k .slot) .key .generation) (k .generation)))
+    go false e = rw e
+
+module _ (batch : BatchWords) (laws : BatchLaws batch) where
+  calls-keep : (w : theStores batch .State) (calls : List Call) → Each CallFits calls → StoreInOrder (w .0) (w .1)
+      → let end = after (theStores batch) w calls in StoreInOrder (end .0) (end .1)
+  unfolding after Each
+  calls-keep w [] f k = k
+  calls-keep w (c ∷ cs) f k = calls-keep ((theStores batch .step w c) .1) cs (f .1) (call-keeps batch laws (w .0) (w .1) k c)
+
+  pub stays-in-order : StaysInOrder batch
+  unfolding StaysInOrder runsThatFit stores-simulate
+  stays-in-order o t r d calls f =
+      calls-keep ((theStores batch .opens o (t, r)) .1) calls (f .1) (stores-simulate batch laws .opens-ok o (t, r) (f .0) d)
+
+  pub refusals-change-nothing : RefusalsChangeNothing batch
+  unfolding RefusalChangesNothing
+  refusals-change-nothing = record {
+    of-calls = λ w c why e. call-unmoved batch laws (w .0) (w .1) c why e;
+    of-outputs = λ w c out why e. output-unmoved batch laws (w .0) (w .1) c out why e;
+    of-openings = λ o w why e. open-unmoved (w .0) (w .1) o why e;
+  }
+
+  pub items-in-order : ItemsInOrder batch
+  unfolding stores-simulate
+  items-in-order = subst (Demand2In (theStores batch) (runs batch)) (λ i w k. ring-seen (w .0) (w .1) k i) (words-demand2 (theStores batch) (stores-simulate batch laws))
+
+  pub answers-tell : AnswersTell batch
+  answers-tell = words-hands-as-answered (theStores batch) (stores-simulate batch laws)
+
+  pub lanes-wait-bounded : LanesWaitBounded batch
+  lanes-wait-bounded = words-demand3 (theStores batch) (stores-simulate batch laws)
+
+  pub none-after-close : NoneAfterClose batch
+  none-after-close = words-none-after-close (theStores batch) (stores-simulate batch laws)
+
+  pub held-is-counted : HeldIsCounted batch
+  held-is-counted = words-held-as-counted (theStores batch) (stores-simulate batch laws)
