@@ -104,12 +104,17 @@ unfolding Plain Each registering
 receive-plain r [] a = (refl, tt)
 receive-plain r (g ∷ l) a = (refl, receive-plain r l a)
 
+-- a receive changes no generation at all
+pub receive-keeps-generations : (s : State) (c : ReceiveCall) (y : ℕ) → (outcome s (Receive c)) .1 .1 .slotOf y .generation ≡ s .slotOf y .generation
+unfolding ticks handed outcome
+receive-keeps-generations s c y = chain-generation (call-chain s (Receive c)) (receive-plain c ((receiveOutcome s c) .0) ((receiveOutcome s c) .1 .0)) y
+
 -- every call
 pub call-keeps-generation : (s : State) (c : Call) → Ordered s → (y : ℕ) → s .slotOf y .registered ≡ true → (outcome s c) .1 .1 .slotOf y .generation ≡ s .slotOf y .generation
-unfolding outcome ticks handed
+unfolding outcome
 call-keeps-generation s (Sender c) o y r = move-generation (sender-move s c) y (λ e. (o, r))
 call-keeps-generation s (Control c) o y r = move-generation (control-move s c) y (λ e. (o, r))
-call-keeps-generation s (Receive c) o y r = chain-generation (call-chain s (Receive c)) (receive-plain c ((receiveOutcome s c) .0) ((receiveOutcome s c) .1 .0)) y
+call-keeps-generation s (Receive c) o y r = receive-keeps-generations s c y
 
 -- and no slot is taken back
 chain-issued : {s u : State} {ts : List Tick} → Chain s ts u → s .issued ≤ u .issued

@@ -1,6 +1,7 @@
 -- The Rust's arm `Stale` is for an entry of the queue whose key no lane has any more: its slot holds no lane, or a later one.
 -- From a store in order it never occurs. The port's queue has slots and no generations, so this has two parts:
--- a slot that stands in the queue holds a registered lane, and no call changes that lane's key.
+-- a slot that stands in the queue holds a registered lane, and no call changes that lane's key. Turns of one receive leave a store in order each, and no
+-- receive changes any generation (`receive-keeps-generations`), so both hold between two turns too.
 -- Assumes nothing.
 use mathlib.Core.Path.{_≡_, refl, sym, ap, _∙_}
 use mathlib.Core.Bool.{false}
