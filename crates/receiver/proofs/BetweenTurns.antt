@@ -10,7 +10,7 @@ use Rattle.model.specs.Lists.{count}
 use Rattle.model.specs.State.{Slot, registeredLanes, livingSenders}
 use Rattle.model.specs.Order.{Ordered}
 use Rattle.model.specs.Ready.{groupsRound}
-use Rattle.model.proofs.OrderKept.{first-own, front-registered, front-alone, groups-round-exist, collect-each-ordered, collect-first-ordered}
+use Rattle.model.proofs.OrderKept.{first-own, front-registered, front-alone, budget-ordered, groups-round-exist, collect-each-ordered, collect-first-ordered}
 use Rattle.lane.specs.Table.{setHead, laneAt}
 use Rattle.lane.proofs.TableLaws.{frames}
 use Rattle.ready.specs.Header.{issued}
@@ -78,6 +78,15 @@ stores-budget t r o b k =
           (λ x h e w. let f = o .windows x h e w in record { at-fast = f .at-fast; in-front = f .in-front; within = k x h e w });
       lanes-counted = simp frames (o .lanes-counted ∙ sym (ap registeredLanes (view-budget t r (o .shaped) b)));
       living-counted = simp frames (o .living-counted ∙ sym (ap livingSenders (view-budget t r (o .shaped) b)));
+    }
+
+-- a budget of 64, which no window passes
+pub full-budget-in-order : (t r : List ℕ) → StoreInOrder t r → StoreInOrder (setHead t 5 64) r
+unfolding view
+full-budget-in-order t r o =
+    record {
+      stores = stores-budget t r (o .stores) 64 (λ x h g w. omega (arith, o .stores .windows x h g w .within, o .ordered .budget-most));
+      ordered = subst Ordered (sym (view-budget t r (o .stores .shaped) 64)) (budget-ordered 64 (view t r) (omega arith) (o .ordered));
     }
 
 -- ---- collecting

@@ -31,7 +31,7 @@ use Rattle.receiver.proofs.StoreLaws.{lane-counted, registered-seen, Ot
 use Rattle.receiver.proofs.SignalLaws.{idle-flag}
 use Rattle.receiver.proofs.RetireLaws.{view-retire-lane, step-retire-lane}
 use Rattle.receiver.proofs.LaneFields.{Fixed}
-use Rattle.receiver.proofs.LeftView.{slot-path, Empties}
+use Rattle.receiver.proofs.EmptyLaneLaws.{slot-path, Empties}
 
 module _ (t r : List ℕ) (o : StoreInOrder t r) (x : ℕ) (h : x < issued t) (g : laneAt t x .registered ≡ 1) (found : EmptyLane) (k : Empties t r x found) where
   abbrev l : Lane

@@ -4,7 +4,7 @@ use mathlib.Core.Path.{_≡_, refl, sym, ap, ap₂, _∙_, subst}
 use mathlib.Core.Logic.{_≢_}
 use mathlib.Core.Bool.{Bool, true, false, cond}
 use mathlib.Core.List.{List, [], _∷_, _++_}
-use Prim.Native.Nat.{ℕ, zero, suc, _+_, _-_, _≤_, _<_}
+use Prim.Native.Nat.{ℕ, zero, suc, _+_, _-_, _<_}
 use native.Mathlib.Omega.{arith}
 use borrow.Author.Tests.{ne-eqb}
 use lib.Dec.{eqb, leb}
@@ -23,18 +23,18 @@ use Rattle.lane.specs.Order.{InOrder, polledLane}
 use Rattle.lane.specs.Table.{laneAt, putLane, setHead}
 use Rattle.lane.proofs.OrderLaws.{poll-keeps}
 use Rattle.lane.proofs.HeldLaws.{poll-takes-first}
-use Rattle.lane.proofs.TableLaws.{slot-of-lane}
 use Rattle.ready.specs.Header.{issued, budget, capacity, fastSlot, laneCount, livingCount}
 use Rattle.ready.specs.Queue.{queueOf, rotated}
 use Rattle.ready.proofs.QueueLaws.{queue-putLane, shaped-putLane}
 use Rattle.receiver.specs.View.{slotAt, view}
-use Rattle.receiver.specs.Order.{Flags, Stores, StoreInOrder}
+use Rattle.receiver.specs.Order.{Stores, StoreInOrder}
 use Rattle.receiver.specs.Turn.{lessOne, rotatedIf, gaveFront}
 use Rattle.receiver.proofs.ViewLaws.{slot-in, view-put-holding, view-rotated, view-budget}
 use Rattle.receiver.proofs.StepLaws.{Step, step-start, step-put-lane, step-rotated, step-budget}
 use Rattle.receiver.proofs.StoreLaws.{issued-ring-in, Owes, stores-after, windows-front}
 use Rattle.receiver.proofs.BackLaws.{back-own, back-other}
 use Rattle.receiver.proofs.LaneFields.{Flagged, flagged, PollKept, poll-kept}
+use Rattle.receiver.proofs.SameFlags.{flags-by, slot-by}
 use Rattle.receiver.proofs.LaneView.{Polled, poll-counts}
 use Rattle.receiver.proofs.BetweenTurns.{FrontLane, front-lane}
 
@@ -43,6 +43,9 @@ less-one-alike : (n : ℕ) → lessOne n ≡ rules.refill n - 1
 unfolding lessOne rules.refill
 less-one-alike zero = refl
 less-one-alike (suc n) = rw (ne-eqb (suc n) 0 (λ z. omega arith))
+
+less-none : {a b : ℕ} → b ≡ 0 → a - b ≡ a
+less-none z = omega arith
 
 -- ---- the lane in slot x as the poll leaves it
 
@@ -76,9 +79,6 @@ module _ (t r : List ℕ) (o : StoreInOrder t r) (x : ℕ) (q : List ℕ) (e : q
   front : FrontLane t x q
   front = front-lane t r o x q e
 
-  own-slot : m .key .slot ≡ x
-  own-slot = ap (λ (z : Flagged). z .0 .slot) (k .same-flags) ∙ slot-of-lane t x
-
   sees : slot ≡ slotAt t r x
   sees = slot-in t r x (front .is-issued)
 
@@ -94,18 +94,12 @@ module _ (t r : List ℕ) (o : StoreInOrder t r) (x : ℕ) (q : List ℕ) (e : q
   unreleased-after : m .unreleased - m .window ≡ rules.unreleasedAfterOne (view t r) x
   unfolding rules.unreleasedAfterOne slotAt view
   unreleased-after =
-      less (k .counts .closed) ∙ k .counts .unreleased-is
+      less-none (k .counts .closed) ∙ k .counts .unreleased-is
       ∙ ap (λ (s : Slot). if (eqb (s .unreleased + 1) (releaseBatch (capacity t))) 0 (s .unreleased + 1)) (sym sees)
-    where
-      less : {a b : ℕ} → b ≡ 0 → a - b ≡ a
-      less z = omega arith
 
   burst-after : m .burst - m .window ≡ if rotate 0 (slot .burst + 1)
   unfolding slotAt
-  burst-after = less (k .counts .closed) ∙ k .counts .burst-is ∙ ap (λ (s : Slot). if rotate 0 (s .burst + 1)) (sym sees)
-    where
-      less : {a b : ℕ} → b ≡ 0 → a - b ≡ a
-      less z = omega arith
+  burst-after = less-none (k .counts .closed) ∙ k .counts .burst-is ∙ ap (λ (s : Slot). if rotate 0 (s .burst + 1)) (sym sees)
 
   -- the slot as the rules have it after the item
   abbrev given : State
@@ -130,7 +124,7 @@ module _ (t r : List ℕ) (o : StoreInOrder t r) (x : ℕ) (q : List ℕ) (e : q
   view-turned false = ap (λ (w : List ℕ). withQueue w (view (putLane t m) r)) queue-stored
 
   step-turned : (b : Bool) → Step t (cond b (rotated (putLane t m)) (putLane t m)) x m (queueAfter b) (fastSlot t) (budget t) (laneCount t) (livingCount t)
-  step-turned b = go b (step-put-lane (step-start t r (o .stores) x) m own-slot (front .is-issued))
+  step-turned b = go b (step-put-lane (step-start t r (o .stores) x) m (slot-by t x m (k .same-flags)) (front .is-issued))
     where
       go : (b : Bool) → Step t (putLane t m) x m (queueOf t) (fastSlot t) (budget t) (laneCount t) (livingCount t)
           → Step t (cond b (rotated (putLane t m)) (putLane t m)) x m (queueAfter b) (fastSlot t) (budget t) (laneCount t) (livingCount t)
@@ -148,17 +142,6 @@ module _ (t r : List ℕ) (o : StoreInOrder t r) (x : ℕ) (q : List ℕ) (e : q
           ∙ ap₂ (λ (n : ℕ) (s : State). withBudget n s) (less-one-alike (budget t)) (view-turned rotate)
           ∙ ap (λ (s : State). withBudget (rules.refill (budget t) - 1) (withQueue (queueAfter rotate) s)) view-stored
 
-  flags-given : Flags m
-  flags-given =
-      let f = o .stores .flags x (front .is-issued) in
-      record {
-        pending-flag = omega (arith, ap (λ (z : Flagged). z .5) (k .same-flags), f .pending-flag);
-        queued-flag = omega (arith, ap (λ (z : Flagged). z .4) (k .same-flags), f .queued-flag);
-        paused-flag = omega (arith, ap (λ (z : Flagged). z .2) (k .same-flags), f .paused-flag);
-        registered-flag = omega (arith, ap (λ (z : Flagged). z .1) (k .same-flags), f .registered-flag);
-        living-flag = omega (arith, ap (λ (z : Flagged). z .3) (k .same-flags), f .living-flag);
-      }
-
   -- it stands in the queue as before
   counts-own : (b : Bool) → count x (queueAfter b) ≡ 1
   counts-own true = back-own x q (front .alone)
@@ -171,7 +154,7 @@ module _ (t r : List ℕ) (o : StoreInOrder t r) (x : ℕ) (q : List ℕ) (e : q
   owes-given : (b : ℕ) → Owes t x m (queueAfter rotate) (fastSlot t) b (laneCount t) (livingCount t)
   owes-given b =
       record {
-        flags = flags-given;
+        flags = flags-by (laneAt t x) m (k .same-flags) (o .stores .flags x (front .is-issued));
         order = λ i. k .order;
         fast-below = o .stores .fast-below;
         once = omega (arith, counts-own rotate);

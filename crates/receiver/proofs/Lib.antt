@@ -40,13 +40,15 @@ pub mod ReceiveLaws
 pub mod DrainedLaws
 pub mod TargetLaws
 pub mod NothingTakenLaws
+pub mod SameFlags
+pub mod EmptyLaneLaws
+pub mod FoundEmptyLaws
 pub mod LeftView
 pub mod GaveView
 pub mod TurnView
 pub mod WindowView
 pub mod WindowTakes
 pub mod TakeOneView
-pub mod FoundEmptyLaws
 pub mod TargetTookLaws
 pub mod TryRecvFromLaws
 pub mod HandsLaws

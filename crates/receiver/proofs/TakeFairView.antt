@@ -1,7 +1,7 @@
 -- The fair take is the rules' fair take, and leaves a store in order.
 -- Assumes nothing.
 use mathlib.Core.Path.{_≡_, refl, sym, ap, _∙_, subst}
-use mathlib.Core.Bool.{true, false}
+use mathlib.Core.Bool.{true}
 use mathlib.Core.List.{List, [], _∷_}
 use Prim.Native.Nat.{ℕ, _≤_, _<_}
 use native.Mathlib.Omega.{arith}
@@ -10,11 +10,9 @@ use lib.Dec.{eqb}
 use lib.ListN.{length}
 use Rattle.model.specs.State.{State, keyOf}
 use Rattle.model.specs.Changes.{withBudget}
-use Rattle.model.specs.Order.{Ordered}
 use Rattle.model.specs.Ready as marks
 use Rattle.model.specs.Turn as rules
 use Rattle.model.proofs.Counting.{no}
-use Rattle.model.proofs.OrderKept.{budget-ordered}
 use Rattle.lane.specs.declared.lane.Lane.{Lane}
 use Rattle.lane.specs.declared.lane.Popped.{Popped}
 use Rattle.lane.specs.declared.lane.Popped.the-variants as Popped
@@ -24,12 +22,11 @@ use Rattle.lane.specs.Order.{Counts, InOrder, poppedLane}
 use Rattle.lane.specs.Table.{laneAt, setHead}
 use Rattle.lane.proofs.OrderLaws.{cond-holds, pop-fair-keeps}
 use Rattle.lane.proofs.HeldLaws.{pop-fair-takes-first}
-use Rattle.lane.proofs.TableLaws.{frames, slot-of-lane}
+use Rattle.lane.proofs.TableLaws.{frames}
 use Rattle.ready.specs.Header.{issued, queueCount, budget, capacity}
 use Rattle.ready.specs.Queue.{queueOf, frontSlot, poppedFront}
 use Rattle.ready.specs.Ready.{collectReady}
 use Rattle.ready.proofs.QueueLaws.{header-in, length-queue, queue-front}
-use Rattle.receiver.specs.declared.turn.Took.{Took}
 use Rattle.receiver.specs.declared.turn.Took.the-variants as Took
 use Rattle.receiver.specs.View.{view}
 use Rattle.receiver.specs.Order.{Stores, StoreInOrder}
@@ -38,11 +35,12 @@ use Rattle.receiver.specs.Receive.{windowTook, openTook, takeLone, takeF
 use Rattle.receiver.proofs.ViewLaws.{view-budget, view-fast-slot}
 use Rattle.receiver.proofs.StoreLaws.{issued-ring-in}
 use Rattle.receiver.proofs.CollectedView.{view-collect-all}
-use Rattle.receiver.proofs.LaneFields.{Flagged, flagged, flagged-pop-fair}
+use Rattle.receiver.proofs.LaneFields.{flagged, flagged-pop-fair}
 use Rattle.receiver.proofs.LaneView.{pop-fair-more}
-use Rattle.receiver.proofs.BetweenTurns.{FrontLane, front-lane, stores-budget, collected-in-order}
+use Rattle.receiver.proofs.SameFlags.{slot-by}
+use Rattle.receiver.proofs.BetweenTurns.{FrontLane, front-lane, full-budget-in-order, collected-in-order}
 use Rattle.receiver.proofs.ReceiveLaws.{take-lone-unmoved}
-use Rattle.receiver.proofs.TurnView.{TookAs, turnsFrom, turns-from-front, turns-from-is, turns-alike}
+use Rattle.receiver.proofs.TurnView.{TookAs, turnsFrom, turns-from-front, turns-from-is, turns-alike, no-length}
 use Rattle.receiver.proofs.WindowView.{Pops, window-took, window-first, step-fast-moved}
 use Rattle.receiver.proofs.WindowTakes.{TakesAs}
 use Rattle.receiver.proofs.TakeOneView.{else-took}
@@ -78,11 +76,7 @@ module _ (t r : List ℕ) (o : StoreInOrder t r) (b : budget t ≡ 64) where
     queue-is : queueOf t ≡ x ∷ []
     queue-is =
         let e = queue-front t (o .stores .shaped) (omega (arith, one)) in
-        e ∙ ap (λ (q : List ℕ). x ∷ q) (empty (queueOf (poppedFront t)) (omega (arith, length-queue t, one, ap length e)))
-      where
-        empty : (q : List ℕ) → length q ≡ 0 → q ≡ []
-        empty [] z = refl
-        empty (y ∷ q) z = absurd (omega arith)
+        e ∙ ap (λ (q : List ℕ). x ∷ q) (no-length (queueOf (poppedFront t)) (omega (arith, length-queue t, one, ap length e)))
 
     front : FrontLane t x []
     front = front-lane t r o x [] queue-is
@@ -92,14 +86,13 @@ module _ (t r : List ℕ) (o : StoreInOrder t r) (b : budget t ≡ 64) where
     unfolding view
     lone-taken item m e =
         let k = pops-fair t r (o .stores) x (front .is-issued) (front .registered) b item m e in
-        let at : m .key .slot ≡ x = ap (λ (z : Flagged). z .0 .slot) (k .same-flags) ∙ slot-of-lane t x in
         let s = step-fast-moved t r (o .stores) x in
         let same : view (setHead t 12 x) r ≡ view t r = view-fast-slot t r (o .stores .shaped) x in
         let left : List ℕ = held (ringOf x (capacity t)) r m in
         let given : turnsFrom true (queueOf t) (view t r) ≡ ((keyOf (view t r) x, item) ∷ [], rules.giveItem (view t r) x [] left true) =
         ap (λ (q : List ℕ). turnsFrom true q (view t r)) queue-is
         ∙ turns-from-front true (view t r) x item [] left queue-is (window-first t r o x [] queue-is item 0 m k (setHead t 12 x) s same) in
-        subst (λ (z : ℕ). TookAs r (windowTook (setHead t 12 z) item m) (turnsFrom true (queueOf t) (view t r))) (sym at)
+        subst (λ (z : ℕ). TookAs r (windowTook (setHead t 12 z) item m) (turnsFrom true (queueOf t) (view t r))) (sym (slot-by t x m (k .same-flags)))
         (subst (TookAs r (windowTook (setHead t 12 x) item m)) (sym given)
         (window-took t r o x [] queue-is item 0 m k (setHead t 12 x) s same true refl refl (λ z. absurd (no refl z))))
 
@@ -128,12 +121,7 @@ module _ (t r : List ℕ) (o : StoreInOrder t r) where
   ready-view = view-budget (collectReady true t) r (all .stores .shaped) 64 ∙ ap (withBudget 64) (view-collect-all t r (o .stores))
 
   ready-in-order : StoreInOrder u r
-  unfolding view
-  ready-in-order =
-      record {
-        stores = stores-budget (collectReady true t) r (all .stores) 64 (λ x h g w. omega (arith, all .stores .windows x h g w .within, all .ordered .budget-most));
-        ordered = subst Ordered (sym (view-budget (collectReady true t) r (all .stores .shaped) 64)) (budget-ordered 64 (view (collectReady true t) r) (omega arith) (all .ordered));
-      }
+  ready-in-order = full-budget-in-order (collectReady true t) r all
 
   ready-budget : budget u ≡ 64
   ready-budget = simp (frames, header-in (collectReady true t) (all .stores .shaped))

@@ -3,7 +3,7 @@
 use mathlib.Core.Path.{_≡_, refl, sym, ap, ap₂, _∙_, subst}
 use mathlib.Core.Bool.{Bool, true, false, cond}
 use mathlib.Core.List.{List, [], _∷_}
-use Prim.Native.Nat.{ℕ, zero, suc, _≤_, _<_}
+use Prim.Native.Nat.{ℕ, zero, suc}
 use native.Mathlib.Omega.{arith}
 use borrow.Author.Tests.{eq-eqb, ne-eqb}
 use lib.Dec.{eqb}
@@ -11,27 +11,25 @@ use lib.ListN.{length}
 use Rattle.model.specs.declared.LaneKey.{LaneKey}
 use Rattle.model.specs.State.{State}
 use Rattle.model.specs.Changes.{withBudget}
-use Rattle.model.specs.Order.{Ordered}
 use Rattle.model.specs.Ready as marks
 use Rattle.model.specs.Turn as rules
-use Rattle.model.proofs.OrderKept.{budget-ordered, collect-if-due-ordered}
-use Rattle.lane.specs.Table.{laneAt, setHead}
-use Rattle.ready.specs.Header.{issued, queueCount, budget}
+use Rattle.lane.specs.Table.{setHead}
+use Rattle.ready.specs.Header.{queueCount, budget}
 use Rattle.ready.specs.Queue.{queueOf}
 use Rattle.ready.specs.Ready.{collectReady}
 use Rattle.ready.proofs.QueueLaws.{length-queue}
 use Rattle.receiver.specs.declared.turn.Took.{Took}
 use Rattle.receiver.specs.declared.turn.Took.the-variants as Took
 use Rattle.receiver.specs.View.{view}
-use Rattle.receiver.specs.Order.{Stores, StoreInOrder}
+use Rattle.receiver.specs.Order.{StoreInOrder}
 use Rattle.receiver.specs.Turn.{turns}
 use Rattle.receiver.specs.Drained.{Rests}
 use Rattle.receiver.specs.Receive.{elseTake, takeFast, takeWindow, collectedIfDue, pollLoop, refillTake, takeOne}
 use Rattle.receiver.proofs.ViewLaws.{view-budget}
 use Rattle.receiver.proofs.CollectedView.{view-collect-all, view-collect-group}
-use Rattle.receiver.proofs.BetweenTurns.{stores-budget, collected-in-order}
+use Rattle.receiver.proofs.BetweenTurns.{full-budget-in-order, collected-in-order}
 use Rattle.receiver.proofs.ReceiveLaws.{turning-of, turns-rest, Unmoved, take-fast-unmoved, take-window-unmoved}
-use Rattle.receiver.proofs.TurnView.{TookAs, handed, turns-alike, rests-queue}
+use Rattle.receiver.proofs.TurnView.{TookAs, turns-alike, rests-queue}
 use Rattle.receiver.proofs.WindowTakes.{TakesAs, take-fast-takes, take-window-takes}
 
 -- ---- the rules' take, after a look that was due
@@ -104,22 +102,13 @@ module _ (t r : List ℕ) (o : StoreInOrder t r) where
   abbrev looked : List ℕ
   looked = setHead (collectReady false t) 5 64
 
-  in-order-looked : StoreInOrder looked r
-  unfolding view
-  in-order-looked =
-      let c = collected-in-order t r o false in
-      record {
-        stores = stores-budget (collectReady false t) r (c .stores) 64 (λ x h g w. omega (arith, c .stores .windows x h g w .within, c .ordered .budget-most));
-        ordered = subst Ordered (sym (view-budget (collectReady false t) r (c .stores .shaped) 64)) (budget-ordered 64 (view (collectReady false t) r) (omega arith) (c .ordered));
-      }
-
   due-in-order : StoreInOrder (collectedIfDue t) r
   unfolding collectedIfDue
   due-in-order = go (eqb (budget t) 0) (eqb (queueCount t) 0)
     where
       go : (a b : Bool) → StoreInOrder (cond a (cond b t looked) t) r
       go true true = o
-      go true false = in-order-looked
+      go true false = full-budget-in-order (collectReady false t) r (collected-in-order t r o false)
       go false b = o
 
   due-view : view (collectedIfDue t) r ≡ due (view t r)

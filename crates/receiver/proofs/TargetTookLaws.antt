@@ -42,7 +42,7 @@ use Rattle.receiver.proofs.LaneFields.{Flagged, flagged, flagged-reload
 use Rattle.receiver.proofs.LaneView.{looked, looked-counts, pop-targeted-counts, unreleasedAfter, unreleasedSeen, burstSeen}
 use Rattle.receiver.proofs.TargetLaws.{target-filled}
 use Rattle.receiver.proofs.PollAllLaws.{may-queue-alike}
-use Rattle.receiver.proofs.LeftView.{slot-path}
+use Rattle.receiver.proofs.EmptyLaneLaws.{slot-path}
 
 -- the lane that was looked at, one item later
 abbrev pub targetLane : List ℕ → List ℕ → ℕ → Lane

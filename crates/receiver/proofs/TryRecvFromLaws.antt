@@ -40,7 +40,7 @@ use Rattle.receiver.proofs.StepLaws.{Step, step-start, step-put-lane, s
 use Rattle.receiver.proofs.StoreLaws.{room-in-free, store-in-order-after, windows-without}
 use Rattle.receiver.proofs.LaneFields.{Flagged, flagged-reload}
 use Rattle.receiver.proofs.LaneView.{looked}
-use Rattle.receiver.proofs.LeftView.{Empties, empties-by-refill}
+use Rattle.receiver.proofs.EmptyLaneLaws.{Empties, empties-by-refill}
 use Rattle.receiver.proofs.FoundEmptyLaws.{found-slot, found-view, found-dropped, settled-view, settled-in-order}
 use Rattle.receiver.proofs.TargetTookLaws.{target-takes, target-view, target-stores}
 

@@ -1,13 +1,11 @@
 -- The plain receive does what the rules say, hands out what they hand out, and leaves a store in order.
 -- Assumes nothing.
-use mathlib.Core.Path.{_≡_, refl, sym, ap, _∙_, subst}
+use mathlib.Core.Path.{_≡_, sym, ap, _∙_}
 use mathlib.Core.Bool.{not}
 use mathlib.Core.List.{List, [], _∷_}
 use Prim.Native.Nat.{ℕ}
-use Rattle.model.specs.declared.Answer.{Answer}
 use Rattle.model.specs.declared.Answer.the-variants.{Item}
 use Rattle.model.specs.declared.Refusal.the-variants.{ReceiverClosed}
-use Rattle.model.specs.State.{State}
 use Rattle.model.specs.Turn.{Took as RulesTook}
 use Rattle.model.specs.Turn as rules-turn
 use Rattle.model.specs.Receive as rules

@@ -3,10 +3,10 @@
 use mathlib.Core.Path.{_≡_, refl, sym, ap, ap₂, _∙_, subst}
 use mathlib.Core.Bool.{Bool}
 use mathlib.Core.List.{List, [], _∷_}
-use Prim.Native.Nat.{ℕ, suc}
+use Prim.Native.Nat.{ℕ}
 use native.Mathlib.Omega.{arith}
 use borrow.Author.Tests.{ne-eqb}
-use lib.Dec.{eqb, leb}
+use lib.Dec.{leb}
 use lib.ListN.{length}
 use Rattle.model.specs.declared.LaneKey.{LaneKey}
 use Rattle.model.specs.Lists.{if, either, nonEmpty}
@@ -20,24 +20,22 @@ use Rattle.lane.specs.declared.lane.LanePoll.the-variants as LanePoll
 use Rattle.lane.specs.Ring.{ringOf}
 use Rattle.lane.specs.Lane.{held, poll}
 use Rattle.lane.specs.Table.{laneAt}
-use Rattle.lane.proofs.TableLaws.{slot-of-lane}
-use Rattle.ready.specs.Header.{issued, queueCount, capacity}
-use Rattle.ready.specs.Queue.{queueOf, frontSlot}
+use Rattle.ready.specs.Header.{queueCount, capacity}
+use Rattle.ready.specs.Queue.{queueOf}
 use Rattle.ready.proofs.QueueLaws.{length-queue, front-is}
 use Rattle.receiver.specs.declared.turn.Took.{Took}
 use Rattle.receiver.specs.declared.turn.Took.the-variants as Took
 use Rattle.receiver.specs.declared.turn.Turn.{Turn}
-use Rattle.receiver.specs.declared.turn.Turn.the-variants as Turn
 use Rattle.receiver.specs.View.{slotAt, view}
-use Rattle.receiver.specs.Order.{Stores, StoreInOrder}
+use Rattle.receiver.specs.Order.{StoreInOrder}
 use Rattle.receiver.specs.Turn.{leftFront, budgetMet, gaveFront, turnBy, pollFront, after, turnsWithin, turns}
 use Rattle.receiver.specs.Drained.{Rests}
 use Rattle.receiver.proofs.ViewLaws.{slot-in}
-use Rattle.receiver.proofs.LaneFields.{Flagged}
-use Rattle.receiver.proofs.LaneView.{FoundIdle}
+use Rattle.receiver.proofs.SameFlags.{key-by}
 use Rattle.receiver.proofs.BetweenTurns.{FrontLane, front-lane}
 use Rattle.receiver.proofs.ReceiveLaws.{turning-of, turns-rest}
-use Rattle.receiver.proofs.LeftView.{Empties, empties-by-poll, left-view, left-in-order, left-queue, met-view, met-in-order}
+use Rattle.receiver.proofs.EmptyLaneLaws.{Empties, empties-by-poll}
+use Rattle.receiver.proofs.LeftView.{left-view, left-in-order, left-queue, met-view, met-in-order}
 use Rattle.receiver.proofs.GaveView.{Gives, gives-by-poll, gave-first, gave-view, gave-in-order}
 
 -- ---- a take on words and a take of the rules
@@ -86,19 +84,13 @@ module _ (t r : List ℕ) (o : StoreInOrder t r) (fair : Bool) (x : ℕ) (q : Li
 
   -- it has an item
   module _ (item : ℕ) (rotate : Bool) (m : Lane) (k : Gives t r x fair item rotate m) where
-    key-is : m .key ≡ keyOf s x
-    unfolding slotAt
-    key-is =
-        ap (λ (z : Flagged). z .0) (k .same-flags)
-        ∙ ap₂ (λ (a b : ℕ). record { slot = a; generation = b }) (slot-of-lane t x) (ap (λ (y : Slot). y .generation) (sym (slot-in t r x (front .is-issued))))
-
     turns-given : turnsFrom fair (x ∷ q) s ≡ ((keyOf s x, item) ∷ [], rules.giveItem s x q (held (ringOf x (capacity t)) r m) (either fair (leb 63 (s .slotOf x .burst))))
     turns-given = turns-from-front fair s x item q (held (ringOf x (capacity t)) r m) queue-seen (gave-first t r o x q e fair item rotate m k)
 
     took-given : TookAs r (Took.Item item (m .key), gaveFront t rotate m) (turnsFrom fair (x ∷ q) s)
     took-given =
         record {
-          alike = ap₂ (λ (a : LaneKey) (b : State). ((a, item) ∷ [], b)) key-is (gave-view t r o x q e fair item rotate m k) ∙ sym turns-given;
+          alike = ap₂ (λ (a : LaneKey) (b : State). ((a, item) ∷ [], b)) (key-by t x m (k .same-flags) r (front .is-issued)) (gave-view t r o x q e fair item rotate m k) ∙ sym turns-given;
           in-order = gave-in-order t r o x q e fair item rotate m k;
         }
 
@@ -160,14 +152,14 @@ pub turns-alike : (t r : List ℕ) (fair : Bool) → StoreInOrder t r → TookAs
 unfolding turns turnsFrom rules.runDown view
 turns-alike t r fair o = subst (λ (n : ℕ). TookAs r (turnsWithin n t r fair) (turnsFrom fair (queueOf t) (view t r))) (length-queue t) (turns-within-alike (queueOf t) t r fair o refl)
 
+pub no-length : (q : List ℕ) → length q ≡ 0 → q ≡ []
+no-length [] z = refl
+no-length (x ∷ q) z = absurd (omega arith)
+
 -- a take that came to nothing has left an empty queue
 pub rests-queue : (o : Took × List ℕ) → Rests o → o .0 ≡ Took.Nothing → queueOf (o .1) ≡ []
 rests-queue (Took.Item item key, u) k e = let z : _≡_ {A = ℕ} 0 1 = cc in absurd (omega arith)
-rests-queue (Took.Nothing, u) k e = empty (queueOf u) (length-queue u ∙ k .none-queued)
-  where
-    empty : (q : List ℕ) → length q ≡ 0 → q ≡ []
-    empty [] z = refl
-    empty (x ∷ q) z = absurd (omega arith)
+rests-queue (Took.Nothing, u) k e = no-length (queueOf u) (length-queue u ∙ k .none-queued)
 
 pub turns-none-queued : (t r : List ℕ) (fair : Bool) → StoreInOrder t r → (turns t r fair) .0 ≡ Took.Nothing → queueOf ((turns t r fair) .1) ≡ []
 turns-none-queued t r fair o = rests-queue (turns t r fair) (turns-rest t r fair (turning-of t r o))

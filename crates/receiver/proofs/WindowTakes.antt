@@ -1,14 +1,14 @@
 -- The fast window and the front lane's window: an item of either is the one that the rules take.
 -- Assumes nothing.
-use mathlib.Core.Path.{_≡_, refl, sym, ap, ap₂, _∙_, subst}
+use mathlib.Core.Path.{_≡_, refl, sym, ap, _∙_, subst}
 use mathlib.Core.Bool.{Bool, true, false, cond}
 use mathlib.Core.List.{List, [], _∷_}
-use Prim.Native.Nat.{ℕ, _+_, _-_, _≤_, _<_}
+use Prim.Native.Nat.{ℕ, _+_, _≤_, _<_}
 use native.Mathlib.Omega.{arith}
 use borrow.Author.Tests.{ltb-true, eqb-true, eqb-false, lt-leb}
-use lib.Dec.{eqb, ltb, leb}
+use lib.Dec.{eqb, ltb}
 use lib.ListN.{length, take, drop}
-use Rattle.model.specs.State.{Slot, State, keyOf}
+use Rattle.model.specs.State.{Slot, keyOf}
 use Rattle.model.specs.Turn as rules
 use Rattle.model.proofs.Chunks.{take-one-front}
 use Rattle.lane.specs.declared.ring.Ring.{Ring}
@@ -21,23 +21,23 @@ use Rattle.lane.specs.Order.{InOrder, poppedLane}
 use Rattle.lane.specs.Table.{laneAt, setHead}
 use Rattle.lane.proofs.OrderLaws.{cond-holds, pop-fast-keeps, grant-fast-keeps}
 use Rattle.lane.proofs.HeldLaws.{pop-fast-takes-first}
-use Rattle.lane.proofs.TableLaws.{slot-of-lane}
 use Rattle.ready.specs.Header.{issued, queueCount, budget, capacity, fastSlot, laneCount, livingCount}
 use Rattle.ready.specs.Queue.{queueOf, frontSlot, poppedFront}
 use Rattle.ready.proofs.QueueLaws.{queue-front}
 use Rattle.receiver.specs.declared.turn.Took.{Took}
 use Rattle.receiver.specs.declared.turn.Took.the-variants as Took
 use Rattle.receiver.specs.View.{slotAt, view}
-use Rattle.receiver.specs.Order.{Fast, Stores, StoreInOrder}
+use Rattle.receiver.specs.Order.{Stores, StoreInOrder}
 use Rattle.receiver.specs.Turn.{frontLane}
 use Rattle.receiver.specs.Receive.{windowTook, fastTook, takeFast, openTook, takeWindow}
 use Rattle.receiver.proofs.ViewLaws.{slot-in, view-fast-slot}
 use Rattle.receiver.proofs.StepLaws.{Step}
 use Rattle.receiver.proofs.StoreLaws.{issued-ring-in}
-use Rattle.receiver.proofs.LaneFields.{Flagged, flagged, flagged-pop-fast, flagged-grant}
+use Rattle.receiver.proofs.LaneFields.{flagged, flagged-pop-fast, flagged-grant}
 use Rattle.receiver.proofs.LaneView.{unreleasedSeen, burstSeen, grant-seen, grant-holds, pop-fast-more}
+use Rattle.receiver.proofs.SameFlags.{slot-by}
 use Rattle.receiver.proofs.BetweenTurns.{FrontLane, front-lane}
-use Rattle.receiver.proofs.ReceiveLaws.{pop-open, pop-slot, granted-within}
+use Rattle.receiver.proofs.ReceiveLaws.{pop-open, granted-within}
 use Rattle.receiver.proofs.TurnView.{TookAs}
 use Rattle.receiver.proofs.WindowView.{Pops, window-took, window-first, step-fast-same, step-fast-moved}
 
@@ -49,8 +49,8 @@ pop-window ring store l item m e = go (eqb (l .window) 0) refl e
     go : (t : Bool) → eqb (l .window) 0 ≡ t → cond t (Popped.Nothing l) (Popped.Item (itemAt ring store (l .head)) (windowPop l)) ≡ Popped.Item item m → m .window + 1 ≡ l .window
     go true s f = let z : _≡_ {A = ℕ} 0 1 = cc in absurd (omega arith)
     go false s f =
-        let same : l .window - 1 ≡ m .window = ap (λ (k : Lane). k .window) (let j : windowPop l ≡ m = cc in j) in
-        omega (arith, eqb-false (l .window) 0 s, same)
+        let same : windowPop l ≡ m = cc in
+        omega (arith, eqb-false (l .window) 0 s, ap (λ (k : Lane). k .window) same)
 
 -- ---- the lane with an item less
 
@@ -65,21 +65,21 @@ module _ (t r : List ℕ) (o : Stores t r) (x : ℕ) (h : x < issued t) (g : lan
   module _ (j : Lane) (order : InOrder (capacity t) j) (same-held : held ring r j ≡ held ring r l) (same-flags : flagged j ≡ flagged l)
       (same-unreleased : unreleasedSeen j ≡ unreleasedSeen l) (same-burst : burstSeen j ≡ burstSeen l) (within : j .window ≤ budget t)
       (item : ℕ) (m : Lane) (e : popFast ring r j ≡ Popped.Item item m) where
-    pops-shown : Pops t r x item (burstSeen l + 1) m
+    -- and the turn is not over
+    pops-shown : Pops t r x item (burstSeen l + 1) m × (burstSeen l < 63)
     pops-shown =
-        let more = pop-fast-more (capacity t) ring r j order item m e in
-        record {
-          takes = sym same-held ∙ pop-fast-takes-first ring r j (issued-ring-in t r o x h) order item m e;
-          unreleased-more = more .unreleased-more ∙ ap (λ (n : ℕ). n + 1) same-unreleased;
-          below-batch = rw (← same-unreleased) (more .below-batch);
-          burst-is = more .burst-more ∙ ap (λ (n : ℕ). n + 1) same-burst;
-          same-flags = sym (ap (λ (p : Popped). flagged (poppedLane p)) e) ∙ flagged-pop-fast ring r j ∙ same-flags;
-          order = subst (λ (p : Popped). InOrder (capacity t) (poppedLane p)) e (pop-fast-keeps (capacity t) (o .power .most) j order ring r);
-          within = omega (arith, pop-window ring r j item m e, within);
-        }
-
-    below-turn : burstSeen l < 63
-    below-turn = rw (← same-burst) (pop-fast-more (capacity t) ring r j order item m e .below-turn)
+        let more = pop-fast-more (capacity t) ring r j order item m e in (
+          record {
+            takes = sym same-held ∙ pop-fast-takes-first ring r j (issued-ring-in t r o x h) order item m e;
+            unreleased-more = more .unreleased-more ∙ ap (λ (n : ℕ). n + 1) same-unreleased;
+            below-batch = rw (← same-unreleased) (more .below-batch);
+            burst-is = more .burst-more ∙ ap (λ (n : ℕ). n + 1) same-burst;
+            same-flags = sym (ap (λ (p : Popped). flagged (poppedLane p)) e) ∙ flagged-pop-fast ring r j ∙ same-flags;
+            order = subst (λ (p : Popped). InOrder (capacity t) (poppedLane p)) e (pop-fast-keeps (capacity t) (o .power .most) j order ring r);
+            within = omega (arith, pop-window ring r j item m e, within);
+          },
+          rw (← same-burst) (more .below-turn),
+        )
 
 -- ---- the takes
 
@@ -127,11 +127,8 @@ module _ (t r : List ℕ) (o : StoreInOrder t r) where
   fast-taken h g item m e =
       let some : 0 < laneAt t x .window = omega (arith, pop-open (ringOf x (capacity t)) r (laneAt t x) item m e) in
       let f = o .stores .windows x h g some in
-      let i = o .stores .lanes x h g in
-      window-taken t r o x (drop 1 (queueOf t)) (first-of x (queueOf t) (f .in-front)) item m
-      (pops-shown t r (o .stores) x h g (laneAt t x) i refl refl refl refl (f .within) item m e)
-      (below-turn t r (o .stores) x h g (laneAt t x) i refl refl refl refl (f .within) item m e)
-      t (step-fast-same t r (o .stores) x refl) refl
+      let k = pops-shown t r (o .stores) x h g (laneAt t x) (o .stores .lanes x h g) refl refl refl refl (f .within) item m e in
+      window-taken t r o x (drop 1 (queueOf t)) (first-of x (queueOf t) (f .in-front)) item m (k .0) (k .1) t (step-fast-same t r (o .stores) x refl) refl
 
   pub take-fast-takes : TakesAs r (takeFast t r) (rules.takeOne (view t r))
   unfolding takeFast fastTook windowTook
@@ -167,19 +164,14 @@ module _ (t r : List ℕ) (o : StoreInOrder t r) where
         let small = o .stores .power .most in
         let i = o .stores .lanes y (h .is-issued) (h .registered) in
         let f = flagged-grant (capacity t) (budget t) (frontLane t) in
-        let at : m .key .slot ≡ y =
-        pop-slot (ringOf y (capacity t)) r granted (Popped.Item item m) e ∙ ap (λ (z : Flagged). z .0 .slot) f ∙ slot-of-lane t y in
-        subst (λ (z : ℕ). TookAs r (windowTook (setHead t 12 z) item m) (rules.takeOne (view t r))) (sym at)
-        (window-taken t r o y (queueOf (poppedFront t)) queue-is item m
-        (pops-shown t r (o .stores) y (h .is-issued) (h .registered) granted (grant-fast-keeps (capacity t) small (frontLane t) i (budget t))
-        (grant-holds (ringOf y (capacity t)) r (capacity t) (budget t) (frontLane t)) f
-        (grant-seen (capacity t) (budget t) (frontLane t) .0) (grant-seen (capacity t) (budget t) (frontLane t) .1)
-        (granted-within (capacity t) (budget t) (frontLane t) small i) item m e)
-        (below-turn t r (o .stores) y (h .is-issued) (h .registered) granted (grant-fast-keeps (capacity t) small (frontLane t) i (budget t))
-        (grant-holds (ringOf y (capacity t)) r (capacity t) (budget t) (frontLane t)) f
-        (grant-seen (capacity t) (budget t) (frontLane t) .0) (grant-seen (capacity t) (budget t) (frontLane t) .1)
-        (granted-within (capacity t) (budget t) (frontLane t) small i) item m e)
-        (setHead t 12 y) (step-fast-moved t r (o .stores) y) (view-fast-slot t r (o .stores .shaped) y))
+        let seen = grant-seen (capacity t) (budget t) (frontLane t) in
+        let k =
+        pops-shown t r (o .stores) y (h .is-issued) (h .registered) granted (grant-fast-keeps (capacity t) small (frontLane t) i (budget t))
+        (grant-holds (ringOf y (capacity t)) r (capacity t) (budget t) (frontLane t)) f (seen .0) (seen .1)
+        (granted-within (capacity t) (budget t) (frontLane t) small i) item m e in
+        subst (λ (z : ℕ). TookAs r (windowTook (setHead t 12 z) item m) (rules.takeOne (view t r))) (sym (slot-by t y m (k .0 .same-flags)))
+        (window-taken t r o y (queueOf (poppedFront t)) queue-is item m (k .0) (k .1) (setHead t 12 y) (step-fast-moved t r (o .stores) y)
+        (view-fast-slot t r (o .stores .shaped) y))
 
   pub take-window-takes : TakesAs r (takeWindow t r) (rules.takeOne (view t r))
   unfolding takeWindow openTook windowTook

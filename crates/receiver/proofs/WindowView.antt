@@ -1,15 +1,15 @@
 -- An item of a window of the front lane: what the rules see of it, and that a store in order is left.
 -- Assumes nothing.
 use mathlib.Core.Path.{_≡_, refl, sym, ap, ap₂, _∙_, subst}
-use mathlib.Core.Bool.{Bool, true, false, cond}
+use mathlib.Core.Bool.{Bool, false}
 use mathlib.Core.List.{List, [], _∷_, _++_}
-use Prim.Native.Nat.{ℕ, zero, suc, _+_, _-_, _≤_, _<_}
+use Prim.Native.Nat.{ℕ, _+_, _-_, _<_}
 use native.Mathlib.Omega.{arith}
 use borrow.Author.Tests.{ne-eqb}
 use lib.Dec.{eqb}
 use lib.ListN.{take}
 use Rattle.model.specs.declared.LaneKey.{LaneKey}
-use Rattle.model.specs.Lists.{if, count}
+use Rattle.model.specs.Lists.{if}
 use Rattle.model.specs.State.{Slot, State, keyOf, releaseBatch}
 use Rattle.model.specs.Changes.{withQueue, withBudget, put, withRing, popped}
 use Rattle.model.specs.Order.{Ordered}
@@ -20,21 +20,20 @@ use Rattle.lane.specs.Ring.{ringOf}
 use Rattle.lane.specs.Lane.{held}
 use Rattle.lane.specs.Order.{InOrder}
 use Rattle.lane.specs.Table.{laneAt, putLane, setHead}
-use Rattle.lane.proofs.TableLaws.{frames, slot-of-lane}
-use Rattle.ready.specs.Header.{issued, budget, capacity, fastSlot, laneCount, livingCount}
+use Rattle.ready.specs.Header.{budget, capacity, fastSlot, laneCount, livingCount}
 use Rattle.ready.specs.Queue.{queueOf}
 use Rattle.ready.proofs.QueueLaws.{shaped-putLane}
-use Rattle.receiver.specs.declared.turn.Took.{Took}
-use Rattle.receiver.specs.declared.turn.Took.the-variants as Took
 use Rattle.receiver.specs.View.{slotAt, view}
-use Rattle.receiver.specs.Order.{Flags, Fast, Stores, StoreInOrder}
+use Rattle.receiver.specs.Order.{Stores, StoreInOrder}
 use Rattle.receiver.specs.Receive.{windowTook}
-use Rattle.receiver.proofs.ViewLaws.{slot-in, view-put-holding, view-budget, view-fast-slot}
+use Rattle.receiver.proofs.ViewLaws.{slot-in, view-put-holding, view-budget}
 use Rattle.receiver.proofs.StepLaws.{Step, step-start, step-put-lane, step-budget, step-fast-slot}
 use Rattle.receiver.proofs.StoreLaws.{below-slots, Owes, stores-after, windows-front}
 use Rattle.receiver.proofs.LaneFields.{Flagged, flagged}
+use Rattle.receiver.proofs.SameFlags.{flags-by, slot-by, key-by}
 use Rattle.receiver.proofs.LaneView.{unreleasedSeen, burstSeen}
 use Rattle.receiver.proofs.BetweenTurns.{FrontLane, front-lane}
+use Rattle.receiver.proofs.LeftView.{refill-some}
 use Rattle.receiver.proofs.TurnView.{TookAs}
 
 -- the lane in slot x with an item of its window less, its burst then n
@@ -47,12 +46,6 @@ pub record Pops (t r : List ℕ) (x item n : ℕ) (m : Lane) : Type 0 where
   pub order : InOrder (capacity t) m
   -- "at most the budget", as that is after the item
   pub within : m .window < budget t
-
--- a budget that is not spent
-pub full : (n : ℕ) → 0 < n → rules.refill n ≡ n
-unfolding rules.refill
-full zero h = absurd (omega arith)
-full (suc n) h = refl
 
 -- u is the table with `fast_slot` at the front lane
 module _ (t r : List ℕ) (o : StoreInOrder t r) (x : ℕ) (q : List ℕ) (e : queueOf t ≡ x ∷ q) (item n : ℕ) (m : Lane) (k : Pops t r x item n m)
@@ -69,9 +62,6 @@ module _ (t r : List ℕ) (o : StoreInOrder t r) (x : ℕ) (q : List ℕ) (e : q
 
   front : FrontLane t x q
   front = front-lane t r o x q e
-
-  own-slot : m .key .slot ≡ x
-  own-slot = ap (λ (z : Flagged). z .0 .slot) (k .same-flags) ∙ slot-of-lane t x
 
   sees : slot ≡ slotAt t r x
   sees = slot-in t r x (front .is-issued)
@@ -98,7 +88,7 @@ module _ (t r : List ℕ) (o : StoreInOrder t r) (x : ℕ) (q : List ℕ) (e : q
     unfolding rules.giveItem view
     window-view =
         view-budget (putLane u m) r (shaped-putLane u (s .shaped) m) (budget u - 1)
-        ∙ ap₂ (λ (b : ℕ) (v : State). withBudget (b - 1) v) (s .poll ∙ sym (full (budget t) (omega (arith, k .within)))) view-stored
+        ∙ ap₂ (λ (b : ℕ) (v : State). withBudget (b - 1) v) (s .poll ∙ sym (refill-some (budget t) (omega (arith, k .within)))) view-stored
         ∙ ap₂ (λ (w : List ℕ) (a : ℕ). withBudget (rules.refill (budget t) - 1) (withQueue w (put x (popped left a (burstSeen m) slot) (view t r)))) (e ∙ sym turned) unreleased-now
         ∙ ap (λ (b : ℕ). withBudget (rules.refill (budget t) - 1) (withQueue (if back (q ++ (x ∷ [])) (x ∷ q)) (put x (popped left (rules.unreleasedAfterOne (view t r) x) b slot) (view t r)))) (k .burst-is ∙ burst)
 
@@ -106,21 +96,10 @@ module _ (t r : List ℕ) (o : StoreInOrder t r) (x : ℕ) (q : List ℕ) (e : q
     unfolding view
     window-ordered h = subst Ordered (sym window-view) (kept.give-item-ordered (view t r) x q left back e h (o .ordered))
 
-  flags-taken : Flags m
-  flags-taken =
-      let f = o .stores .flags x (front .is-issued) in
-      record {
-        pending-flag = omega (arith, ap (λ (z : Flagged). z .5) (k .same-flags), f .pending-flag);
-        queued-flag = omega (arith, ap (λ (z : Flagged). z .4) (k .same-flags), f .queued-flag);
-        paused-flag = omega (arith, ap (λ (z : Flagged). z .2) (k .same-flags), f .paused-flag);
-        registered-flag = omega (arith, ap (λ (z : Flagged). z .1) (k .same-flags), f .registered-flag);
-        living-flag = omega (arith, ap (λ (z : Flagged). z .3) (k .same-flags), f .living-flag);
-      }
-
   owes-taken : Owes t x m (queueOf t) x (budget u - 1) (laneCount t) (livingCount t)
   owes-taken =
       record {
-        flags = flags-taken;
+        flags = flags-by (laneAt t x) m (k .same-flags) (o .stores .flags x (front .is-issued));
         order = λ i. k .order;
         fast-below = below-slots t r (o .stores) x (front .is-issued);
         once = o .stores .named .once x;
@@ -134,18 +113,12 @@ module _ (t r : List ℕ) (o : StoreInOrder t r) (x : ℕ) (q : List ℕ) (e : q
 
   window-stores : Stores taken r
   window-stores =
-      stores-after t r taken r (o .stores) x (front .is-issued) m _ _ _ _ _ (step-budget (step-put-lane s m own-slot (front .is-issued)) (budget u - 1))
+      stores-after t r taken r (o .stores) x (front .is-issued) m _ _ _ _ _ (step-budget (step-put-lane s m (slot-by t x m (k .same-flags)) (front .is-issued)) (budget u - 1))
       owes-taken (o .stores .rings-room)
 
   pub window-first : slot .ring ≡ item ∷ left
   unfolding slotAt
   window-first = ap (λ (y : Slot). y .ring) sees ∙ k .takes
-
-  window-key : m .key ≡ keyOf (view t r) x
-  unfolding slotAt
-  window-key =
-      ap (λ (z : Flagged). z .0) (k .same-flags)
-      ∙ ap₂ (λ (a b : ℕ). record { slot = a; generation = b }) (slot-of-lane t x) (ap (λ (y : Slot). y .generation) (sym sees))
 
   -- what the take comes to
   pub window-took : (back : Bool) → if back (q ++ (x ∷ [])) (x ∷ q) ≡ x ∷ q → n ≡ if back 0 (slot .burst + 1) → (back ≡ false → slot .burst < 63)
@@ -153,7 +126,7 @@ module _ (t r : List ℕ) (o : StoreInOrder t r) (x : ℕ) (q : List ℕ) (e : q
   unfolding windowTook
   window-took back turned burst below =
       record {
-        alike = ap₂ (λ (a : LaneKey) (b : State). ((a, item) ∷ [], b)) window-key (window-view back turned burst);
+        alike = ap₂ (λ (a : LaneKey) (b : State). ((a, item) ∷ [], b)) (key-by t x m (k .same-flags) r (front .is-issued)) (window-view back turned burst);
         in-order = record { stores = window-stores; ordered = window-ordered back turned burst below };
       }
 
