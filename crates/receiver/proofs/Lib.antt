@@ -39,8 +39,8 @@ pub mod CollectKeeps
 pub mod ReceiveLaws
 pub mod DrainedLaws
 pub mod TargetLaws
-pub mod NothingTakenLaws
 pub mod SameFlags
+pub mod NothingTakenLaws
 pub mod EmptyLaneLaws
 pub mod FoundEmptyLaws
 pub mod LeftView
