@@ -28,7 +28,7 @@ module _ (s : State) (y v : ℕ) (q vs : List ℕ) (e : s .queue ≡ y ∷ q) (r
   unfolding runDown runDownFrom
   run-down-front = ap (λ (l : List ℕ). runDownFrom l s) e ∙ rw r
 
-  polled-front : 1 ≤ s .budget → polled s ≡ s
+  pub polled-front : 1 ≤ s .budget → polled s ≡ s
   unfolding polled collectIfNoneQueued
   polled-front b =
       let t : runDown (collectIfDue (s .budget) (s .queue) s) ≡ s = ap runDown (collect-if-due-none (s .budget) (s .queue) s b) ∙ run-down-front in

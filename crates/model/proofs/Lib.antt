@@ -25,6 +25,7 @@ pub mod Pages
 pub mod Capacity
 pub mod InOrder
 pub mod Chunks
+pub mod WholeChunk
 pub mod Events
 pub mod EventsOfRuns
 pub mod Budget

@@ -39,6 +39,7 @@ pub mod CollectKeeps
 pub mod ReceiveLaws
 pub mod DrainedLaws
 pub mod TargetLaws
+pub mod OutputLaws
 pub mod SameFlags
 pub mod NothingTakenLaws
 pub mod EmptyLaneLaws
@@ -55,6 +56,10 @@ pub mod HandsLaws
 pub mod KeysKept
 pub mod StaleNever
 pub mod RefusedUnmoved
+pub mod LookLaws
+pub mod ChunkLaws
+pub mod DrainLaws
+pub mod BatchLaws
 pub mod ChannelKept
 pub mod TryRecvLaws
 pub mod TakeFairView

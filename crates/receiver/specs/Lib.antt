@@ -12,5 +12,6 @@ pub mod Drained
 pub mod Receive
 pub mod Target
 pub mod Hands
+pub mod Drain
 pub mod Runs
 pub mod Demands

@@ -1,5 +1,6 @@
 // The receiver's calls on a store in order.
 pub mod batch;
+pub mod drain;
 pub mod drained;
 pub mod lane_control;
 pub mod mpsc;
