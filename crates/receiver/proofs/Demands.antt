@@ -21,10 +21,10 @@ use Rattle.lane.specs.Table.{laneAt}
 use Rattle.ready.specs.Header.{issued, capacity}
 use Rattle.receiver.specs.View.{flag, slotAt, view}
 use Rattle.receiver.specs.Order.{StoreInOrder}
-use Rattle.receiver.specs.Runs.{BatchWords, theStores}
+use Rattle.receiver.specs.Runs.{theStores}
 use Rattle.receiver.specs.Demands.{itemsIn, runs, StaysInOrder, RefusalsChangeNothing, ItemsInOrder, AnswersTell, LanesWaitBounded, NoneAfterClose, HeldIsCounted}
 use Rattle.receiver.proofs.RefusedUnmoved.{open-unmoved}
-use Rattle.receiver.proofs.CallLaws.{BatchLaws, call-unmoved, output-unmoved, call-keeps}
+use Rattle.receiver.proofs.CallLaws.{BatchAlike, call-unmoved, output-unmoved, call-keeps}
 use Rattle.receiver.proofs.Simulation.{stores-simulate}
 
 -- a lane's ring in the words is the ring that the rules see
@@ -44,38 +44,38 @@ ring-seen t r k = go (ltb (k .slot) (issued t)) refl
     go true e = rw e (both-alike (flag (laneAt t (k .slot) .registered)) (eqb (laneAt t (k .slot) .key .generation) (k .generation)))
     go false e = rw e
 
-module _ (batch : BatchWords) (laws : BatchLaws batch) where
-  calls-keep : (w : theStores batch .State) (calls : List Call) → Each CallFits calls → StoreInOrder (w .0) (w .1)
-      → let end = after (theStores batch) w calls in StoreInOrder (end .0) (end .1)
+pub refusals-change-nothing : RefusalsChangeNothing
+unfolding RefusalChangesNothing
+refusals-change-nothing = record {
+  of-calls = λ w c why e. call-unmoved (w .0) (w .1) c why e;
+  of-outputs = λ w c out h why e. output-unmoved (w .0) (w .1) c out h why e;
+  of-openings = λ o w why e. open-unmoved (w .0) (w .1) o why e;
+}
+
+module _ (batch : BatchAlike) where
+  calls-keep : (w : theStores .State) (calls : List Call) → Each CallFits calls → StoreInOrder (w .0) (w .1)
+      → let end = after theStores w calls in StoreInOrder (end .0) (end .1)
   unfolding after Each
   calls-keep w [] f k = k
-  calls-keep w (c ∷ cs) f k = calls-keep ((theStores batch .step w c) .1) cs (f .1) (call-keeps batch laws (w .0) (w .1) k c)
+  calls-keep w (c ∷ cs) f k = calls-keep ((theStores .step w c) .1) cs (f .1) (call-keeps batch (w .0) (w .1) k c)
 
-  pub stays-in-order : StaysInOrder batch
+  pub stays-in-order : StaysInOrder
   unfolding StaysInOrder runsThatFit stores-simulate
   stays-in-order o t r d calls f =
-      calls-keep ((theStores batch .opens o (t, r)) .1) calls (f .1) (stores-simulate batch laws .opens-ok o (t, r) (f .0) d)
+      calls-keep ((theStores .opens o (t, r)) .1) calls (f .1) (stores-simulate batch .opens-ok o (t, r) (f .0) d)
 
-  pub refusals-change-nothing : RefusalsChangeNothing batch
-  unfolding RefusalChangesNothing
-  refusals-change-nothing = record {
-    of-calls = λ w c why e. call-unmoved batch laws (w .0) (w .1) c why e;
-    of-outputs = λ w c out why e. output-unmoved batch laws (w .0) (w .1) c out why e;
-    of-openings = λ o w why e. open-unmoved (w .0) (w .1) o why e;
-  }
-
-  pub items-in-order : ItemsInOrder batch
+  pub items-in-order : ItemsInOrder
   unfolding stores-simulate
-  items-in-order = subst (Demand2In (theStores batch) (runs batch)) (λ i w k. ring-seen (w .0) (w .1) k i) (words-demand2 (theStores batch) (stores-simulate batch laws))
+  items-in-order = subst (Demand2In theStores runs) (λ i w k. ring-seen (w .0) (w .1) k i) (words-demand2 theStores (stores-simulate batch))
 
-  pub answers-tell : AnswersTell batch
-  answers-tell = words-hands-as-answered (theStores batch) (stores-simulate batch laws)
+  pub answers-tell : AnswersTell
+  answers-tell = words-hands-as-answered theStores (stores-simulate batch)
 
-  pub lanes-wait-bounded : LanesWaitBounded batch
-  lanes-wait-bounded = words-demand3 (theStores batch) (stores-simulate batch laws)
+  pub lanes-wait-bounded : LanesWaitBounded
+  lanes-wait-bounded = words-demand3 theStores (stores-simulate batch)
 
-  pub none-after-close : NoneAfterClose batch
-  none-after-close = words-none-after-close (theStores batch) (stores-simulate batch laws)
+  pub none-after-close : NoneAfterClose
+  none-after-close = words-none-after-close theStores (stores-simulate batch)
 
-  pub held-is-counted : HeldIsCounted batch
-  held-is-counted = words-held-as-counted (theStores batch) (stores-simulate batch laws)
+  pub held-is-counted : HeldIsCounted
+  held-is-counted = words-held-as-counted theStores (stores-simulate batch)

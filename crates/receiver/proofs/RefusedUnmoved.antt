@@ -5,6 +5,7 @@ use mathlib.Core.Bool.{Bool, true, false, cond}
 use mathlib.Core.List.{List}
 use Prim.Native.Nat.{ℕ}
 use lib.Dec.{eqb}
+use lib.ListN.{length}
 use Rattle.model.specs.declared.LaneKey.{LaneKey}
 use Rattle.model.specs.declared.LaneId.{LaneId}
 use Rattle.model.specs.declared.Opening.{Opening}
@@ -14,7 +15,8 @@ use Rattle.model.specs.declared.ControlCall.{ControlCall}
 use Rattle.model.specs.declared.ControlCall.the-variants.{Pause, Resume, CloseLane, ReleaseConsumed, PollAllLanes, CloseReceiver, CountHeld}
 use Rattle.model.specs.declared.Refusal.{Refusal}
 use Rattle.model.specs.declared.Answer.{Answer}
-use Rattle.model.specs.declared.Answer.the-variants.{Empty, Disconnected, Refused}
+use Rattle.model.specs.declared.Answer.the-variants.{Items, Empty, Disconnected, Refused}
+use Rattle.model.specs.Receive.{written}
 use Rattle.model.specs.Runs.{accepted}
 use Rattle.model.proofs.Counting.{no}
 use Rattle.lane.specs.Cursor.{distance}
@@ -25,6 +27,7 @@ use Rattle.lane.specs.Lane.{sent, pushAndFlush, refill}
 use Rattle.lane.specs.Table.{laneAt}
 use Rattle.ready.specs.Header.{capacity, channel, laneCount, livingCount}
 use Rattle.receiver.specs.declared.refusal.Verdict.{Verdict}
+use Rattle.receiver.specs.declared.refusal.Verdict.the-variants.{Pass, Refuse}
 use Rattle.receiver.specs.declared.turn.Took.{Took}
 use Rattle.receiver.specs.declared.turn.Took.the-variants as Took
 use Rattle.receiver.specs.Words.{Words, unlessRefused}
@@ -33,7 +36,8 @@ use Rattle.receiver.specs.Sender.{pushed, sendSignaled, takenSignaled, s
 use Rattle.receiver.specs.Control.{pause, resume, closeLane, closeReceiver}
 use Rattle.receiver.specs.Batch.{releaseConsumed, pollAllLanes, countHeld}
 use Rattle.receiver.specs.Drained.{retireEmptyPausedLanes, emptyOrDrained, nothingTaken}
-use Rattle.receiver.specs.Receive.{takeOne, takeFair, answerOne, tryRecv, tryRecvFair}
+use Rattle.receiver.specs.Receive.{takeOne, takeFair, answerOne, withRings, tryRecv, tryRecvFair}
+use Rattle.receiver.specs.Drain.{drained, batchVerdict, answerItems, batchAnswer, tryRecvBatchInto, handedBy, batchHands, batchInto}
 use Rattle.receiver.specs.Target.{targetSettled, targetTook, takeFrom, tryRecvFrom}
 use Rattle.receiver.specs.Runs.{controlWords}
 use Rattle.receiver.proofs.RefusalLaws.{unless-refused-case}
@@ -137,6 +141,35 @@ module _ (t r : List ℕ) where
   unfolding tryRecvFrom
   try-recv-from-unmoved i = unless-accepted t r _ _ (take-from-accepted t r (i .key .slot))
 
+-- ---- the batch
+
+answer-items-accepted : (limit n : ℕ) (t : List ℕ) → accepted ((answerItems limit n t) .0) ≡ true
+unfolding answerItems accepted
+answer-items-accepted limit n t = go (eqb n 0) (eqb limit 0)
+  where
+    go : (b c : Bool) → accepted (cond {A = Answer × List ℕ} b (cond c (Items 0, t) (nothingTaken t)) (Items n, t) .0) ≡ true
+    go true true = refl
+    go true false = nothing-taken-accepted t
+    go false c = refl
+
+module _ (t r : List ℕ) (limit : ℕ) where
+  batch-accepted : accepted ((batchAnswer t r limit) .0) ≡ true
+  unfolding batchAnswer
+  batch-accepted = answer-items-accepted limit _ _
+
+  pub batch-unmoved : (room : ℕ) → Unmoved t r (tryRecvBatchInto t r limit room)
+  unfolding tryRecvBatchInto
+  batch-unmoved room = unless-accepted t r _ _ batch-accepted
+
+pub batch-output-unmoved : (t r out : List ℕ) (limit : ℕ) (why : Refusal) → (tryRecvBatchInto t r limit (length out)) .0 ≡ Refused why → (batchInto t r out limit) .3 ≡ out
+unfolding tryRecvBatchInto batchInto batchHands unlessRefused handedBy written accepted
+batch-output-unmoved t r out limit why e = go (batchVerdict t limit (length out)) e
+  where
+    go : (v : Verdict) → (unlessRefused v t r (withRings r (batchAnswer t r limit))) .0 ≡ Refused why → written (handedBy v (drained t r limit .0)) out ≡ out
+    go Pass f = absurd (no (batch-accepted t r limit) (ap accepted f))
+    go (Refuse n) f = refl
+
+module _ (t r : List ℕ) where
   -- ---- the opening
 
   pub open-unmoved : (o : Opening) → Unmoved t r (openStore o t r)

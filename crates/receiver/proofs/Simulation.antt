@@ -13,18 +13,18 @@ use Rattle.model.specs.Words.{numbersOfOpening, Fits, OpeningFits, Simulation}
 use Rattle.model.proofs.Demand2.{opens-as}
 use Rattle.receiver.specs.View.{view}
 use Rattle.receiver.specs.Order.{StoreInOrder}
-use Rattle.receiver.specs.Runs.{BatchWords, theStores}
+use Rattle.receiver.specs.Runs.{theStores}
 use Rattle.receiver.proofs.OpeningLaws.{open-answers-alike, open-view, open-in-order}
 use Rattle.receiver.proofs.RefusedUnmoved.{open-unmoved}
-use Rattle.receiver.proofs.CallLaws.{BatchLaws, call-alike, call-keeps, hands-alike, output-alike}
+use Rattle.receiver.proofs.CallLaws.{BatchAlike, call-alike, call-keeps, hands-alike, output-alike}
 
 -- of an opening's numbers, the cursor's
 pub cursor-fits : (o : Opening) (lent : Lent) → OpeningFits o lent → o .cursor < 2 ^ 64
 unfolding Fits Each numbersOfOpening
 cursor-fits o lent f = f .1 .1 .1 .0
 
-unfoldable pub stores-simulate : (batch : BatchWords) → BatchLaws batch → Simulation (theStores batch) theRules
-stores-simulate batch laws = record {
+unfoldable pub stores-simulate : BatchAlike → Simulation theStores theRules
+stores-simulate batch = record {
   view = λ w. view (w .0) (w .1);
   Ok = λ w. StoreInOrder (w .0) (w .1);
   lent = λ w. record { rings = length (w .1); table = length (w .0) };
@@ -34,9 +34,9 @@ stores-simulate batch laws = record {
   opens-view = λ o w f d. open-view o (w .0) (w .1) d ∙ sym (opens-as o (record { rings = length (w .1); table = length (w .0) }));
   opens-ok = λ o w f d. open-in-order o (w .0) (w .1) (cursor-fits o _ f) d;
   opens-refused = λ o w why f d. open-unmoved (w .0) (w .1) o why d;
-  answers-alike = λ w c f k. ap (λ (z : Answer × State). z .0) (call-alike batch laws (w .0) (w .1) k c);
-  leaves-alike = λ w c f k. ap (λ (z : Answer × State). z .1) (call-alike batch laws (w .0) (w .1) k c);
-  hands-alike = λ w c f k. hands-alike batch laws (w .0) (w .1) k c;
-  output-alike = λ w c out f room k. output-alike batch laws (w .0) (w .1) k c out;
-  keeps-ok = λ w c f k. call-keeps batch laws (w .0) (w .1) k c;
+  answers-alike = λ w c f k. ap (λ (z : Answer × State). z .0) (call-alike batch (w .0) (w .1) k c);
+  leaves-alike = λ w c f k. ap (λ (z : Answer × State). z .1) (call-alike batch (w .0) (w .1) k c);
+  hands-alike = λ w c f k. hands-alike batch (w .0) (w .1) k c;
+  output-alike = λ w c out f room k. output-alike batch (w .0) (w .1) k c out room;
+  keeps-ok = λ w c f k. call-keeps batch (w .0) (w .1) k c;
 }

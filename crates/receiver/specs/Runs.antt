@@ -10,7 +10,6 @@ use Rattle.model.specs.declared.ControlCall.{ControlCall}
 use Rattle.model.specs.declared.ControlCall.the-variants.{Pause, Resume, CloseLane, ReleaseConsumed, PollAllLanes, CloseReceiver, CountHeld}
 use Rattle.model.specs.declared.Call.{Call}
 use Rattle.model.specs.declared.Call.the-variants.{Sender, Receive, Control}
-use Rattle.model.specs.Receive.{written}
 use Rattle.model.specs.Runs.{Rules}
 use Rattle.receiver.specs.Words.{Words}
 use Rattle.receiver.specs.Opening.{openStore}
@@ -19,6 +18,7 @@ use Rattle.receiver.specs.Control.{pause, resume, closeLane, closeReceiv
 use Rattle.receiver.specs.Batch.{releaseConsumed, pollAllLanes, countHeld}
 use Rattle.receiver.specs.Receive.{tryRecv, tryRecvFair}
 use Rattle.receiver.specs.Target.{tryRecvFrom}
+use Rattle.receiver.specs.Drain.{tryRecvBatchInto, batchHands, batchInto}
 use Rattle.receiver.specs.Hands.{handsOf}
 
 -- every control call, held too
@@ -31,51 +31,41 @@ controlWords t r PollAllLanes = pollAllLanes t r
 controlWords t r CloseReceiver = closeReceiver t r
 controlWords t r CountHeld = countHeld t r
 
--- The batch with a limit and an output of so many words: what it leaves, and which items of which lanes it hands out.
-pub record BatchWords : Type 0 where
-  pub leaves : List ℕ → List ℕ → ℕ → ℕ → Words
-  pub gives : List ℕ → List ℕ → ℕ → ℕ → List (LaneKey × ℕ)
+-- every receive
+unfoldable pub receiveWords : List ℕ → List ℕ → ReceiveCall → Words
+receiveWords t r TryRecv = tryRecv t r
+receiveWords t r TryRecvFair = tryRecvFair t r
+receiveWords t r (TryRecvFrom i) = tryRecvFrom t r i
+receiveWords t r (TryRecvBatchInto limit room) = tryRecvBatchInto t r limit room
 
-module _ (batch : BatchWords) where
-  -- every receive
-  unfoldable pub receiveWords : List ℕ → List ℕ → ReceiveCall → Words
-  receiveWords t r TryRecv = tryRecv t r
-  receiveWords t r TryRecvFair = tryRecvFair t r
-  receiveWords t r (TryRecvFrom i) = tryRecvFrom t r i
-  receiveWords t r (TryRecvBatchInto limit room) = batch .leaves t r limit room
+-- what a receive hands out: a single one the item that it answers
+unfoldable pub handsWords : List ℕ → List ℕ → ReceiveCall → List (LaneKey × ℕ)
+handsWords t r TryRecv = handsOf ((tryRecv t r) .0)
+handsWords t r TryRecvFair = handsOf ((tryRecvFair t r) .0)
+handsWords t r (TryRecvFrom i) = handsOf ((tryRecvFrom t r i) .0)
+handsWords t r (TryRecvBatchInto limit room) = batchHands t r limit room
 
-  -- what a receive hands out: a single one the item that it answers
-  unfoldable pub handsWords : List ℕ → List ℕ → ReceiveCall → List (LaneKey × ℕ)
-  handsWords t r TryRecv = handsOf ((tryRecv t r) .0)
-  handsWords t r TryRecvFair = handsOf ((tryRecvFair t r) .0)
-  handsWords t r (TryRecvFrom i) = handsOf ((tryRecvFrom t r i) .0)
-  handsWords t r (TryRecvBatchInto limit room) = batch .gives t r limit room
+-- the lent output; single receives are lent none
+unfoldable pub outputWords : List ℕ → List ℕ → ReceiveCall → List ℕ → List ℕ
+outputWords t r TryRecv out = out
+outputWords t r TryRecvFair out = out
+outputWords t r (TryRecvFrom i) out = out
+outputWords t r (TryRecvBatchInto limit room) out = (batchInto t r out limit) .3
 
-  -- the lent output; single receives are lent none
-  unfoldable pub outputWords : List ℕ → List ℕ → ReceiveCall → List ℕ → List ℕ
-  outputWords t r TryRecv out = out
-  outputWords t r TryRecvFair out = out
-  outputWords t r (TryRecvFrom i) out = out
-  outputWords t r (TryRecvBatchInto limit room) out = written (batch .gives t r limit room) out
+-- every call
+unfoldable pub callWords : List ℕ → List ℕ → Call → Words
+callWords t r (Sender c) = senderWords t r c
+callWords t r (Receive c) = receiveWords t r c
+callWords t r (Control c) = controlWords t r c
 
-  -- every call
-  unfoldable pub callWords : List ℕ → List ℕ → Call → Words
-  callWords t r (Sender c) = senderWords t r c
-  callWords t r (Receive c) = receiveWords t r c
-  callWords t r (Control c) = controlWords t r c
-
-  -- the table store and the ring store
-  abbrev pub Store : Type 0
-  Store = List ℕ × List ℕ
-
-  -- "each on the state and stores exactly as the last one left them": the state is the two stores, every word of them
-  abbrev pub theStores : Rules
-  theStores = record {
-    State = List ℕ × List ℕ;
-    Stores = List ℕ × List ℕ;
-    lengths = λ w. record { rings = length (w .1); table = length (w .0) };
-    opens = λ o w. let a = openStore o (w .0) (w .1) in (a .0, (a .1, a .2));
-    step = λ w c. let a = callWords (w .0) (w .1) c in (a .0, (a .1, a .2));
-    hands = λ w c. handsWords (w .0) (w .1) c;
-    output = λ w c out. outputWords (w .0) (w .1) c out;
-  }
+-- "each on the state and stores exactly as the last one left them": the state is every word of the table store and of the ring store
+abbrev pub theStores : Rules
+theStores = record {
+  State = List ℕ × List ℕ;
+  Stores = List ℕ × List ℕ;
+  lengths = λ w. record { rings = length (w .1); table = length (w .0) };
+  opens = λ o w. let a = openStore o (w .0) (w .1) in (a .0, (a .1, a .2));
+  step = λ w c. let a = callWords (w .0) (w .1) c in (a .0, (a .1, a .2));
+  hands = λ w c. handsWords (w .0) (w .1) c;
+  output = λ w c out. outputWords (w .0) (w .1) c out;
+}
