@@ -1,27 +1,24 @@
 -- A chunk of the front lane: what it asks of the table, and what it leaves.
 -- Assumes nothing.
 use mathlib.Core.Path.{_≡_, refl, sym, ap, ap₂, _∙_, subst}
-use mathlib.Core.Bool.{true, false}
 use mathlib.Core.List.{List, [], _∷_}
-use Prim.Native.Nat.{ℕ, zero, suc, _+_, _-_, _≤_, _<_, min}
+use Prim.Native.Nat.{ℕ, zero, suc, _-_, _≤_, _<_, min}
 use native.Mathlib.Omega.{arith}
 use borrow.Author.Tests.{eqb-false}
 use lib.Dec.{eqb}
 use lib.ListN.{length, set}
-use Rattle.model.specs.State.{releaseBatch}
 use Rattle.lane.specs.declared.ring.Ring.{Ring}
 use Rattle.lane.specs.declared.consumer.Moved.{Moved}
 use Rattle.lane.specs.declared.lane.Lane.{Lane}
 use Rattle.lane.specs.declared.lane.BurstEnd.{BurstEnd}
 use Rattle.lane.specs.Lists.{written}
-use Rattle.lane.specs.Cursor.{distance}
 use Rattle.lane.specs.Ring.{ringOf, items, Within}
 use Rattle.lane.specs.Order.{Counts, InOrder, Filled}
-use Rattle.lane.specs.Lane.{headOn, charged, addBurst, releaseAtBatch, movedInto, endFullBurst, chunkLimit, chunkMoved, moveChunk}
+use Rattle.lane.specs.Lane.{headOn, charged, addBurst, movedInto, endFullBurst, chunkLimit, chunkMoved, moveChunk}
 use Rattle.lane.specs.Table.{putLane, setHead}
 use Rattle.lane.proofs.OrderLaws.{cond-holds, refill-fills, chunk-whole, move-chunk-keeps}
 use Rattle.lane.proofs.TableLaws.{frames, slot-of-lane}
-use Rattle.ready.specs.Header.{slots, queueCount, budget, capacity}
+use Rattle.ready.specs.Header.{slots, budget, capacity}
 use Rattle.ready.specs.Queue.{frontSlot}
 use Rattle.receiver.specs.Turn.{Turning, Ringed, frontLane, lessOne, rotatedIf, gaveFront}
 use Rattle.receiver.specs.Drain.{Fronts, fullBudget, chunkSize, chunkItems, chunkLane, gaveChunk, chunkGiven}
@@ -101,7 +98,7 @@ module _ (t : List ℕ) (l : Lane) (f : Fronts t l) where
     ring = ringOf (l .key .slot) C
 
     -- as many items are moved as were asked for
-    moved-is : (r out : List ℕ) (at : ℕ) → moveChunk ring r out at n l ≡ (record { lane = chunkLane C n l; moved = n }, written out at (items ring r (l .head) n))
+    pub moved-is : (r out : List ℕ) (at : ℕ) → moveChunk ring r out at n l ≡ (record { lane = chunkLane C n l; moved = n }, written out at (items ring r (l .head) n))
     unfolding moveChunk chunkMoved movedInto chunkLane
     moved-is r out at =
         ap {A = ℕ} {B = Moved × List ℕ} (λ m. (record { lane = chunkLane C m l; moved = m }, written out at (items ring r (l .head) m)))

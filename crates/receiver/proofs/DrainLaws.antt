@@ -2,24 +2,22 @@
 -- Assumes nothing.
 use mathlib.Core.Path.{_≡_, refl, sym, ap, ap₂, _∙_, subst}
 use mathlib.Core.Bool.{Bool, true, false, cond}
-use mathlib.Core.List.{List, [], _∷_, _++_, map}
+use mathlib.Core.List.{List, [], _++_, map, append-nil, append-assoc}
 use Prim.Native.Nat.{ℕ, zero, suc, _+_, _-_, _≤_, _<_}
 use native.Mathlib.Omega.{arith}
-use borrow.Author.Tests.{eq-eqb, ne-eqb, eqb-false}
+use borrow.Author.Tests.{eq-eqb, ne-eqb}
 use lib.Dec.{eqb}
 use lib.ListN.{length, length-append, length-map}
 use Rattle.model.specs.declared.LaneKey.{LaneKey}
 use Rattle.model.specs.Receive as rules
 use Rattle.lane.specs.declared.lane.Lane.{Lane}
 use Rattle.lane.specs.Lists.{tab, written}
-use Rattle.lane.specs.Ring.{items, itemAt}
-use Rattle.lane.specs.Cursor.{after}
-use Rattle.ready.specs.Header.{capacity}
+use Rattle.lane.specs.Ring.{items}
 use Rattle.receiver.specs.declared.drain.Front.{Front}
 use Rattle.receiver.specs.declared.drain.Front.the-variants as Front
-use Rattle.receiver.specs.Turn.{Turning, Ringed}
+use Rattle.receiver.specs.Turn.{Turning}
 use Rattle.receiver.specs.Drained.{Idle}
-use Rattle.receiver.specs.Drain.{refreshActive, Fronts, Reached, chunkSize, chunkItems, chunkGiven, giveChunk, Drained, chunkThen, drainedWithin, drained, drainInto}
+use Rattle.receiver.specs.Drain.{refreshActive, Fronts, chunkSize, chunkItems, chunkGiven, giveChunk, Drained, chunkThen, drainedWithin, drained, drainInto}
 use Rattle.receiver.proofs.FrontLaws.{Keeps, keeps-self, keeps-then}
 use Rattle.receiver.proofs.LookLaws.{Searched, refresh-searched}
 use Rattle.receiver.proofs.ChunkLaws.{chunk-least, chunk-some, chunk-filled, chunk-keeps}
@@ -28,19 +26,11 @@ use Rattle.receiver.proofs.OutputLaws.{output-none, output-chunk, lengt
 abbrev Handed : Type 0
 Handed = List (LaneKey × ℕ)
 
-append-nil : (l : Handed) → l ++ [] ≡ l
-append-nil [] = refl
-append-nil (g ∷ l) = ap (λ (m : Handed). g ∷ m) (append-nil l)
-
-append-assoc : (l m n : Handed) → (l ++ m) ++ n ≡ l ++ (m ++ n)
-append-assoc [] m n = refl
-append-assoc (g ∷ l) m n = ap (λ (k : Handed). g ∷ k) (append-assoc l m n)
-
 length-tab : (n : ℕ) (f : ℕ → ℕ) → length (tab n f) ≡ n
 length-tab zero f = refl
 length-tab (suc n) f = ap suc (length-tab n (λ i. f (suc i)))
 
-length-chunk : (t r : List ℕ) (n : ℕ) (l : Lane) → length (chunkItems t r n l) ≡ n
+pub length-chunk : (t r : List ℕ) (n : ℕ) (l : Lane) → length (chunkItems t r n l) ≡ n
 unfolding chunkItems items
 length-chunk t r n l = length-tab n _
 
@@ -87,7 +77,7 @@ draining-start t r out limit k =
     sub-zero n = omega arith
 
 -- one chunk of the definition
-within-next : (n : ℕ) (t r : List ℕ) (left : ℕ) → 0 < left → drainedWithin (suc n) t r left ≡ chunkThen (refreshActive t) r left (λ u m. drainedWithin n u r m)
+pub within-next : (n : ℕ) (t r : List ℕ) (left : ℕ) → 0 < left → drainedWithin (suc n) t r left ≡ chunkThen (refreshActive t) r left (λ u m. drainedWithin n u r m)
 unfolding drainedWithin
 within-next n t r left h = rw (ne-eqb left 0 (λ e. omega arith))
 

@@ -1,7 +1,7 @@
 -- The search for the lane whose turn it is: what each look, and look after look, leaves.
 -- Assumes nothing.
 use mathlib.Core.Path.{_≡_, refl, sym, ap, _∙_, subst}
-use mathlib.Core.Bool.{true, false}
+use mathlib.Core.Bool.{true}
 use mathlib.Core.List.{List}
 use Prim.Native.Nat.{ℕ, zero, suc, _+_, _<_}
 use native.Mathlib.Omega.{arith}
@@ -22,10 +22,10 @@ use Rattle.receiver.specs.declared.drain.Front.{Front}
 use Rattle.receiver.specs.declared.drain.Front.the-variants as Front
 use Rattle.receiver.specs.declared.drain.Look.{Look}
 use Rattle.receiver.specs.declared.drain.Look.the-variants as Look
-use Rattle.receiver.specs.Turn.{Turning, frontLane, leftFront, budgetMet}
+use Rattle.receiver.specs.Turn.{Turning, frontLane, leftFront}
 use Rattle.receiver.specs.Receive.{collectedIfDue}
 use Rattle.receiver.specs.Drained.{Idle}
-use Rattle.receiver.specs.Drain.{lookBy, lookFront, afterLook, runDownWithin, runDown, elseFront, refreshActive, Fronts, Reached}
+use Rattle.receiver.specs.Drain.{lookBy, lookFront, afterLook, runDownWithin, runDown, elseFront, refreshActive, Reached}
 use Rattle.receiver.proofs.LaneFields.{Emptied, RefillKept, refill-kept}
 use Rattle.receiver.proofs.TurnLaws.{slot-below, some-lane, free-room, front-issued, front-registered, front-ordered, turning-met}
 use Rattle.receiver.proofs.FrontLaws.{Keeps, keeps-self, keeps-then, left-slot, turning-left, head-left, length-left, count-left, head-met, length-met}

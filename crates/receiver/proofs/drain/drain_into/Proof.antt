@@ -6,7 +6,7 @@ use Rattle.receiver.specs.Drain.{giveChunk}
 use Prim.Native.Nat.{ℕ, _-_}
 use mathlib.Core.List.{List}
 use native.Mathlib.Omega.{arith}
-use mathlib.Core.Path.{_≡_, refl, sym, ap, _∙_}
+use mathlib.Core.Path.{ap}
 use borrow.Author.Needs.{needs}
 use Rattle.receiver.proofs.drain.drain_into.Statement.{statement}
 use Rattle.receiver.proofs.drain.drain_into.Tie as tie

@@ -6,7 +6,7 @@ use Rattle.receiver.proofs.LaneFields.{Flagged}
 use Rattle.lane.proofs.TableLaws.{frames}
 use lib.ListN.{length-set}
 use native.Mathlib.Omega.{arith}
-use mathlib.Core.Path.{ap, _∙_}
+use mathlib.Core.Path.{ap}
 use borrow.Author.Needs.{needs}
 use Rattle.receiver.proofs.drain.gave_chunk.Statement.{statement}
 use Rattle.receiver.proofs.drain.gave_chunk.Tie as tie
