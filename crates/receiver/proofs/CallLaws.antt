@@ -7,7 +7,6 @@ use Rattle.model.specs.declared.ReceiveCall.{ReceiveCall}
 use Rattle.model.specs.declared.ReceiveCall.the-variants.{TryRecv, TryRecvFair, TryRecvFrom, TryRecvBatchInto}
 use Rattle.model.specs.declared.Call.{Call}
 use Rattle.model.specs.declared.Call.the-variants.{Sender, Receive, Control}
-use Rattle.model.specs.declared.LaneKey.{LaneKey}
 use Rattle.model.specs.declared.Refusal.{Refusal}
 use Rattle.model.specs.declared.Answer.the-variants.{Refused}
 use Rattle.model.specs.Lists.{count}
@@ -27,6 +26,7 @@ use Rattle.receiver.proofs.ControlLaws.{control-alike, control-in-order
 use Rattle.receiver.proofs.TryRecvLaws.{try-recv-alike, try-recv-hands, try-recv-keeps}
 use Rattle.receiver.proofs.TryRecvFairLaws.{try-recv-fair-alike, try-recv-fair-hands, try-recv-fair-keeps}
 use Rattle.receiver.proofs.TryRecvFromLaws.{try-recv-from-alike, try-recv-from-keeps}
+use Rattle.receiver.proofs.TryRecvBatchLaws.{try-recv-batch-alike, try-recv-batch-hands, try-recv-batch-output, try-recv-batch-keeps}
 use Rattle.receiver.proofs.HandsLaws.{try-recv-from-hands}
 use Rattle.receiver.proofs.RefusedUnmoved.{Unmoved, sender-unmoved, control-unmoved, try-recv-unmoved, try-recv-fair-unmoved, try-recv-from-unmoved, batch-unmoved, batch-output-unmoved}
 use Rattle.receiver.proofs.StaleNever.{queued-key-kept}
@@ -49,13 +49,7 @@ output-unmoved t r TryRecvFair out h why e = refl
 output-unmoved t r (TryRecvFrom i) out h why e = refl
 output-unmoved t r (TryRecvBatchInto limit room) out h why e = batch-output-unmoved t r out limit why (ap (λ (n : ℕ). (tryRecvBatchInto t r limit n) .0) h ∙ e)
 
--- what is left to show of the batch
-pub record BatchAlike : Type 0 where
-  pub alike : (t r : List ℕ) (limit room : ℕ) → StoreInOrder t r → seen (tryRecvBatchInto t r limit room) ≡ (rules.tryRecvBatchInto (view t r) limit room) .1
-  pub hands : (t r : List ℕ) (limit room : ℕ) → StoreInOrder t r → batchHands t r limit room ≡ (rules.tryRecvBatchInto (view t r) limit room) .0
-  pub keeps : (t r : List ℕ) (limit room : ℕ) → StoreInOrder t r → StoreInOrder ((tryRecvBatchInto t r limit room) .1) ((tryRecvBatchInto t r limit room) .2)
-
-module _ (batch : BatchAlike) (t r : List ℕ) (o : StoreInOrder t r) where
+module _ (t r : List ℕ) (o : StoreInOrder t r) where
   pub call-alike : (c : Call) → seen (callWords t r c) ≡ (outcome (view t r) c) .1
   unfolding callWords receiveWords outcome receiveOutcome
   call-alike (Sender c) = sender-calls-alike t r o c
@@ -63,7 +57,7 @@ module _ (batch : BatchAlike) (t r : List ℕ) (o : StoreInOrder t r) where
   call-alike (Receive TryRecv) = try-recv-alike t r o
   call-alike (Receive TryRecvFair) = try-recv-fair-alike t r o
   call-alike (Receive (TryRecvFrom i)) = try-recv-from-alike t r i o
-  call-alike (Receive (TryRecvBatchInto limit room)) = batch .alike t r limit room o
+  call-alike (Receive (TryRecvBatchInto limit room)) = try-recv-batch-alike t r o limit room
 
   pub call-keeps : (c : Call) → StoreInOrder ((callWords t r c) .1) ((callWords t r c) .2)
   unfolding callWords receiveWords
@@ -72,14 +66,14 @@ module _ (batch : BatchAlike) (t r : List ℕ) (o : StoreInOrder t r) where
   call-keeps (Receive TryRecv) = try-recv-keeps t r o
   call-keeps (Receive TryRecvFair) = try-recv-fair-keeps t r o
   call-keeps (Receive (TryRecvFrom i)) = try-recv-from-keeps t r i o
-  call-keeps (Receive (TryRecvBatchInto limit room)) = batch .keeps t r limit room o
+  call-keeps (Receive (TryRecvBatchInto limit room)) = try-recv-batch-keeps t r o limit room
 
   pub hands-alike : (c : ReceiveCall) → handsWords t r c ≡ (receiveOutcome (view t r) c) .0
   unfolding handsWords receiveOutcome
   hands-alike TryRecv = try-recv-hands t r o
   hands-alike TryRecvFair = try-recv-fair-hands t r o
   hands-alike (TryRecvFrom i) = try-recv-from-hands t r i o
-  hands-alike (TryRecvBatchInto limit room) = batch .hands t r limit room o
+  hands-alike (TryRecvBatchInto limit room) = try-recv-batch-hands t r o limit room
 
   pub output-alike : (c : ReceiveCall) (out : List ℕ) → HasRoom c out → outputWords t r c out ≡ outputAfter (view t r) c out
   unfolding outputWords outputAfter HasRoom batchInto
@@ -87,7 +81,7 @@ module _ (batch : BatchAlike) (t r : List ℕ) (o : StoreInOrder t r) where
   output-alike TryRecvFair out h = refl
   output-alike (TryRecvFrom i) out h = refl
   output-alike (TryRecvBatchInto limit room) out h =
-      ap (λ (n : ℕ). rules.written (batchHands t r limit n) out) h ∙ ap (λ (l : List (LaneKey × ℕ)). rules.written l out) (batch .hands t r limit room o)
+      ap (λ (n : ℕ). rules.written (batchHands t r limit n) out) h ∙ try-recv-batch-output t r out o limit room
 
   -- a lane in the queue keeps its key
   pub call-keeps-queued-key : (c : Call) (x : ℕ) → 1 ≤ count x (queueOf t) → laneAt ((callWords t r c) .1) x .key ≡ laneAt t x .key

@@ -24,7 +24,7 @@ use Rattle.receiver.specs.Order.{StoreInOrder}
 use Rattle.receiver.specs.Runs.{theStores}
 use Rattle.receiver.specs.Demands.{itemsIn, runs, StaysInOrder, RefusalsChangeNothing, ItemsInOrder, AnswersTell, LanesWaitBounded, NoneAfterClose, HeldIsCounted}
 use Rattle.receiver.proofs.RefusedUnmoved.{open-unmoved}
-use Rattle.receiver.proofs.CallLaws.{BatchAlike, call-unmoved, output-unmoved, call-keeps}
+use Rattle.receiver.proofs.CallLaws.{call-unmoved, output-unmoved, call-keeps}
 use Rattle.receiver.proofs.Simulation.{stores-simulate}
 
 -- a lane's ring in the words is the ring that the rules see
@@ -52,30 +52,29 @@ refusals-change-nothing = record {
   of-openings = λ o w why e. open-unmoved (w .0) (w .1) o why e;
 }
 
-module _ (batch : BatchAlike) where
-  calls-keep : (w : theStores .State) (calls : List Call) → Each CallFits calls → StoreInOrder (w .0) (w .1)
-      → let end = after theStores w calls in StoreInOrder (end .0) (end .1)
-  unfolding after Each
-  calls-keep w [] f k = k
-  calls-keep w (c ∷ cs) f k = calls-keep ((theStores .step w c) .1) cs (f .1) (call-keeps batch (w .0) (w .1) k c)
+calls-keep : (w : theStores .State) (calls : List Call) → Each CallFits calls → StoreInOrder (w .0) (w .1)
+    → let end = after theStores w calls in StoreInOrder (end .0) (end .1)
+unfolding after Each
+calls-keep w [] f k = k
+calls-keep w (c ∷ cs) f k = calls-keep ((theStores .step w c) .1) cs (f .1) (call-keeps (w .0) (w .1) k c)
 
-  pub stays-in-order : StaysInOrder
-  unfolding StaysInOrder runsThatFit stores-simulate
-  stays-in-order o t r d calls f =
-      calls-keep ((theStores .opens o (t, r)) .1) calls (f .1) (stores-simulate batch .opens-ok o (t, r) (f .0) d)
+pub stays-in-order : StaysInOrder
+unfolding StaysInOrder runsThatFit stores-simulate
+stays-in-order o t r d calls f =
+    calls-keep ((theStores .opens o (t, r)) .1) calls (f .1) (stores-simulate .opens-ok o (t, r) (f .0) d)
 
-  pub items-in-order : ItemsInOrder
-  unfolding stores-simulate
-  items-in-order = subst (Demand2In theStores runs) (λ i w k. ring-seen (w .0) (w .1) k i) (words-demand2 theStores (stores-simulate batch))
+pub items-in-order : ItemsInOrder
+unfolding stores-simulate
+items-in-order = subst (Demand2In theStores runs) (λ i w k. ring-seen (w .0) (w .1) k i) (words-demand2 theStores stores-simulate)
 
-  pub answers-tell : AnswersTell
-  answers-tell = words-hands-as-answered theStores (stores-simulate batch)
+pub answers-tell : AnswersTell
+answers-tell = words-hands-as-answered theStores stores-simulate
 
-  pub lanes-wait-bounded : LanesWaitBounded
-  lanes-wait-bounded = words-demand3 theStores (stores-simulate batch)
+pub lanes-wait-bounded : LanesWaitBounded
+lanes-wait-bounded = words-demand3 theStores stores-simulate
 
-  pub none-after-close : NoneAfterClose
-  none-after-close = words-none-after-close theStores (stores-simulate batch)
+pub none-after-close : NoneAfterClose
+none-after-close = words-none-after-close theStores stores-simulate
 
-  pub held-is-counted : HeldIsCounted
-  held-is-counted = words-held-as-counted theStores (stores-simulate batch)
+pub held-is-counted : HeldIsCounted
+held-is-counted = words-held-as-counted theStores stores-simulate
