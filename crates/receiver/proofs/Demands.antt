@@ -7,11 +7,11 @@ use Prim.Native.Nat.{ℕ}
 use lib.Dec.{eqb, ltb}
 use Rattle.model.specs.declared.LaneKey.{LaneKey}
 use Rattle.model.specs.declared.Call.{Call}
-use Rattle.model.specs.Lists.{if, both, Each}
+use Rattle.model.specs.Lists.{if, both}
 use Rattle.model.specs.State as rules
 use Rattle.model.specs.State.{vacant, hasLane}
 use Rattle.model.specs.Runs.{after}
-use Rattle.model.specs.Words.{CallFits, runsThatFit}
+use Rattle.model.specs.Words.{runsThatFit}
 use Rattle.model.specs.Demand1.{RefusalChangesNothing}
 use Rattle.model.specs.Demand2.{Demand2In}
 use Rattle.model.proofs.Words.{words-demand2, words-demand3, words-none-after-close, words-held-as-counted, words-hands-as-answered}
@@ -52,16 +52,16 @@ refusals-change-nothing = record {
   of-openings = λ o w why e. open-unmoved (w .0) (w .1) o why e;
 }
 
-calls-keep : (w : theStores .State) (calls : List Call) → Each CallFits calls → StoreInOrder (w .0) (w .1)
+calls-keep : (w : theStores .State) (calls : List Call) → StoreInOrder (w .0) (w .1)
     → let end = after theStores w calls in StoreInOrder (end .0) (end .1)
-unfolding after Each
-calls-keep w [] f k = k
-calls-keep w (c ∷ cs) f k = calls-keep ((theStores .step w c) .1) cs (f .1) (call-keeps (w .0) (w .1) k c)
+unfolding after
+calls-keep w [] k = k
+calls-keep w (c ∷ cs) k = calls-keep ((theStores .step w c) .1) cs (call-keeps (w .0) (w .1) k c)
 
 pub stays-in-order : StaysInOrder
 unfolding StaysInOrder runsThatFit stores-simulate
 stays-in-order o t r d calls f =
-    calls-keep ((theStores .opens o (t, r)) .1) calls (f .1) (stores-simulate .opens-ok o (t, r) (f .0) d)
+    calls-keep ((theStores .opens o (t, r)) .1) calls (stores-simulate .opens-ok o (t, r) (f .0) d)
 
 pub items-in-order : ItemsInOrder
 unfolding stores-simulate
