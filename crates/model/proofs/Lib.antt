@@ -24,7 +24,7 @@ pub mod Words
 pub mod Pages
 pub mod Capacity
 pub mod InOrder
-pub mod Chunks
+pub mod FrontItem
 pub mod WholeChunk
 pub mod Events
 pub mod EventsOfRuns

@@ -21,7 +21,7 @@ use Rattle.model.proofs.Words.{state-path}
 use Rattle.model.proofs.OrderKept.{give-front-ordered, take-one-ordered}
 use Rattle.model.proofs.Quiet.{poll}
 use Rattle.model.proofs.WaitInReceive.{Settled, nothing-queued, front, poll-settled}
-use Rattle.model.proofs.Chunks.{polled-front}
+use Rattle.model.proofs.FrontItem.{polled-front}
 
 -- The first n items of lane y, as they are handed out.
 abbrev pub firstOf : State → ℕ → ℕ → List (LaneKey × ℕ)

@@ -1,4 +1,5 @@
 pub mod Answers
+pub mod AnswerExamples
 pub mod Lists
 pub mod State
 pub mod Changes
