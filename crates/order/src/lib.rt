@@ -1,0 +1,1 @@
+// Whether two stores are in order, for stores that nobody vouches for.
