@@ -27,6 +27,22 @@ use Rattle.receiver.proofs.ViewLaws.{slot-in, slot-out}
 use Rattle.receiver.proofs.CountLaws.{passing-same}
 use Rattle.order.specs.Clauses.{HeaderHolds, Names, RegisteredHolds, UnregisteredHolds, SlotHolds, SlotsHold, registeredBelow, livingBelow, CountsHold, PageHolds, GroupHolds, PagesHold, GroupsHold, Clauses}
 
+-- ---- the header
+
+pub shaped-header : (t r : List ℕ) → HeaderHolds t r → Shaped t
+shaped-header t r h =
+    let l = h .lengths in
+    let p = h .places in
+    record {
+      issued-most = p .issued-most;
+      front-in = p .front-in;
+      count-most = p .count-most;
+      free-most = p .free-most;
+      slots-most = l .slots-most;
+      cursor-most = omega (arith, h .limits .cursor-most, p .issued-most, l .slots-most);
+      room = l .room;
+    }
+
 -- ---- marks
 
 module _ (t : List ℕ) where
@@ -194,15 +210,26 @@ module _ (t r : List ℕ) where
       let d = o .ordered in
       record {
         header = record {
-          shaped = s .shaped;
-          rings-room = s .rings-room;
-          power = s .power;
-          some-slots = d .sizes .some-slots;
-          first-cursor = s .first-cursor;
-          fast-below = s .fast-below;
-          alive-flag = s .alive-flag;
-          budget-most = d .budget-most;
-          cursor-most = d .cursor-most;
+          lengths = record {
+            some-slots = d .sizes .some-slots;
+            slots-most = s .shaped .slots-most;
+            room = s .shaped .room;
+            power = s .power;
+            rings-room = s .rings-room;
+          };
+          places = record {
+            issued-most = s .shaped .issued-most;
+            front-in = s .shaped .front-in;
+            count-most = s .shaped .count-most;
+            free-most = s .shaped .free-most;
+            fast-below = s .fast-below;
+          };
+          limits = record {
+            alive-flag = s .alive-flag;
+            budget-most = d .budget-most;
+            cursor-most = d .cursor-most;
+            first-cursor = s .first-cursor;
+          };
         };
         queue = record { once = s .named .once; issued-only = s .named .issued-only };
         free = record { once = λ x. d .each-slot x .free-once; issued-only = λ x. d .each-slot x .free-issued };
@@ -219,12 +246,12 @@ module _ (t r : List ℕ) where
   stores-of c =
       let h = c .header in
       record {
-        shaped = h .shaped;
-        fast-below = h .fast-below;
-        power = h .power;
-        rings-room = h .rings-room;
-        alive-flag = h .alive-flag;
-        first-cursor = h .first-cursor;
+        shaped = shaped-header t r h;
+        fast-below = h .places .fast-below;
+        power = h .lengths .power;
+        rings-room = h .lengths .rings-room;
+        alive-flag = h .limits .alive-flag;
+        first-cursor = h .limits .first-cursor;
         flags = λ x l. c .each-slot x l .flags;
         lanes = λ x l e. c .each-slot x l .registered e .lane;
         named = record { once = c .queue .once; issued-only = c .queue .issued-only; flagged = λ x l e. c .each-slot x l .registered e .queued-is };
@@ -253,13 +280,13 @@ module _ (t r : List ℕ) where
       let h = c .header in
       record {
         each-slot = ordered-slots c;
-        budget-most = h .budget-most;
-        cursor-most = h .cursor-most;
+        budget-most = h .limits .budget-most;
+        cursor-most = h .limits .cursor-most;
         sizes = record {
-          power-of-two = (h .power .log, h .power .small, h .power .is);
-          some-slots = h .some-slots;
-          most-slots = h .shaped .slots-most;
-          issued-most = h .shaped .issued-most;
+          power-of-two = (h .lengths .power .log, h .lengths .power .small, h .lengths .power .is);
+          some-slots = h .lengths .some-slots;
+          most-slots = h .lengths .slots-most;
+          issued-most = h .places .issued-most;
         };
       }
 

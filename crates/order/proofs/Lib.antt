@@ -1,1 +1,3 @@
 pub mod ClauseLaws
+pub mod TellsLaws
+pub mod HeaderLaws

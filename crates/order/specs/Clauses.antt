@@ -9,8 +9,8 @@ use Rattle.model.specs.Lists.{count, keep, from}
 use Rattle.lane.specs.declared.lane.Lane.{Lane}
 use Rattle.lane.specs.Cursor.{Capacity}
 use Rattle.lane.specs.Order.{InOrder}
-use Rattle.lane.specs.Table.{laneAt}
-use Rattle.ready.specs.Header.{Shaped, issued, slots, budget, groupCursor, alive, capacity, firstCursor, fastSlot, laneCount, livingCount}
+use Rattle.lane.specs.Table.{cellAt, laneAt}
+use Rattle.ready.specs.Header.{issued, queueFront, queueCount, freeCount, slots, budget, groupCursor, alive, capacity, firstCursor, fastSlot, laneCount, livingCount}
 use Rattle.ready.specs.Queue.{queueOf}
 use Rattle.ready.specs.Registry.{freeOf}
 use Rattle.ready.specs.Bits.{bit}
@@ -18,22 +18,39 @@ use Rattle.ready.specs.Ready.{pageWord, groupWord, pageBit, groupBit, nonZero, 
 use Rattle.receiver.specs.View.{flag}
 use Rattle.receiver.specs.Order.{Flag, Flags, Fast}
 
--- the lengths of the stores and the words of the header
-pub record HeaderHolds (t r : List ℕ) : Type 0 where
-  -- "Stores have at least the lengths that the opening asked for"; "issued slots are at most S"
-  pub shaped : Shaped t
-  pub rings-room : slots t * capacity t ≤ length r
-  -- "C is a power of two; C, S, first cursor and first generation are ones an opening takes"
-  pub power : Capacity (capacity t)
+-- "Stores have at least the lengths that the opening asked for."
+pub record LengthsHold (t r : List ℕ) : Type 0 where
+  -- "C is a power of two; C, S .. are ones an opening takes"
   pub some-slots : 1 ≤ slots t
-  pub first-cursor : firstCursor t < 2 ^ 64
+  pub slots-most : slots t ≤ 8192
+  pub room : cellAt 0 (slots t) ≤ length t
+  pub power : Capacity (capacity t)
+  pub rings-room : slots t * capacity t ≤ length r
+
+-- the header's words that name slots or places, or count them
+pub record PlacesHold (t : List ℕ) : Type 0 where
+  -- "issued slots are at most S"
+  pub issued-most : issued t ≤ slots t
+  pub front-in : queueFront t < slots t
+  pub count-most : queueCount t ≤ slots t
+  pub free-most : freeCount t ≤ slots t
   -- "`fast_slot`, which is below S"
   pub fast-below : fastSlot t < slots t
+
+-- the header's other words
+pub record LimitsHold (t : List ℕ) : Type 0 where
   pub alive-flag : Flag (alive t)
   -- "the budget is at most 64"
   pub budget-most : budget t ≤ 64
   -- "the group cursor is at most the groups that exist"
   pub cursor-most : groupCursor t ≤ groupsOf (issued t)
+  -- "first cursor and first generation are ones an opening takes": any u64
+  pub first-cursor : firstCursor t < 2 ^ 64
+
+pub record HeaderHolds (t r : List ℕ) : Type 0 where
+  pub lengths : LengthsHold t r
+  pub places : PlacesHold t
+  pub limits : LimitsHold t
 
 -- a list of slots: "slot numbers are of issued slots", and none is there twice
 pub record Names (issued : ℕ) (names : List ℕ) : Type 0 where

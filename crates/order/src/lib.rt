@@ -1,1 +1,2 @@
 // Whether two stores are in order, for stores that nobody vouches for.
+mod header;
