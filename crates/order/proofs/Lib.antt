@@ -1,3 +1,5 @@
 pub mod ClauseLaws
 pub mod TellsLaws
 pub mod HeaderLaws
+pub mod SeenLaws
+pub mod NamesLaws

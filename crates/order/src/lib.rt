@@ -1,2 +1,4 @@
 // Whether two stores are in order, for stores that nobody vouches for.
 mod header;
+mod names;
+mod seen;
