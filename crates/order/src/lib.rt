@@ -1,4 +1,5 @@
 // Whether two stores are in order, for stores that nobody vouches for.
 mod header;
+mod marks;
 mod names;
 mod seen;
