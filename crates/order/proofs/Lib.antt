@@ -4,3 +4,5 @@ pub mod HeaderLaws
 pub mod SeenLaws
 pub mod NamesLaws
 pub mod MarkLaws
+pub mod LaneLaws
+pub mod SlotLaws

@@ -2,4 +2,7 @@
 mod header;
 mod marks;
 mod names;
+mod record;
 mod seen;
+mod slot;
+mod slots;
