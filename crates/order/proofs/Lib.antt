@@ -6,3 +6,4 @@ pub mod NamesLaws
 pub mod MarkLaws
 pub mod LaneLaws
 pub mod SlotLaws
+pub mod AnswerLaws
