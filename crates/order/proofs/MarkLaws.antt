@@ -61,20 +61,21 @@ module _ (t : List ℕ) (page : ℕ) {w g z : ℕ} (is : w ≡ pageWord t page) 
   pub page-no : (g / 2 ^ (page % 64) % 2 ≡ z → ⊥) → PageHolds t page → ⊥
   page-no d p = d (ap (λ (x : ℕ). bit x (page % 64)) of ∙ p .linked ∙ ap nonZero (sym is) ∙ sym some)
 
-  pub page-tells : g / 2 ^ (page % 64) % 2 ≡ z → pageWord t page < 2 ^ 64 → 64 * page < issued t → {a : Bool}
-      → Tells ((b : ℕ) → b < 64 → bit w b ≡ 1 → b < issued t - 64 * page) a → Tells (PageHolds t page) a
-  page-tells e f h =
+  pub page-tells : g / 2 ^ (page % 64) % 2 ≡ z → pageWord t page < 2 ^ 64 → {n : ℕ} → ((b : ℕ) → b < n → 64 * page + b < issued t)
+      → ((b : ℕ) → 64 * page + b < issued t → b < n) → {a : Bool} → Tells ((b : ℕ) → b < 64 → bit w b ≡ 1 → b < n) a → Tells (PageHolds t page) a
+  page-tells e f h k =
       tells-of
       (λ p. record {
         fits = f;
-        of-issued = λ b l o. let k = p b l (ap (λ (x : ℕ). bit x b) is ∙ o) in omega (arith, k, h);
+        of-issued = λ b l o. h b (p b l (ap (λ (x : ℕ). bit x b) is ∙ o));
         linked = ap (λ (x : ℕ). bit x (page % 64)) (sym of) ∙ e ∙ some ∙ ap nonZero is;
       })
-      (λ q b l o. let k = q .of-issued b l (ap (λ (x : ℕ). bit x b) (sym is) ∙ o) in omega (arith, k))
+      (λ q b l o. k b (q .of-issued b l (ap (λ (x : ℕ). bit x b) (sym is) ∙ o)))
 
-pub group-tells : (t : List ℕ) (group : ℕ) {w : ℕ} → w ≡ groupWord t group → groupWord t group < 2 ^ 64 → {a : Bool}
-    → Tells ((b : ℕ) → b < 64 → bit w b ≡ 1 → b < (issued t + 63) / 64 - 64 * group) a → Tells (GroupHolds t group) a
-group-tells t group is f =
+pub group-tells : (t : List ℕ) (group : ℕ) {w : ℕ} → w ≡ groupWord t group → groupWord t group < 2 ^ 64 → {n : ℕ}
+    → ((b : ℕ) → b < n → 64 * (64 * group + b) < issued t) → ((b : ℕ) → 64 * (64 * group + b) < issued t → b < n) → {a : Bool}
+    → Tells ((b : ℕ) → b < 64 → bit w b ≡ 1 → b < n) a → Tells (GroupHolds t group) a
+group-tells t group is f h k =
     tells-of
-    (λ p. record { fits = f; of-pages = λ b l o. let k = p b l (ap (λ (x : ℕ). bit x b) is ∙ o) in omega (arith, k) })
-    (λ q b l o. let k = q .of-pages b l (ap (λ (x : ℕ). bit x b) (sym is) ∙ o) in omega (arith, k))
+    (λ p. record { fits = f; of-pages = λ b l o. h b (p b l (ap (λ (x : ℕ). bit x b) is ∙ o)) })
+    (λ q b l o. k b (q .of-pages b l (ap (λ (x : ℕ). bit x b) (sym is) ∙ o)))

@@ -10,7 +10,7 @@ use Rattle.order.proofs.header.limits_hold.Tie as tie
 returns-3 : tie.Need-returns-3
 returns-3 c =
     tells-le _ _
-    (λ e. record { alive-flag = c .before .before .before .before .if1 .left; budget-most = c .before .before .if2 .left; cursor-most = e; first-cursor = c .shared-slice-known4 .given 10 .fits })
+    (λ e. record { alive-flag = omega (arith, c .before .before .before .before .if1 .left); budget-most = omega (arith, c .before .before .if2 .left); cursor-most = e; first-cursor = c .shared-slice-known4 .given 10 .fits })
     (λ p. p .cursor-most)
 
 pub limits-hold-spec : {M : Type 1} → statement M

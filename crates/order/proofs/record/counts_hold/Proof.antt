@@ -7,10 +7,10 @@ use Rattle.order.proofs.record.counts_hold.Statement.{statement}
 use Rattle.order.proofs.record.counts_hold.Tie as tie
 
 returns-5 : tie.Need-returns-5
-returns-5 c = no (cached-no (c .if5 .taken))
+returns-5 c = no (cached-no (λ e. omega (arith, e, c .if5 .taken)))
 
 returns-7 : tie.Need-returns-7
-returns-7 c = counts-tells (c .before .before .before .before .before .before .before .before .before .before .before .before .if1 .left) (c .before .before .before .before .before .before .before .before .before .before .if2 .left) (c .before .before .before .before .before .before .before .before .if3 .left) (c .before .before .before .before .before .before .if4 .left) (c .before .before .before .if5 .left) (c .before .if6 .left)
+returns-7 c = counts-tells (omega (arith, c .before .before .before .before .before .before .before .before .before .before .before .before .if1 .left)) (omega (arith, c .before .before .before .before .before .before .before .before .before .before .if2 .left)) (omega (arith, c .before .before .before .before .before .before .before .before .if3 .left)) (omega (arith, c .before .before .before .before .before .before .if4 .left)) (omega (arith, c .before .before .before .if5 .left)) (omega (arith, c .before .if6 .left))
 
 pub counts-hold-spec : {M : Type 1} → statement M
 counts-hold-spec =

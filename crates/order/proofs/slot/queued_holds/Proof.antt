@@ -11,6 +11,6 @@ pub queued-holds-spec : {M : Type 1} → statement M
 queued-holds-spec =
     tie.close
     (tie.spec
-    (λ c. no (λ p. c .if1 .taken (p .0)))
-    (λ c. yes (c .before .if1 .left, λ h. absurd (omega (arith, c .if2 .taken))))
-    (λ c. tells-eq _ _ (λ e. (c .before .before .if1 .left, λ h. e)) (λ p. p .1 (omega (arith, c .before .if2 .left)))))
+    (λ c. no (λ p. omega (arith, p .0, c .if1 .taken)))
+    (λ c. yes (omega (arith, c .before .if1 .left), λ h. absurd (omega (arith, c .if2 .taken))))
+    (λ c. tells-eq _ _ (λ e. (omega (arith, c .before .before .if1 .left), λ h. omega (arith, e))) (λ p. p .1 (omega (arith, c .before .if2 .left)))))

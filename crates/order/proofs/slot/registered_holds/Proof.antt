@@ -1,5 +1,6 @@
 -- `order::slot::registered_holds` meets its contract.
 -- Assumes nothing.
+use native.Mathlib.Omega.{arith}
 use borrow.Author.Tests.{not-true, not-false}
 use borrow.Author.Needs.{needs}
 use Rattle.order.specs.Tells.{no}
@@ -24,7 +25,7 @@ returns-5 c =
       lane = o;
       queued-is = q .0;
       unpaused = q .1;
-      not-free = c .before .before .before .before .before .before .before .before .if1 .left;
+      not-free = omega (arith, c .before .before .before .before .before .before .before .before .if1 .left);
       is-marked = told (c .before .before .before .before .before .mark-holds .ensures) (not-false _ (c .before .before .before .before .if3 .left));
       window = told (c .before .before .before .window-holds .ensures) (not-false _ (c .before .before .if4 .left));
     })
@@ -34,7 +35,7 @@ pub registered-holds-spec : {M : Type 1} → statement M
 registered-holds-spec =
     tie.close
     (tie.spec
-    (λ c. no (λ p. c .if1 .taken (p .not-free)))
+    (λ c. no (λ p. omega (arith, p .not-free, c .if1 .taken)))
     (λ c κs. search needs)
     returns-2
     (λ c κs. search needs)

@@ -11,6 +11,6 @@ pub unregistered-holds-spec : {M : Type 1} → statement M
 unregistered-holds-spec =
     tie.close
     (tie.spec
-    (λ c. no (λ p. c .if1 .taken (p .unqueued)))
-    (λ c. yes (record { unqueued = c .before .if1 .left; generation-below = λ h. absurd (omega (arith, c .if2 .taken)) }))
-    (λ c. tells-ne _ _ (λ e. record { unqueued = c .before .if1 .left; generation-below = λ h. e }) (λ p. p .generation-below (omega (arith, c .if2 .left)))))
+    (λ c. no (λ p. omega (arith, p .unqueued, c .if1 .taken)))
+    (λ c. yes (record { unqueued = omega (arith, c .before .if1 .left); generation-below = λ h. absurd (omega (arith, c .if2 .taken)) }))
+    (λ c. tells-ne _ _ (λ e. record { unqueued = omega (arith, c .before .if1 .left); generation-below = λ h g. e (omega (arith, g)) }) (λ p. p .generation-below (omega (arith, c .if2 .left)))))

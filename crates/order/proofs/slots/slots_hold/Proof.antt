@@ -39,10 +39,10 @@ loop-again c =
     scan-next _ _ _ (c .before .before .before .before .before .before .load .ensures) (c .before .before .before .before .before .has .ensures) (c .before .before .before .before .has2 .ensures) (c .before .before .before .before .before .before .before .before .loop .inv) (c .before .before .before .before .before .before .before .loop-test .taken) s
 
 returns-2 : tie.Need-returns-2 Inv-loop μ-loop
-returns-2 c = no (lanes-no _ _ _ (c .before .before .before .loop .inv) (c .before .before .loop-test .left) (c .if2 .taken))
+returns-2 c = no (lanes-no _ _ _ (c .before .before .before .loop .inv) (c .before .before .loop-test .left) (λ e. omega (arith, e, c .if2 .taken)))
 
 returns-3 : tie.Need-returns-3 Inv-loop μ-loop
-returns-3 c = living-tells _ _ _ (c .before .before .before .before .loop .inv) (c .before .before .before .loop-test .left) (c .before .if2 .left)
+returns-3 c = living-tells _ _ _ (c .before .before .before .before .loop .inv) (c .before .before .before .loop-test .left) (omega (arith, c .before .if2 .left))
 
 pub slots-hold-spec : {M : Type 1} → statement M
 slots-hold-spec =
