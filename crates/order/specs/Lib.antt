@@ -1,0 +1,3 @@
+pub mod Tells
+pub mod Seen
+pub mod Clauses
