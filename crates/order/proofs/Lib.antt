@@ -3,3 +3,4 @@ pub mod TellsLaws
 pub mod HeaderLaws
 pub mod SeenLaws
 pub mod NamesLaws
+pub mod TestLaws
