@@ -4,3 +4,4 @@ pub mod HeaderLaws
 pub mod SeenLaws
 pub mod NamesLaws
 pub mod TestLaws
+pub mod InOrderLaws

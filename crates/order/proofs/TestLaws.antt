@@ -42,10 +42,10 @@ tells-both (yes p) (yes q) = yes (p, q)
 tells-both (yes p) (no g) = no (λ h. g (h .1))
 tells-both (no f) q = no (λ h. f (h .0))
 
--- the last test of `every`
-pub tells-last : {P : Type 0} {a : Bool} → Tells P a → Tells P (every (a ∷ []))
-tells-last (yes p) = yes p
-tells-last (no f) = no f
+-- one more test of `every`, of a field f of R; the tests after it may use what it tells
+pub tells-field : {P R : Type 0} {a b : Bool} → Tells P a → (R → P) → (P → Tells R b) → Tells R (both a b)
+tells-field (yes p) f k = k p
+tells-field (no n) f k = no (λ r. n (f r))
 
 pub tells-implies : {P Q : Type 0} {a b : Bool} → Tells P a → Tells Q b → Tells (P → Q) (implies a b)
 tells-implies (yes p) (yes q) = yes (λ h. q)
