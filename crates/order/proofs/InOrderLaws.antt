@@ -1,33 +1,30 @@
 -- The test that computes says yes exactly if the stores are in order.
 -- Assumes nothing.
-use mathlib.Core.Path.{_≡_, refl, sym, ap, _∙_}
-use mathlib.Core.Logic.{_≢_}
-use mathlib.Core.Bool.{Bool, true, false, not}
+use mathlib.Core.Path.{_≡_, ap}
+use mathlib.Core.Bool.{Bool, true, false}
 use mathlib.Core.List.{List, [], _∷_}
-use Prim.Native.Nat.{ℕ, zero, suc, _+_, _*_, _/_, _^_, _≤_, _<_}
+use Prim.Native.Nat.{ℕ, _^_, _<_}
 use native.Mathlib.Omega.{arith}
-use lib.Dec.{ltb, leb, eqb}
 use lib.ListN.{length, take, getD}
 use lib.Pow.{pow-mono}
-use Rattle.model.specs.Lists.{count, same}
+use Rattle.model.specs.Lists.{count}
 use Rattle.model.specs.State.{releaseBatch}
-use Rattle.model.proofs.Counting.{Same, equal, other, same?, same-self}
+use Rattle.model.proofs.Counting.{equal, other, same?, same-self}
 use Rattle.lane.specs.declared.lane.Lane.{Lane}
 use Rattle.lane.specs.Cursor.{Capacity, distance}
 use Rattle.lane.specs.Order.{Cursors, Counts, InOrder}
-use Rattle.lane.specs.Table.{cellAt, laneAt}
-use Rattle.ready.specs.Header.{issued, queueFront, queueCount, freeCount, slots, budget, groupCursor, alive, capacity, firstCursor, fastSlot, laneCount, livingCount}
+use Rattle.lane.specs.Table.{laneAt}
+use Rattle.ready.specs.Header.{issued, budget, capacity, fastSlot}
 use Rattle.ready.specs.Queue.{queueOf}
 use Rattle.ready.specs.Registry.{freeOf}
-use Rattle.ready.specs.Bits.{bit}
-use Rattle.ready.specs.Ready.{pageWord, groupWord, pageBit, groupBit, nonZero, groupsOf}
-use Rattle.receiver.specs.Order.{Flag, Flags, Fast, StoreInOrder}
+use Rattle.ready.specs.Ready.{groupsOf}
+use Rattle.receiver.specs.Order.{Flags, Fast, StoreInOrder}
 use Rattle.order.specs.Tells.{Tells, yes, no}
-use Rattle.order.specs.Clauses.{LengthsHold, PlacesHold, LimitsHold, HeaderHolds, Names, RegisteredHolds, UnregisteredHolds, SlotHolds, SlotsHold, registeredBelow, livingBelow, CountsHold, PageHolds, GroupHolds, PagesHold, GroupsHold, Clauses}
+use Rattle.order.specs.Clauses.{LengthsHold, PlacesHold, LimitsHold, HeaderHolds, Names, RegisteredHolds, UnregisteredHolds, SlotHolds, SlotsHold, CountsHold, PageHolds, GroupHolds, PagesHold, GroupsHold, Clauses}
 use Rattle.order.specs.InOrder.{capacityTest, lengthsTest, placesTest, limitsTest, headerTest, namesTest, cursorsTest, amountsTest, laneTest, isFirst, fastTest, flagsTest, registeredTest, unregisteredTest, slotTest, slotsTest, countsTest, pagesOf, pageTest, groupTest, pagesTest, groupsTest, inOrder}
 use Rattle.order.proofs.ClauseLaws as clauses
 use Rattle.order.proofs.TellsLaws.{told, untold, tells-true, tells-of}
-use Rattle.order.proofs.TestLaws.{tells-less, tells-most, tells-equal, tells-not, tells-both, tells-field, tells-implies, tells-all-below, tells-all-where, tells-some-below}
+use Rattle.order.proofs.TestLaws.{tells-same, tells-less, tells-most, tells-equal, tells-not, tells-both, tells-field, tells-implies, tells-all-below, tells-all-where, tells-some-below}
 
 -- ---- the lengths and the header
 
@@ -254,3 +251,10 @@ module _ (t r : List ℕ) where
 
   pub in-order-holds : StoreInOrder t r → inOrder t r ≡ true
   in-order-holds o = tells-true in-order-tells o
+
+  pub in-order-fails : (StoreInOrder t r → ⊥) → inOrder t r ≡ false
+  in-order-fails f = tells-same in-order-tells (no f)
+
+  -- whatever tests the stores has this answer
+  pub answer-in-order : {a : Bool} → Tells (StoreInOrder t r) a → a ≡ inOrder t r
+  answer-in-order u = tells-same u in-order-tells

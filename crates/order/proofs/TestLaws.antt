@@ -1,16 +1,14 @@
 -- Laws of tests that compute: what `every`, `implies`, `allBelow` and `someBelow` tell if their parts tell it.
 -- Assumes nothing.
-use mathlib.Core.Path.{_≡_, refl, sym, ap, _∙_}
-use mathlib.Core.Logic.{_≢_}
-use mathlib.Core.Bool.{Bool, true, false, not}
-use mathlib.Core.List.{List, [], _∷_}
-use Prim.Native.Nat.{ℕ, zero, suc, _+_, _≤_, _<_}
+use mathlib.Core.Path.{_≡_, refl}
+use mathlib.Core.Bool.{Bool, not}
+use Prim.Native.Nat.{ℕ, zero, suc, _≤_, _<_}
 use native.Mathlib.Omega.{arith}
 use lib.Dec.{ltb, leb, eqb}
 use Rattle.model.specs.Lists.{both, either}
-use Rattle.model.proofs.Counting.{Same, equal, other, same?}
+use Rattle.model.proofs.Counting.{equal, other, same?}
 use Rattle.order.specs.Tells.{Tells, yes, no}
-use Rattle.order.specs.InOrder.{every, implies, allBelow, someBelow}
+use Rattle.order.specs.InOrder.{implies, allBelow, someBelow}
 use Rattle.order.proofs.TellsLaws.{tells-of, tells-lt, tells-le, tells-eq}
 
 -- two tests of the same have the same answer
