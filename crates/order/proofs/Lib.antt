@@ -5,3 +5,4 @@ pub mod SeenLaws
 pub mod NamesLaws
 pub mod TestLaws
 pub mod InOrderLaws
+pub mod InOrderExamples
