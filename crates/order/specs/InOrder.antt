@@ -122,6 +122,7 @@ cursorsTest C l =
     ∷ []
     )
 
+-- the counts
 unfoldable pub amountsTest : ℕ → Lane → Bool
 amountsTest C l =
     every (
@@ -180,6 +181,7 @@ unregisteredTest generation queued free =
     ∷ []
     )
 
+-- "flags and signals hold one of their two values", and what holds of a slot with a lane or without
 unfoldable pub slotTest : List ℕ → Lane → ℕ → ℕ → ℕ → Bool
 slotTest t l x queued free =
     every (
@@ -189,6 +191,7 @@ slotTest t l x queued free =
     ∷ []
     )
 
+-- every issued slot
 unfoldable pub slotsTest : List ℕ → Bool
 slotsTest t = allBelow (issued t) (λ x. slotTest t (laneAt t x) x (count x (queueOf t)) (count x (freeOf t)))
 
