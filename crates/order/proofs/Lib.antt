@@ -7,3 +7,6 @@ pub mod MarkLaws
 pub mod LaneLaws
 pub mod SlotLaws
 pub mod AnswerLaws
+pub mod TestLaws
+pub mod InOrderLaws
+pub mod InOrderExamples
