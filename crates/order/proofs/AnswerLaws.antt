@@ -9,7 +9,7 @@ use Rattle.lane.specs.Table.{laneAt}
 use Rattle.ready.specs.Header.{issued}
 use Rattle.ready.specs.Queue.{queueOf}
 use Rattle.ready.specs.Registry.{freeOf}
-use Rattle.receiver.specs.Order.{StoreInOrder}
+use Rattle.store.specs.Order.{StoreInOrder}
 use Rattle.order.specs.Tells.{Tells, no}
 use Rattle.order.specs.Seen.{has, Seen}
 use Rattle.order.specs.Clauses.{SlotHolds, SlotsHold, Clauses}

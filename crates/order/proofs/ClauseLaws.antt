@@ -21,10 +21,10 @@ use Rattle.ready.specs.Queue.{QueueNames, queueOf}
 use Rattle.ready.specs.Registry.{freeOf}
 use Rattle.ready.specs.Bits.{bit}
 use Rattle.ready.specs.Ready.{pageWord, groupWord, pageBit, groupBit, nonZero, groupsOf, Linked}
-use Rattle.receiver.specs.View.{flag, slotOf, slotAt, view}
-use Rattle.receiver.specs.Order.{Flag, Flags, Fast, MarkWords, Stores, StoreInOrder}
-use Rattle.receiver.proofs.ViewLaws.{slot-in, slot-out}
-use Rattle.receiver.proofs.CountLaws.{passing-same}
+use Rattle.store.specs.View.{flag, slotOf, slotAt, view}
+use Rattle.store.specs.Order.{Flag, Flags, Fast, MarkWords, Stores, StoreInOrder}
+use Rattle.store.proofs.ViewLaws.{slot-in, slot-out}
+use Rattle.store.proofs.CountLaws.{passing-same}
 use Rattle.order.specs.Clauses.{HeaderHolds, Names, RegisteredHolds, UnregisteredHolds, SlotHolds, SlotsHold, registeredBelow, livingBelow, CountsHold, PageHolds, GroupHolds, PagesHold, GroupsHold, Clauses}
 
 -- ---- the header

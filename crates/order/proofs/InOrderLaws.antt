@@ -18,7 +18,7 @@ use Rattle.ready.specs.Header.{issued, budget, capacity, fastSlot}
 use Rattle.ready.specs.Queue.{queueOf}
 use Rattle.ready.specs.Registry.{freeOf}
 use Rattle.ready.specs.Ready.{groupsOf}
-use Rattle.receiver.specs.Order.{Flags, Fast, StoreInOrder}
+use Rattle.store.specs.Order.{Flags, Fast, StoreInOrder}
 use Rattle.order.specs.Tells.{Tells, yes, no}
 use Rattle.order.specs.Clauses.{LengthsHold, PlacesHold, LimitsHold, HeaderHolds, Names, RegisteredHolds, UnregisteredHolds, SlotHolds, SlotsHold, CountsHold, PageHolds, GroupHolds, PagesHold, GroupsHold, Clauses}
 use Rattle.order.specs.InOrder.{capacityTest, lengthsTest, placesTest, limitsTest, headerTest, namesTest, cursorsTest, amountsTest, laneTest, isFirst, fastTest, flagsTest, registeredTest, unregisteredTest, slotTest, slotsTest, countsTest, pagesOf, pageTest, groupTest, pagesTest, groupsTest, inOrder}

@@ -15,10 +15,10 @@ use Rattle.lane.specs.Table.{laneAt}
 use Rattle.ready.specs.Header.{Shaped, issued, queueCount, laneCount, livingCount}
 use Rattle.ready.specs.Queue.{queueOf, frontSlot}
 use Rattle.ready.proofs.QueueLaws.{queue-front}
-use Rattle.receiver.specs.View.{flag}
-use Rattle.receiver.specs.Order.{Flags}
-use Rattle.receiver.proofs.CountLaws.{one, passing-none, passing-more}
-use Rattle.receiver.proofs.StoreLaws.{one-flag}
+use Rattle.store.specs.View.{flag}
+use Rattle.store.specs.Order.{Flags}
+use Rattle.store.proofs.CountLaws.{one, passing-none, passing-more}
+use Rattle.store.proofs.StoreLaws.{one-flag}
 use Rattle.order.specs.Tells.{Tells}
 use Rattle.order.specs.Seen.{has}
 use Rattle.order.specs.Clauses.{RegisteredHolds, UnregisteredHolds, SlotHolds, SlotsHold, registeredBelow, livingBelow, CountsHold}

@@ -15,8 +15,8 @@ use Rattle.ready.specs.Queue.{queueOf}
 use Rattle.ready.specs.Registry.{freeOf}
 use Rattle.ready.specs.Bits.{bit}
 use Rattle.ready.specs.Ready.{pageWord, groupWord, pageBit, groupBit, nonZero, groupsOf}
-use Rattle.receiver.specs.View.{flag}
-use Rattle.receiver.specs.Order.{Flag, Flags, Fast}
+use Rattle.store.specs.View.{flag}
+use Rattle.store.specs.Order.{Flag, Flags, Fast}
 
 -- "Stores have at least the lengths that the opening asked for."
 pub record LengthsHold (t r : List ℕ) : Type 0 where

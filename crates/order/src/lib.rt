@@ -1,7 +1,7 @@
 // Whether two stores are in order, for stores that nobody vouches for.
 ghost use mathlib.Core.Path.{_≡_};
 ghost use mathlib.Core.Bool.{true};
-ghost use Rattle.receiver.specs.Order.{StoreInOrder};
+ghost use Rattle.store.specs.Order.{StoreInOrder};
 
 mod header;
 mod marks;

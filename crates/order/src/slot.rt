@@ -6,7 +6,7 @@ ghost use Rattle.lane.specs.Cursor.{Capacity};
 ghost use Rattle.ready.specs.Header.{Shaped, issued, capacity, fastSlot, budget};
 ghost use Rattle.ready.specs.Queue.{queueOf};
 ghost use Rattle.ready.specs.Ready.{pageBit};
-ghost use Rattle.receiver.specs.Order.{Fast};
+ghost use Rattle.store.specs.Order.{Fast};
 ghost use Rattle.order.specs.Tells.{Tells};
 ghost use Rattle.order.specs.Clauses.{RegisteredHolds, UnregisteredHolds, SlotHolds};
 use crate::record;
