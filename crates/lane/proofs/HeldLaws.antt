@@ -127,7 +127,7 @@ unfolding popTargeted targeted
 item-is ring store l = refl
 
 -- a lane that is ready is the one that was looked at
-refill-is : (l m : Lane) → refill l ≡ Refill.Ready m → reload (closeFast l) ≡ m
+pub refill-is : (l m : Lane) → refill l ≡ Refill.Ready m → reload (closeFast l) ≡ m
 unfolding refill readyOrIdle
 refill-is l m e = go (eqb (reload (closeFast l) .cached) 0) e
   where

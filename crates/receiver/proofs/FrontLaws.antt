@@ -233,10 +233,10 @@ module _ (t : List ℕ) (rotate : Bool) (l : Lane) where
       go true = p
       go false = q
 
-  head-gave : (j : ℕ) → ltb j headerWords ≡ true → eqb 1 j ≡ false → eqb 5 j ≡ false → head (gaveFront t rotate l) j ≡ head t j
+  pub head-gave : (j : ℕ) → ltb j headerWords ≡ true → eqb 1 j ≡ false → eqb 5 j ≡ false → head (gaveFront t rotate l) j ≡ head t j
   head-gave j a b c = given-is (λ u. head u j ≡ head t j) (simp (frames, queue-frames, a, b, c)) (simp (frames, a, c))
 
-  length-gave : length (gaveFront t rotate l) ≡ length t
+  pub length-gave : length (gaveFront t rotate l) ≡ length t
   length-gave = given-is (λ u. length u ≡ length t) (simp (frames, queue-frames)) (simp frames)
 
 -- ---- one turn

@@ -10,6 +10,7 @@ pub mod SameFlags
 pub mod EmptyLaneLaws
 pub mod FoundEmptyLaws
 pub mod LeftView
+pub mod FrontBack
 pub mod GaveView
 pub mod TurnView
 pub mod WindowView
@@ -23,3 +24,11 @@ pub mod ChannelKept
 pub mod TryRecvLaws
 pub mod TakeFairView
 pub mod TryRecvFairLaws
+pub mod LookLaws
+pub mod ChunkLaws
+pub mod DrainLaws
+pub mod BatchLaws
+pub mod LookView
+pub mod ChunkView
+pub mod DrainView
+pub mod TryRecvBatchLaws

@@ -37,7 +37,7 @@ use Rattle.receiver.proofs.WindowTakes.{TakesAs, take-fast-takes, take-
 unfoldable pub afterDue : State → rules.Took
 afterDue s = let d = rules.runDown s in let u = rules.collectIfNoneQueued (d .queue) d in rules.giveFront false u (u .queue)
 
-abbrev due : State → State
+abbrev pub due : State → State
 due s = rules.collectIfDue (s .budget) (s .queue) s
 
 pub take-one-is : (s : State) → rules.takeOne s ≡ afterDue (due s)
@@ -102,7 +102,7 @@ module _ (t r : List ℕ) (o : StoreInOrder t r) where
   abbrev looked : List ℕ
   looked = setHead (collectReady false t) 5 64
 
-  due-in-order : StoreInOrder (collectedIfDue t) r
+  pub due-in-order : StoreInOrder (collectedIfDue t) r
   unfolding collectedIfDue
   due-in-order = go (eqb (budget t) 0) (eqb (queueCount t) 0)
     where
@@ -111,7 +111,7 @@ module _ (t r : List ℕ) (o : StoreInOrder t r) where
       go true false = full-budget-in-order (collectReady false t) r (collected-in-order t r o false)
       go false b = o
 
-  due-view : view (collectedIfDue t) r ≡ due (view t r)
+  pub due-view : view (collectedIfDue t) r ≡ due (view t r)
   unfolding collectedIfDue rules.collectIfDue view
   due-view = go (budget t) (queueOf t) refl refl
     where

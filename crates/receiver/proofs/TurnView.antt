@@ -96,17 +96,17 @@ module _ (t r : List ℕ) (o : StoreInOrder t r) (fair : Bool) (x : ℕ) (q : Li
 
   -- it is empty
   module _ (found : EmptyLane) (k : Empties t r x found) where
-    none-held : s .slotOf x .ring ≡ []
+    pub none-held : s .slotOf x .ring ≡ []
     unfolding slotAt
     none-held = ap (λ (y : Slot). y .ring) (slot-in t r x (front .is-issued)) ∙ k .idle .holds-none
 
     abbrev left : List ℕ
     left = budgetMet (leftFront t found)
 
-    left-ordered : StoreInOrder left r
+    pub left-ordered : StoreInOrder left r
     left-ordered = met-in-order (leftFront t found) r (left-in-order t r o x q e found k)
 
-    view-left : view left r ≡ rules.beforeNextTurn q (rules.settleEmpty x q s)
+    pub view-left : view left r ≡ rules.beforeNextTurn q (rules.settleEmpty x q s)
     view-left =
         met-view (leftFront t found) r (left-in-order t r o x q e found k) q (left-queue t r o x q e found k)
         ∙ ap (rules.beforeNextTurn q) (left-view t r o x q e found k)
@@ -117,7 +117,7 @@ module _ (t r : List ℕ) (o : StoreInOrder t r) (fair : Bool) (x : ℕ) (q : Li
         ap (λ (l : List ℕ). let u = if (nonEmpty l) s (rules.runDownFrom q (rules.beforeNextTurn q (rules.settleEmpty x q s))) in rules.giveFront fair u (u .queue)) none-held
         ∙ ap (λ (z : State). let u = rules.runDownFrom q z in rules.giveFront fair u (u .queue)) (sym view-left)
 
-    left-rest : queueOf left ≡ q
+    pub left-rest : queueOf left ≡ q
     unfolding view
     left-rest = ap (λ (z : State). z .queue) view-left ∙ before-next-turn-queue q q (rules.settleEmpty x q s) (settle-empty-queue x q s)
 

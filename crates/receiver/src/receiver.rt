@@ -100,7 +100,7 @@ fn take_window(t: &mut [u64], r: &[u64]) -> Took
 }
 
 // A look for ready lanes is due when the budget is used up.
-fn collect_if_due(t: &mut [u64])
+pub(crate) fn collect_if_due(t: &mut [u64])
     requires { ⌜ Turning (now t) ⌝ }
     ensures { λ _. ⌜ now (t .exit) ≡ collectedIfDue (now (t .entry)) ⌝ }
 {

@@ -36,7 +36,7 @@ pub fn retire_if(t: &mut [u64], l: Lane, dropped: bool)
 }
 
 // The front lane was found empty: it leaves the queue.
-fn settle_empty_front(t: &mut [u64], found: EmptyLane)
+pub(crate) fn settle_empty_front(t: &mut [u64], found: EmptyLane)
     requires { ⌜ Shaped (now t) × (found .lane .key .slot < slots (now t)) × (0 < queueCount (now t)) × (freeCount (now t) < slots (now t)) × (0 < laneCount (now t)) ⌝ }
     ensures { λ _. ⌜ now (t .exit) ≡ leftFront (now (t .entry)) found ⌝ }
 {
@@ -47,7 +47,7 @@ fn settle_empty_front(t: &mut [u64], found: EmptyLane)
 }
 
 // Before every turn but the first a budget of 0 becomes 64.
-fn meet_budget(t: &mut [u64])
+pub(crate) fn meet_budget(t: &mut [u64])
     requires { ⌜ Shaped (now t) ⌝ }
     ensures { λ _. ⌜ now (t .exit) ≡ budgetMet (now (t .entry)) ⌝ }
 {
@@ -69,7 +69,7 @@ fn less_one(budget: u64) -> u64
     budget - 1
 }
 
-fn rotate_if(t: &mut [u64], rotate: bool)
+pub(crate) fn rotate_if(t: &mut [u64], rotate: bool)
     requires { ⌜ Shaped (now t) × (0 < queueCount (now t)) ⌝ }
     ensures { λ _. ⌜ now (t .exit) ≡ rotatedIf rotate (now (t .entry)) ⌝ }
 {

@@ -118,7 +118,7 @@ refill-kept l = go (eqb (reload (closeFast l) .cached) 0)
         (s .0 ∙ ap few f, s .1, s .2 ∙ ap (λ (z : Flagged). eqb (z .3) 0) f)
     go false = flagged-reload (closeFast l)
 
-flagged-end : (b : Bool) (l : Lane) → flagged (endBurst b l) ≡ flagged l
+pub flagged-end : (b : Bool) (l : Lane) → flagged (endBurst b l) ≡ flagged l
 flagged-end true l = refl
 flagged-end false l = refl
 
