@@ -10,9 +10,7 @@ use Rattle.model.specs.Control.{controlOutcome}
 use Rattle.model.specs.Rules.{outcome}
 use Rattle.store.specs.View.{view}
 use Rattle.store.specs.Order.{Stores, StoreInOrder}
-use Rattle.store.specs.Words.{Words}
-use Rattle.control.specs.Control.{pause, resume, closeLane, closeReceiver}
-use Rattle.control.specs.Batch.{releaseConsumed, pollAllLanes, countHeld}
+use Rattle.control.specs.Calls.{controlWords}
 use Rattle.store.proofs.RefusalLaws.{seen}
 use Rattle.store.proofs.StoreLaws.{store-in-order-after}
 use Rattle.control.proofs.PauseLaws.{pause-alike, pause-keeps}
@@ -22,16 +20,6 @@ use Rattle.control.proofs.ReleaseConsumedLaws.{release-consumed-alike, 
 use Rattle.control.proofs.PollAllLaws.{poll-all-lanes-alike, poll-all-lanes-keeps}
 use Rattle.control.proofs.CloseReceiverLaws.{close-receiver-alike, close-receiver-keeps}
 use Rattle.control.proofs.CountHeldLaws.{count-held-alike, count-held-keeps}
-
--- what each call leaves
-unfoldable pub controlWords : List ℕ → List ℕ → ControlCall → Words
-controlWords t r (Pause i) = pause t r i
-controlWords t r (Resume i) = resume t r i
-controlWords t r (CloseLane i) = closeLane t r i
-controlWords t r ReleaseConsumed = releaseConsumed t r
-controlWords t r PollAllLanes = pollAllLanes t r
-controlWords t r CloseReceiver = closeReceiver t r
-controlWords t r CountHeld = countHeld t r
 
 pub control-alike : (t r : List ℕ) (c : ControlCall) → StoreInOrder t r → seen (controlWords t r c) ≡ (outcome (view t r) (Control c)) .1
 unfolding controlWords outcome controlOutcome

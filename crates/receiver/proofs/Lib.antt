@@ -5,8 +5,8 @@ pub mod ReceiveLaws
 pub mod DrainedLaws
 pub mod TargetLaws
 pub mod OutputLaws
-pub mod NothingTakenLaws
 pub mod SameFlags
+pub mod NothingTakenLaws
 pub mod EmptyLaneLaws
 pub mod FoundEmptyLaws
 pub mod LeftView
@@ -19,6 +19,7 @@ pub mod TakeOneView
 pub mod TargetTookLaws
 pub mod TryRecvFromLaws
 pub mod HandsLaws
+pub mod KeysKept
 pub mod StaleNever
 pub mod ChannelKept
 pub mod TryRecvLaws
@@ -32,3 +33,7 @@ pub mod LookView
 pub mod ChunkView
 pub mod DrainView
 pub mod TryRecvBatchLaws
+pub mod RefusedUnmoved
+pub mod CallLaws
+pub mod Simulation
+pub mod Demands

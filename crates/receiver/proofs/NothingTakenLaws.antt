@@ -7,13 +7,10 @@ use Prim.Native.Nat.{ℕ, zero, suc, _+_, _-_, _≤_, _<_}
 use native.Mathlib.Omega.{arith}
 use borrow.Author.Tests.{eqb-true, ne-eqb, le-leb}
 use lib.Dec.{eqb, leb}
-use Rattle.model.specs.declared.LaneKey.{LaneKey}
 use Rattle.model.specs.declared.Answer.{Answer}
 use Rattle.model.specs.declared.Answer.the-variants.{Empty, Disconnected}
 use Rattle.model.specs.Lists.{if, both, nonEmpty, from}
 use Rattle.model.specs.State.{Slot, State}
-use Rattle.model.specs.Changes as changes
-use Rattle.model.specs.Changes.{put, withFree, withFlags, withSignal}
 use Rattle.model.specs.Order.{Ordered}
 use Rattle.model.specs.Outcome.{says}
 use Rattle.model.specs.Turn as turns
@@ -23,27 +20,24 @@ use Rattle.model.proofs.OrderKept.{retire-empty-paused-ordered}
 use Rattle.lane.specs.declared.lane.Lane.{Lane}
 use Rattle.lane.specs.Lane.{held, closeFast, prefetch, reload, reloadIsEmpty, refill, readyOrIdle}
 use Rattle.lane.specs.Ring.{ringOf}
-use Rattle.lane.specs.Table.{laneAt, putLane, setHead}
+use Rattle.lane.specs.Table.{laneAt}
 use Rattle.lane.proofs.OrderLaws.{cond-holds, refill-fills}
 use Rattle.lane.proofs.HeldLaws.{reload-holds, pop-targeted-takes-first}
-use Rattle.lane.proofs.TableLaws.{slot-of-lane}
 use Rattle.ready.specs.Header.{issued, slots, budget, capacity, fastSlot, freeCount, laneCount, livingCount}
 use Rattle.ready.specs.Queue.{queueOf}
-use Rattle.ready.specs.Registry.{freed}
-use Rattle.ready.proofs.QueueLaws.{shaped-putLane}
 use Rattle.store.specs.View.{flag, slotAt, view}
 use Rattle.store.specs.Order.{Stores, StoreInOrder}
-use Rattle.store.specs.Registry.{retired, freedUnlessLast, retireLane}
+use Rattle.store.specs.Registry.{retired, retireLane}
 use Rattle.control.specs.Batch.{forSlots}
 use Rattle.receiver.specs.Turn.{retiredIf}
 use Rattle.receiver.specs.Drained.{retireEmptyPaused, retireEmptyPausedLanes, emptyOrDrained, nothingTaken}
 use Rattle.receiver.specs.Receive.{withRings}
-use Rattle.store.proofs.ViewLaws.{slot-in, view-put-flags, view-lane-count, view-freed}
+use Rattle.store.proofs.ViewLaws.{slot-in}
 use Rattle.store.proofs.RefusalLaws.{seen}
 use Rattle.store.proofs.StepLaws.{Step, step-start}
 use Rattle.store.proofs.StoreLaws.{Owes, stores-after, windows-kept, lane-counted, room-in-free, issued-ring-in}
-use Rattle.store.proofs.RetireFrames.{shaped-lowered, room-lowered}
-use Rattle.store.proofs.RetireLaws.{step-retire-lane}
+use Rattle.store.proofs.RetireLaws.{view-retire-as, step-retire-lane}
+use Rattle.receiver.proofs.SameFlags.{flags-by, slot-by}
 use Rattle.store.proofs.LaneFields.{Flagged, flagged, flagged-looked}
 use Rattle.store.proofs.LaneView.{looked, looked-seen, looked-empty}
 
@@ -61,16 +55,6 @@ module _ (t r : List ℕ) (o : Stores t r) (x : ℕ) (h : x < issued t) where
   abbrev new : Lane
   new = looked old
 
-  abbrev slot : Slot
-  slot = view t r .slotOf x
-
-  -- the lane stored as unregistered, and counted no more
-  abbrev lowered : List ℕ
-  lowered = setHead (putLane t (retired new)) 13 (laneCount t - 1)
-
-  sees : slot ≡ slotAt t r x
-  sees = slot-in t r x h
-
   same-flags : flagged new ≡ flagged old
   unfolding reloadIsEmpty
   same-flags = flagged-looked old
@@ -78,54 +62,21 @@ module _ (t r : List ℕ) (o : Stores t r) (x : ℕ) (h : x < issued t) where
   same-key : new .key ≡ old .key
   same-key = ap (λ (z : Flagged). z .0) same-flags
 
-  slot-retired : withFlags false (flag (new .living)) false (withSignal (flag (new .pending)) (slot .marked) slot) ≡ changes.retired slot
-  unfolding slotAt
-  slot-retired =
-      ap₂ (λ (a b : Bool). withFlags false a false (withSignal b (slot .marked) slot))
-      (ap (λ (z : Flagged). flag (z .3)) same-flags ∙ sym (ap (λ (m : Slot). m .living) sees))
-      (ap (λ (z : Flagged). flag (z .5)) same-flags ∙ sym (ap (λ (m : Slot). m .pending) sees))
-
-  view-lowered : view lowered r ≡ put x (changes.retired slot) (view t r)
-  view-lowered =
+  view-retired-looked : freeCount t < slots t → view (retireLane t new) r ≡ turns.retireLane x (view t r)
+  view-retired-looked room =
       let ends = looked-ends old in
       let counts = looked-seen old in
-      view-lane-count (putLane t (retired new)) r (shaped-putLane t (o .shaped) (retired new)) (laneCount t - 1)
-      ∙ view-put-flags t r (o .shaped) x h (retired new) same-key (ends .0) (ends .1) (counts .0) (counts .1)
-      ∙ ap (λ (m : Slot). put x m (view t r)) slot-retired
-
-  generation-seen : slot .generation ≡ old .key .generation
-  unfolding slotAt
-  generation-seen = ap (λ (m : Slot). m .generation) sees
-
-  view-retired-looked : freeCount t < slots t → view (retireLane t new) r ≡ turns.retireLane x (view t r)
-  unfolding retireLane freedUnlessLast turns.retireLane
-  view-retired-looked room =
-      ap (λ (k : LaneKey). view (cond (eqb (k .generation) 18446744073709551615) lowered (freed lowered (k .slot))) r) same-key
-      ∙ ap (λ (y : ℕ). view (cond (eqb (old .key .generation) 18446744073709551615) lowered (freed lowered y)) r) (slot-of-lane t x)
-      ∙ go (eqb (old .key .generation) 18446744073709551615)
-      ∙ ap (λ (n : ℕ). withFree (if (eqb n 18446744073709551615) (view t r .free) (x ∷ view t r .free)) (put x (changes.retired slot) (view t r))) (sym generation-seen)
-    where
-      go : (b : Bool) → view (cond b lowered (freed lowered x)) r ≡ withFree (if b (view t r .free) (x ∷ view t r .free)) (put x (changes.retired slot) (view t r))
-      go true = view-lowered
-      go false =
-          view-freed lowered r (shaped-lowered t (retired new) (laneCount t - 1) (o .shaped)) x (room-lowered t (retired new) (laneCount t - 1) room)
-          ∙ ap (λ (v : State). withFree (x ∷ v .free) v) view-lowered
+      view-retire-as t r (o .shaped) x h new same-key (ends .0) (ends .1) (ap (λ (z : Flagged). z .3) same-flags) (ap (λ (z : Flagged). z .5) same-flags) (counts .0) (counts .1) room
 
   module _ (g : old .registered ≡ 1) (room : freeCount t < slots t) where
     step-retired : Step t (retireLane t new) x (retired new) (queueOf t) (fastSlot t) (budget t) (laneCount t - 1) (livingCount t)
-    step-retired = step-retire-lane (step-start t r o x) new (ap (λ (k : LaneKey). k .slot) same-key ∙ slot-of-lane t x) h room
+    step-retired = step-retire-lane (step-start t r o x) new (slot-by t x new same-flags) h room
 
     owes-retired : Owes t x (retired new) (queueOf t) (fastSlot t) (budget t) (laneCount t - 1) (livingCount t)
     owes-retired =
-        let f = o .flags x h in
+        let f = flags-by old new same-flags (o .flags x h) in
         record {
-          flags = record {
-            pending-flag = rw (ap (λ (z : Flagged). z .5) same-flags) (f .pending-flag);
-            queued-flag = rw (ap (λ (z : Flagged). z .4) same-flags) (f .queued-flag);
-            paused-flag = omega arith;
-            registered-flag = omega arith;
-            living-flag = rw (ap (λ (z : Flagged). z .3) same-flags) (f .living-flag);
-          };
+          flags = record { pending-flag = f .pending-flag; queued-flag = f .queued-flag; paused-flag = omega arith; registered-flag = omega arith; living-flag = f .living-flag };
           order = λ e. absurd (omega arith);
           fast-below = o .fast-below;
           once = o .named .once x;

@@ -1,21 +1,33 @@
 -- The Rust's arm `Stale` is for an entry of the queue whose key no lane has any more: its slot holds no lane, or a later one.
--- From a store in order it never occurs. The port's queue has slots and no generations, so there are two parts to it:
--- whatever slot stands in the queue holds a registered lane, and no call changes the generation of such a slot.
+-- From a store in order it never occurs. The port's queue has slots and no generations, so this has two parts:
+-- a slot that stands in the queue holds a registered lane, and no call changes that lane's key. Turns of one receive leave a store in order each, and no
+-- receive changes any generation (`receive-keeps-generations`), so both hold between two turns too.
 -- Assumes nothing.
-use mathlib.Core.Path.{_≡_, sym, ap, _∙_}
-use mathlib.Core.Bool.{true, false}
-use mathlib.Core.List.{List, []}
-use Prim.Native.Nat.{ℕ, _≤_, _<_}
+use mathlib.Core.Path.{_≡_, refl, sym, ap, _∙_}
+use mathlib.Core.Bool.{false}
+use mathlib.Core.List.{List}
+use Prim.Native.Nat.{ℕ, zero, suc, _≤_, _<_}
 use native.Mathlib.Omega.{arith}
 use borrow.Author.Tests.{eqb-true, eqb-false}
+use Rattle.model.specs.declared.LaneKey.{LaneKey}
+use Rattle.model.specs.declared.LaneId.{LaneId}
+use Rattle.model.specs.declared.Call.{Call}
+use Rattle.model.specs.declared.Answer.{Answer}
 use Rattle.model.specs.Lists.{count}
-use Rattle.model.specs.State.{Slot}
+use Rattle.model.specs.State.{Slot, State}
+use Rattle.model.specs.Rules.{outcome}
 use Rattle.lane.specs.Table.{laneAt}
 use Rattle.ready.specs.Header.{issued}
 use Rattle.ready.specs.Queue.{queueOf}
 use Rattle.store.specs.View.{flag, slotAt, view}
 use Rattle.store.specs.Order.{StoreInOrder}
+use Rattle.store.specs.Words.{Words}
+use Rattle.receiver.specs.Target.{tryRecvFrom}
 use Rattle.store.proofs.ViewLaws.{slot-in}
+use Rattle.store.proofs.RefusalLaws.{seen}
+use Rattle.store.proofs.StoreLaws.{registered-seen}
+use Rattle.receiver.proofs.TryRecvFromLaws.{try-recv-from-keeps}
+use Rattle.receiver.proofs.KeysKept.{call-keeps-generation, call-keeps-issued}
 
 -- what stands behind an entry of the queue
 pub record QueuedLane (t : List ℕ) (x : ℕ) : Type 0 where
@@ -43,3 +55,42 @@ stale-never t r o x named =
       unpaused = omega (arith, eqb-false (laneAt t x .paused) 1 going, o .stores .flags x h .paused-flag);
       once = omega (arith, o .stores .named .once x, named);
     }
+
+-- a slot whose lane has gone has no entry: whatever retires or closes a lane takes it out of the queue
+pub gone-unqueued : (t r : List ℕ) → StoreInOrder t r → (x : ℕ) → (laneAt t x .registered ≡ 1 → ⊥) → count x (queueOf t) ≡ 0
+gone-unqueued t r o x gone = go (count x (queueOf t)) refl
+  where
+    go : (n : ℕ) → count x (queueOf t) ≡ n → n ≡ 0
+    go zero e = refl
+    go (suc n) e = absurd (gone (stale-never t r o x (omega arith) .registered))
+
+-- after a targeted receive, which may queue its lane or take it out of the middle of the queue
+pub stale-never-after-targeted : (t r : List ℕ) (i : LaneId) → StoreInOrder t r → (x : ℕ) → 1 ≤ count x (queueOf ((tryRecvFrom t r i) .1)) → QueuedLane ((tryRecvFrom t r i) .1) x
+stale-never-after-targeted t r i o x named = stale-never ((tryRecvFrom t r i) .1) ((tryRecvFrom t r i) .2) (try-recv-from-keeps t r i o) x named
+
+-- ---- the key behind an entry
+
+generation-seen : (t r : List ℕ) (x : ℕ) → x < issued t → view t r .slotOf x .generation ≡ laneAt t x .key .generation
+unfolding slotAt
+generation-seen t r x h = ap (λ (m : Slot). m .generation) (slot-in t r x h)
+
+key-by : (t u : List ℕ) (x : ℕ) → laneAt u x .key .generation ≡ laneAt t x .key .generation → laneAt u x .key ≡ laneAt t x .key
+unfolding laneAt
+key-by t u x e = ap {A = ℕ} {B = LaneKey} (λ n. record { slot = x; generation = n }) e
+
+module _ (t r : List ℕ) (c : Call) (w : Words) (o : StoreInOrder t r) (e : seen w ≡ (outcome (view t r) c) .1) (x : ℕ) (named : 1 ≤ count x (queueOf t)) where
+  state-after : view (w .1) (w .2) ≡ (outcome (view t r) c) .1 .1
+  state-after = ap (λ (z : Answer × State). z .1) e
+
+  still-issued : x < issued (w .1)
+  unfolding view
+  still-issued = omega (arith, ap (λ (s : State). s .issued) state-after, call-keeps-issued (view t r) c, stale-never t r o x named .is-issued)
+
+  -- The Rust's entry is its lane's key at the moment that the lane is queued. A call that does what the rules say leaves the key of a queued lane as it was, so
+  -- an entry has its lane's key for as long as it stands in the queue. Each call's law `..-alike` is the premise `e`.
+  pub queued-key-kept : laneAt (w .1) x .key ≡ laneAt t x .key
+  queued-key-kept =
+      let k = stale-never t r o x named in
+      key-by t (w .1) x
+      (sym (generation-seen (w .1) (w .2) x still-issued) ∙ ap (λ (s : State). s .slotOf x .generation) state-after
+      ∙ call-keeps-generation (view t r) c (o .ordered) x (registered-seen t r (o .stores) x (k .is-issued) (k .registered)) ∙ generation-seen t r x (k .is-issued))

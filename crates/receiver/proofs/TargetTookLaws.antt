@@ -21,7 +21,7 @@ use Rattle.lane.specs.Order.{InOrder, Filled}
 use Rattle.lane.specs.Table.{laneAt, putLane}
 use Rattle.lane.proofs.OrderLaws.{pop-targeted-keeps}
 use Rattle.lane.proofs.HeldLaws.{reload-holds, pop-targeted-takes-first}
-use Rattle.lane.proofs.TableLaws.{frames, slot-of-lane}
+use Rattle.lane.proofs.TableLaws.{frames}
 use Rattle.ready.specs.Header.{Shaped, issued, slots, queueCount, budget, capacity, fastSlot, laneCount, livingCount}
 use Rattle.ready.specs.Queue.{queueOf, pushedBack}
 use Rattle.ready.specs.Ready.{pageBit}
@@ -38,6 +38,7 @@ use Rattle.store.proofs.StoreLaws.{stores-after, windows-kept, windows-pushed-b
 use Rattle.store.proofs.SignalLaws.{idle-flag, markedIf, view-put-marked-if-idle, step-marked-if-idle}
 use Rattle.store.proofs.SignalFrames.{shaped-marked-if-idle, head-marked-if-idle}
 use Rattle.store.proofs.BackLaws.{back-own, back-other}
+use Rattle.receiver.proofs.SameFlags.{flags-by, slot-by}
 use Rattle.store.proofs.LaneFields.{Flagged, flagged, flagged-reload, flagged-targeted}
 use Rattle.store.proofs.LaneView.{looked, looked-counts, pop-targeted-counts, unreleasedAfter, unreleasedSeen, burstSeen}
 use Rattle.receiver.proofs.TargetLaws.{target-filled}
@@ -81,7 +82,7 @@ module _ (t r : List ℕ) (o : StoreInOrder t r) (x : ℕ) (h : x < issued t) (g
   same-flags = flagged-targeted (ringOf x (capacity t)) r (looked old) ∙ flagged-reload _
 
   own-slot : new .key .slot ≡ x
-  own-slot = ap (λ (z : Flagged). z .0 .slot) same-flags ∙ slot-of-lane t x
+  own-slot = slot-by t x new same-flags
 
   -- the item is the oldest that the lane holds
   pub target-takes : view t r .slotOf x .ring ≡ popTargeted (ringOf x (capacity t)) r (looked (laneAt t x)) .item ∷ targetRest t r x
@@ -130,15 +131,7 @@ module _ (t r : List ℕ) (o : StoreInOrder t r) (x : ℕ) (h : x < issued t) (g
   keeps = pop-targeted-keeps (ringOf x (capacity t)) (o .stores .power .most) r (looked old) filled
 
   flags-stored : Flags new
-  flags-stored =
-      let f = o .stores .flags x h in
-      record {
-        pending-flag = omega (arith, ap (λ (z : Flagged). z .5) same-flags, f .pending-flag);
-        queued-flag = omega (arith, ap (λ (z : Flagged). z .4) same-flags, f .queued-flag);
-        paused-flag = omega (arith, ap (λ (z : Flagged). z .2) same-flags, f .paused-flag);
-        registered-flag = omega (arith, ap (λ (z : Flagged). z .1) same-flags, f .registered-flag);
-        living-flag = omega (arith, ap (λ (z : Flagged). z .3) same-flags, f .living-flag);
-      }
+  flags-stored = flags-by old new same-flags (o .stores .flags x h)
 
   stores-stored : Stores (putLane t new) r
   stores-stored =

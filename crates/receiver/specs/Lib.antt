@@ -4,3 +4,5 @@ pub mod Receive
 pub mod Target
 pub mod Hands
 pub mod Drain
+pub mod Runs
+pub mod Demands
