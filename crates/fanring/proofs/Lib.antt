@@ -1,1 +1,3 @@
 pub mod CheckedLaws
+pub mod CheckedCalls
+pub mod Simulation
