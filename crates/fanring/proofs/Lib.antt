@@ -1,3 +1,5 @@
 pub mod CheckedLaws
 pub mod CheckedCalls
+pub mod NeverFive
 pub mod Simulation
+pub mod Demands
