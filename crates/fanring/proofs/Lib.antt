@@ -3,3 +3,4 @@ pub mod CheckedCalls
 pub mod NeverFive
 pub mod Simulation
 pub mod Demands
+pub mod CheckedExamples
