@@ -1,5 +1,6 @@
 pub mod CheckedLaws
 pub mod CheckedCalls
+pub mod ContractWords
 pub mod NeverFive
 pub mod Simulation
 pub mod Demands
