@@ -6,7 +6,6 @@ use Prim.Native.Nat.{ℕ}
 use Rattle.model.specs.declared.Call.{Call}
 use Rattle.model.specs.declared.Refusal.{Refusal}
 use Rattle.model.specs.declared.Refusal.the-variants.{StoreNotInOrder}
-use Rattle.model.specs.declared.Answer.{Answer}
 use Rattle.model.specs.declared.Answer.the-variants.{Refused}
 use Rattle.model.specs.Runs.{after}
 use Rattle.model.specs.Words.{runsThatFit}
@@ -21,7 +20,6 @@ use Rattle.receiver.proofs.RefusedUnmoved.{Unmoved, open-unmoved}
 use Rattle.receiver.proofs.CallLaws.{call-alike}
 use Rattle.receiver.proofs.Demands.{ring-seen}
 use Rattle.receiver.proofs.Simulation.{cursor-fits}
-use Rattle.fanring.specs.Checked.{checked}
 use Rattle.fanring.specs.Runs.{checkedWords, theCalls}
 use Rattle.fanring.specs.Demands.{RefusalsChangeNothing, FiveExactly, CallsAsRules, CallsKeepOrder, OpensInOrder, runs, NeverFive, ItemsInOrder, AnswersTell, LanesWaitBounded, NoneAfterClose, HeldIsCounted}
 use Rattle.fanring.proofs.CheckedLaws.{checked-five}

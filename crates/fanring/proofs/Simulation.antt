@@ -1,8 +1,7 @@
 -- The calls simulate the rules, as the inner calls do.
 -- Assumes nothing.
-use mathlib.Core.Path.{sym, ap, subst, refl, _∙_}
+use mathlib.Core.Path.{refl, ap, _∙_}
 use lib.ListN.{length}
-use Rattle.model.specs.State.{State}
 use Rattle.model.specs.Rules.{theRules}
 use Rattle.model.specs.Words.{Simulation}
 use Rattle.store.specs.View.{view}

@@ -1,8 +1,8 @@
 -- What is claimed of the calls: of each on any two stores, and of lists of them from an accepted opening on.
--- Most claims are crate `model`'s (its specs/Demand1.antt, Demand2.antt, Demand3.antt, Closed.antt, Held.antt), here of the words that the calls' contracts name.
+-- Most claims are crate `model`'s (its specs/Demand2.antt, Demand3.antt, Closed.antt, Held.antt), here of the words that the calls' contracts name.
 -- Assumes nothing.
 use mathlib.Core.Path.{_≡_}
-use mathlib.Core.List.{List, _++_, _∷_, []}
+use mathlib.Core.List.{List}
 use Prim.Native.Nat.{ℕ, _^_, _<_}
 use Rattle.model.specs.declared.Opening.{Opening}
 use Rattle.model.specs.declared.ReceiveCall.{ReceiveCall}
@@ -16,7 +16,6 @@ use Rattle.model.specs.State.{State}
 use Rattle.model.specs.Runs.{RunsOf, after}
 use Rattle.model.specs.Rules.{outcome}
 use Rattle.model.specs.Words.{runsThatFit}
-use Rattle.model.specs.Demand1.{RefusalChangesNothing}
 use Rattle.model.specs.Demand2.{Demand2In, HasRoom, HandsAsAnsweredIn}
 use Rattle.model.specs.Demand3.{Demand3In}
 use Rattle.model.specs.Closed.{NoneAfterCloseIn}
