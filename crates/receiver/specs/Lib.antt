@@ -6,3 +6,4 @@ pub mod Hands
 pub mod Drain
 pub mod Runs
 pub mod Demands
+pub mod RulesOnWords
