@@ -39,3 +39,5 @@ pub mod CallLaws
 pub mod Simulation
 pub mod Demands
 pub mod RulesOnWords
+pub mod SlotsSeen
+pub mod DisconnectedOnWords

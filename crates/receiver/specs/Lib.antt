@@ -7,3 +7,4 @@ pub mod Drain
 pub mod Runs
 pub mod Demands
 pub mod RulesOnWords
+pub mod DisconnectedOnWords
