@@ -41,3 +41,5 @@ pub mod Demands
 pub mod RulesOnWords
 pub mod SlotsSeen
 pub mod DisconnectedOnWords
+pub mod FirstCursorSteps
+pub mod FirstCursorKept

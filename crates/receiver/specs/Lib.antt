@@ -8,3 +8,4 @@ pub mod Runs
 pub mod Demands
 pub mod RulesOnWords
 pub mod DisconnectedOnWords
+pub mod FirstCursor
