@@ -1,14 +1,12 @@
 -- The poll budget, turns of 64 and collections, of every list of calls on the two stores: the words show the rules' run with the same calls.
 -- Assumes nothing.
-use mathlib.Core.Path.{_≡_, refl, sym, ap, ap₂, _∙_}
+use mathlib.Core.Path.{_≡_, refl, sym, ap, _∙_}
 use mathlib.Core.Bool.{Bool, true, false}
 use mathlib.Core.List.{List, [], _∷_, _++_, map}
-use Prim.Native.Nat.{ℕ, _^_, _<_}
-use native.Mathlib.Omega.{arith}
+use Prim.Native.Nat.{ℕ}
 use lib.ListN.{length}
 use Rattle.model.specs.declared.LaneKey.{LaneKey}
 use Rattle.model.specs.declared.Opening.{Opening}
-use Rattle.model.specs.declared.ReceiveCall.{ReceiveCall}
 use Rattle.model.specs.declared.Call.{Call}
 use Rattle.model.specs.declared.Answer.{Answer}
 use Rattle.model.specs.declared.Answer.the-variants.{Done}
@@ -16,13 +14,13 @@ use Rattle.model.specs.Lists.{if}
 use Rattle.model.specs.State.{State}
 use Rattle.model.specs.Order.{InOrder}
 use Rattle.model.specs.Runs.{Lent, after}
-use Rattle.model.specs.Rules.{outcome, theRules}
+use Rattle.model.specs.Rules.{theRules}
 use Rattle.model.specs.Opening.{openingOutcome}
 use Rattle.model.specs.Words.{runsThatFit}
 use Rattle.model.specs.Events as rules
 use Rattle.model.specs.Events.{Event, budgetSet, callEvents, anyMarked}
 use Rattle.model.specs.Budget as rules-budget
-use Rattle.model.specs.Budget.{isTargeted, itemsSinceSet}
+use Rattle.model.specs.Budget.{isTargeted}
 use Rattle.model.specs.OneTurn as rules-turn
 use Rattle.model.specs.Collections as rules-collections
 use Rattle.model.proofs.Demand2.{opens-as}

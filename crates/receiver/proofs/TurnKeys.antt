@@ -34,7 +34,7 @@ use Rattle.receiver.specs.declared.turn.Turn.the-variants as Turn
 use Rattle.receiver.specs.declared.drain.Front.the-variants as Front
 use Rattle.receiver.specs.declared.drain.Look.{Look}
 use Rattle.receiver.specs.declared.drain.Look.the-variants as Look
-use Rattle.receiver.specs.Turn.{Turning, frontLane, retiredIf, leftFront, budgetMet, lessOne, rotatedIf, gaveFront, turnBy, pollFront}
+use Rattle.receiver.specs.Turn.{Turning, frontLane, retiredIf, leftFront, budgetMet, rotatedIf, gaveFront, turnBy, pollFront}
 use Rattle.receiver.specs.Drain.{lookBy, lookFront}
 use Rattle.receiver.proofs.TurnLaws.{slot-below, front-issued}
 use Rattle.receiver.proofs.FrontLaws.{polledFront}
