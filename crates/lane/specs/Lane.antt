@@ -7,7 +7,7 @@ use lib.Dec.{eqb}
 use Rattle.model.specs.declared.LaneKey.{LaneKey}
 use Rattle.lane.specs.Lists.{written}
 use Rattle.lane.specs.Cursor.{after, distance}
-use Rattle.lane.specs.Ring.{itemAt, items, push}
+use Rattle.lane.specs.Ring.{itemAt, items, push, pushCursor}
 use Rattle.model.specs.State.{releaseBatch}
 use Rattle.lane.specs.declared.ring.Ring.{Ring}
 use Rattle.lane.specs.declared.ring.Push.{Push}
@@ -103,6 +103,14 @@ sent l (Full, store) = (Sent.Full l, store)
 
 unfoldable pub pushAndFlush : Ring → List ℕ → ℕ → Lane → Sent × List ℕ
 pushAndFlush ring store item l = sent l (push ring store (l .tail) (l .released) item)
+
+-- the lane that a send leaves, or the full one: a send but for the item's word
+unfoldable pub sentBy : Lane → Push → Sent
+sentBy l (Pushed cursor) = Sent.Taken (withCursors cursor (l .released) (l .head) (l .known) l)
+sentBy l Full = Sent.Full l
+
+unfoldable pub flushed : Ring → Lane → Sent
+flushed ring l = sentBy l (pushCursor ring (l .tail) (l .released))
 
 -- what was published since the last look is counted, and known
 abbrev pub prefetch : Lane → Lane
