@@ -9,3 +9,4 @@ pub mod TableLaws
 pub mod RingLaws
 pub mod HeldLaws
 pub mod FlushLaws
+pub mod WindowLaws

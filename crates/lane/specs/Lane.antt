@@ -159,6 +159,10 @@ grantFast C budget l = openFor C budget (reload (closeFast l))
 abbrev pub windowPop : Lane → Lane
 windowPop l = withCounts (l .cached) (l .unreleased) (l .burst) (l .window - 1) (headOn 1 l)
 
+-- the window's next item, where it has one
+abbrev pub windowTaken : Ring → List ℕ → Lane → Taken
+windowTaken ring store l = record { item = itemAt ring store (l .head); lane = windowPop l }
+
 -- "first the open fast window": its next item, with no other count changed
 unfoldable pub popFast : Ring → List ℕ → Lane → Popped
 popFast ring store l = cond (eqb (l .window) 0) (Popped.Nothing l) (Popped.Item (itemAt ring store (l .head)) (windowPop l))
@@ -260,6 +264,10 @@ fairWindow C budget l = cond (eqb (l .window) 0) (grantFast C budget (endBurst t
 
 abbrev pub burstOfWindow : Lane → Lane
 burstOfWindow l = withCounts (l .cached) (l .unreleased) (l .window) (l .window) l
+
+-- an item through that window, where it has one
+abbrev pub fairTaken : Ring → List ℕ → Lane → Taken
+fairTaken ring store l = record { item = itemAt ring store (l .head); lane = burstOfWindow (windowPop l) }
 
 unfoldable pub fairly : Popped → Popped
 fairly (Popped.Item item l) = Popped.Item item (burstOfWindow l)
