@@ -31,12 +31,14 @@ fn send(lane: Lane, store: &mut [u64; 4], item: u64) -> Lane
 {
     io::write_all(1, b"send ");
     io::print_decimal(1, item);
-    match lane.push_and_flush(Ring::new(0, 4), store, item) {
+    let ring = Ring::new(0, 4);
+    match lane.push_and_flush(ring) {
         Sent::Full { lane: full } => {
             io::write_all(1, b": refused 11\n");
             full
         }
         Sent::Taken { lane: next } => {
+            ring.put(store, lane.tail, item);
             io::write_all(1, b": taken\n");
             next
         }

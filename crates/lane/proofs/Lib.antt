@@ -8,3 +8,5 @@ pub mod OrderLaws
 pub mod TableLaws
 pub mod RingLaws
 pub mod HeldLaws
+pub mod FlushLaws
+pub mod WindowLaws

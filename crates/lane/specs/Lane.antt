@@ -7,7 +7,7 @@ use lib.Dec.{eqb}
 use Rattle.model.specs.declared.LaneKey.{LaneKey}
 use Rattle.lane.specs.Lists.{written}
 use Rattle.lane.specs.Cursor.{after, distance}
-use Rattle.lane.specs.Ring.{itemAt, items, push}
+use Rattle.lane.specs.Ring.{itemAt, items, push, pushCursor}
 use Rattle.model.specs.State.{releaseBatch}
 use Rattle.lane.specs.declared.ring.Ring.{Ring}
 use Rattle.lane.specs.declared.ring.Push.{Push}
@@ -104,6 +104,14 @@ sent l (Full, store) = (Sent.Full l, store)
 unfoldable pub pushAndFlush : Ring → List ℕ → ℕ → Lane → Sent × List ℕ
 pushAndFlush ring store item l = sent l (push ring store (l .tail) (l .released) item)
 
+-- the lane that a send leaves, or the full one: a send but for the item's word
+unfoldable pub sentBy : Lane → Push → Sent
+sentBy l (Pushed cursor) = Sent.Taken (withCursors cursor (l .released) (l .head) (l .known) l)
+sentBy l Full = Sent.Full l
+
+unfoldable pub flushed : Ring → Lane → Sent
+flushed ring l = sentBy l (pushCursor ring (l .tail) (l .released))
+
 -- what was published since the last look is counted, and known
 abbrev pub prefetch : Lane → Lane
 prefetch l = withCounts (distance (l .tail) (l .known)) (l .unreleased) (l .burst) (l .window) (withCursors (l .tail) (l .released) (l .head) (l .tail) l)
@@ -150,6 +158,10 @@ grantFast C budget l = openFor C budget (reload (closeFast l))
 
 abbrev pub windowPop : Lane → Lane
 windowPop l = withCounts (l .cached) (l .unreleased) (l .burst) (l .window - 1) (headOn 1 l)
+
+-- the window's next item, where it has one
+abbrev pub windowTaken : Ring → List ℕ → Lane → Taken
+windowTaken ring store l = record { item = itemAt ring store (l .head); lane = windowPop l }
 
 -- "first the open fast window": its next item, with no other count changed
 unfoldable pub popFast : Ring → List ℕ → Lane → Popped
@@ -252,6 +264,10 @@ fairWindow C budget l = cond (eqb (l .window) 0) (grantFast C budget (endBurst t
 
 abbrev pub burstOfWindow : Lane → Lane
 burstOfWindow l = withCounts (l .cached) (l .unreleased) (l .window) (l .window) l
+
+-- an item through that window, where it has one
+abbrev pub fairTaken : Ring → List ℕ → Lane → Taken
+fairTaken ring store l = record { item = itemAt ring store (l .head); lane = burstOfWindow (windowPop l) }
 
 unfoldable pub fairly : Popped → Popped
 fairly (Popped.Item item l) = Popped.Item item (burstOfWindow l)

@@ -39,6 +39,14 @@ push ring store cursor released item =
     (Full, store)
     (Pushed (after cursor 1), set store (place ring cursor) item)
 
+-- what a push answers, before the item's word is stored
+unfoldable pub pushCursor : Ring → ℕ → ℕ → Push
+pushCursor ring cursor released = cond (eqb (distance cursor released) (ring .capacity)) Full (Pushed (after cursor 1))
+
+-- an item's word stored at a cursor
+abbrev pub putItem : Ring → List ℕ → ℕ → ℕ → List ℕ
+putItem ring store cursor item = set store (place ring cursor) item
+
 -- the head after n items, and the output with them from place `at` on
 unfoldable pub popInto : Ring → List ℕ → ℕ → ℕ → List ℕ → ℕ → ℕ × List ℕ
 popInto ring store head n out at = (after head n, written out at (items ring store head n))

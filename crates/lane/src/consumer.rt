@@ -4,7 +4,7 @@ ghost use Prim.Native.Nat.{_+_, _≤_, _<_, min};
 ghost use lib.ListN.{length};
 ghost use Rattle.lane.specs.Cursor.{distance};
 ghost use Rattle.lane.specs.Ring.{Within};
-ghost use Rattle.lane.specs.Lane.{pushAndFlush, prefetch, reload, released, pop, movedInto};
+ghost use Rattle.lane.specs.Lane.{flushed, prefetch, reload, released, pop, movedInto};
 use crate::lane::Lane;
 use crate::num;
 use crate::ring;
@@ -27,12 +27,12 @@ pub struct Moved {
 }
 
 impl Lane {
-    // The sender's end: stores one item and publishes it.
-    pub fn push_and_flush(mut self, ring: Ring, store: &mut [u64], item: u64) -> Sent
-        requires { ⌜ Within ring (length (now store)) ⌝ }
-        ensures { λ r. ⌜ (r, now (store .exit)) ≡ pushAndFlush ring (now (store .entry)) item self ⌝ }
+    // The sender's end: the lane with one item more, published. The caller puts the item at the tail
+    // that the lane had.
+    pub fn push_and_flush(mut self, ring: Ring) -> Sent
+        ensures { λ r. ⌜ r ≡ flushed ring self ⌝ }
     {
-        match ring.push(store, self.tail, self.released, item) {
+        match ring.push(self.tail, self.released) {
             Push::Full => Sent::Full { lane: self },
             Push::Pushed { cursor } => {
                 self.tail = cursor;

@@ -12,6 +12,7 @@ ghost use Rattle.lane.specs.Lane.{
   windowFor,
   openWindow,
   grantFast,
+  windowTaken,
   popFast,
   charged,
   addBurst,
@@ -19,7 +20,7 @@ ghost use Rattle.lane.specs.Lane.{
   releaseAtBatch,
   pollItem,
   poll,
-  popFair,
+  fairTaken,
   fairWindow,
   burstOfWindow,
   popTargeted,
@@ -32,6 +33,7 @@ ghost use Rattle.lane.specs.Lane.{
   settleEmpty,
 };
 use crate::consumer::Moved;
+use crate::consumer::Taken;
 use crate::num;
 use crate::release::release_batch;
 use crate::ring;
@@ -179,10 +181,23 @@ impl Lane {
         if self.window == 0 {
             return Popped::Nothing { lane: self };
         }
+        let taken = self.pop_window(ring, store);
+        let lane = taken.lane;
+        Popped::Item {
+            item: taken.item,
+            lane: lane,
+        }
+    }
+
+    // The next item of a window that has one.
+    pub fn pop_window(self, ring: Ring, store: &[u64]) -> Taken
+        requires { ⌜ Within ring (length (now store)) × (0 < self .window) ⌝ }
+        ensures { λ r. ⌜ r ≡ windowTaken ring (now (store .entry)) self ⌝ }
+    {
         let taken = self.pop(ring, store);
         let mut lane = taken.lane;
         lane.window -= 1;
-        Popped::Item {
+        Taken {
             item: taken.item,
             lane: lane,
         }
@@ -274,24 +289,22 @@ impl Lane {
         }
     }
 
-    // Pops an item for a fair receive from the only queued lane, through its window. A fair
-    // receive ends the burst, which then counts only what is left in the window.
-    pub fn pop_fair(self, ring: Ring, store: &[u64], budget: u64) -> Popped
-        requires { ⌜ Within ring (length (now store)) × InOrder (ring .capacity) self ⌝ }
-        ensures { λ r. ⌜ r ≡ popFair ring (now (store .entry)) budget self ⌝ }
+    // Pops an item for a fair receive from the only queued lane, through the window that
+    // `fair_window` left. A fair receive ends the burst, which then counts only what is left in it.
+    pub fn pop_fair(self, ring: Ring, store: &[u64]) -> Taken
+        requires { ⌜ Within ring (length (now store)) × (0 < self .window) ⌝ }
+        ensures { λ r. ⌜ r ≡ fairTaken ring (now (store .entry)) self ⌝ }
     {
-        match self.fair_window(ring.capacity, budget)
-            .pop_fast(ring, store) {
-            Popped::Nothing { lane } => Popped::Nothing { lane: lane },
-            Popped::Item { item, lane } => Popped::Item {
-                item: item,
-                lane: lane.burst_of_window(),
-            },
+        let taken = self.pop_window(ring, store);
+        let lane = taken.lane;
+        Taken {
+            item: taken.item,
+            lane: lane.burst_of_window(),
         }
     }
 
     // The window of a fair receive: the one that is open, or one opened at burst 0.
-    fn fair_window(self, capacity: u64, budget: u64) -> Lane
+    pub fn fair_window(self, capacity: u64, budget: u64) -> Lane
         requires { ⌜ Capacity capacity × InOrder capacity self ⌝ }
         ensures { λ r. ⌜ r ≡ fairWindow capacity budget self ⌝ }
     {

@@ -3,8 +3,9 @@ ghost use mathlib.Core.Path.{_≡_};
 ghost use Rattle.lane.specs.Cursor.{Capacity};
 ghost use Rattle.model.specs.State.{releaseBatch};
 
-// By the logarithm of the capacity.
-const RELEASE_BATCH: [u64; 17] = [
+// By the logarithm of the capacity. Entries of two bytes: the compiler builds the table anew at each
+// look-up, which for entries of eight bytes takes seventeen stores, and for these three.
+const RELEASE_BATCH: [u16; 17] = [
     1,
     2,
     4,
@@ -29,5 +30,5 @@ pub fn release_batch(capacity: u64) -> u64
     ensures { λ r. ⌜ r ≡ releaseBatch capacity ⌝ }
 {
     let log = u64::trailing_zeros(capacity) as usize;
-    RELEASE_BATCH[log]
+    RELEASE_BATCH[log] as u64
 }

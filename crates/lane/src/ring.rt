@@ -1,10 +1,10 @@
 // A ring of items in a lent store: yring/src/ring.rs, serially, with u64 cursors that wrap.
 ghost use mathlib.Core.Path.{_≡_};
 ghost use Prim.Native.Nat.{_+_, _*_, _^_, _≤_, _<_};
-ghost use lib.ListN.{length, set};
+ghost use lib.ListN.{length};
 ghost use Rattle.lane.specs.Lists.{tab, written};
 ghost use Rattle.lane.specs.Cursor.{after, distance, Capacity};
-ghost use Rattle.lane.specs.Ring.{Within, ringOf, place, itemAt, run, push, popInto};
+ghost use Rattle.lane.specs.Ring.{Within, ringOf, place, itemAt, run, pushCursor, putItem, popInto};
 
 // Where a lane's ring lies in the ring store.
 pub struct Ring {
@@ -51,19 +51,26 @@ impl Ring {
         (self.base + (cursor & (self.capacity - 1))) as usize
     }
 
-    // Stores an item at the cursor, unless the ring is full.
-    pub fn push(self, store: &mut [u64], cursor: u64, released: u64, item: u64) -> Push
-        requires { ⌜ Within self (length (now store)) ⌝ }
-        ensures { λ r. ⌜ (r, now (store .exit)) ≡ push self (now (store .entry)) cursor released item ⌝ }
+    // The cursor after a push, unless the ring is full. The item's word is `put` once the cursor is
+    // stored: the compiler then sees which words of the lane did not change.
+    pub fn push(self, cursor: u64, released: u64) -> Push
+        ensures { λ r. ⌜ r ≡ pushCursor self cursor released ⌝ }
     {
         if distance(cursor, released) == self.capacity {
             return Push::Full;
         }
-        let at = self.index(cursor);
-        store[at] = item;
         Push::Pushed {
             cursor: after(cursor, 1),
         }
+    }
+
+    // Stores an item at a cursor.
+    pub fn put(self, store: &mut [u64], cursor: u64, item: u64)
+        requires { ⌜ Within self (length (now store)) ⌝ }
+        ensures { λ _. ⌜ now (store .exit) ≡ putItem self (now (store .entry)) cursor item ⌝ }
+    {
+        let at = self.index(cursor);
+        store[at] = item;
     }
 
     // The item at a cursor.

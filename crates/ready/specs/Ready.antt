@@ -1,7 +1,7 @@
 -- "Ready marks": page and group words, marking a lane, collecting the marked ones.
 -- Assumes nothing.
 use mathlib.Core.Path.{_≡_}
-use mathlib.Core.Bool.{Bool, cond, _&&_}
+use mathlib.Core.Bool.{Bool, true, false, cond, _&&_}
 use mathlib.Core.List.{List, foldl}
 use Prim.Native.Nat.{ℕ, zero, suc, _+_, _*_, _/_, _%_, _<_}
 use lib.Dec.{eqb, ltb}
@@ -153,3 +153,8 @@ collectedFrom n (suc k) all t next =
 
 unfoldable pub collectReady : Bool → List ℕ → List ℕ
 collectReady all t = collectedFrom (groupsOf (issued t)) (groupsOf (issued t)) all t (groupCursor t)
+
+-- whether one of the first n groups has bits
+unfoldable pub anyReady : ℕ → List ℕ → Bool
+anyReady zero t = false
+anyReady (suc k) t = cond (eqb (groupWord t k) 0) (anyReady k t) true

@@ -10,12 +10,16 @@ use lane::table;
 // The column of the rows that holds the queue's places.
 const PLACE: usize = Lane::LANE_WORDS;
 
-// The row that is `n` past the front, round a ring of `slots`.
+// The row that is `n` past the front, round a ring of `slots`. A remainder would cost a division.
 fn row_of(front: u64, n: u64, slots: u64) -> usize
     requires { ⌜ (front < slots) × (n ≤ slots) × (slots ≤ 8192) ⌝ }
     ensures { λ r. ⌜ (r ≡ (front + n) % slots) × (r < slots) ⌝ }
 {
-    ((front + n) % slots) as usize
+    let row = front + n;
+    if row < slots {
+        return row as usize;
+    }
+    (row - slots) as usize
 }
 
 pub fn front(t: &[u64]) -> u64

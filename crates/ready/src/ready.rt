@@ -1,5 +1,6 @@
 // The ready index: src/ready.rs, and `collect_ready` of receiver/registry.rs.
 ghost use mathlib.Core.Path.{_≡_};
+ghost use mathlib.Core.Bool.{true};
 ghost use Prim.Native.Nat.{_*_, _≤_, _<_};
 ghost use lib.ListN.{length};
 ghost use Rattle.lane.specs.Table.{HasRow};
@@ -30,6 +31,7 @@ ghost use Rattle.ready.specs.Ready.{
   groupsOf,
   groupAt,
   collectReady,
+  anyReady,
 };
 use crate::header::Header;
 use crate::queue;
@@ -291,5 +293,30 @@ pub fn collect_ready(t: &mut [u64], all: bool)
                 return;
             }
         }
+    }
+}
+
+// Whether any group has bits.
+fn has_ready(t: &[u64]) -> bool
+    requires { ⌜ Shaped (now t) ⌝ }
+    ensures { λ r. ⌜ r ≡ anyReady (groupsOf (issued (now (t .entry)))) (now (t .entry)) ⌝ }
+{
+    let mut left = group_count(t[Header::ISSUED]);
+    while left != 0 {
+        left = left - 1;
+        if Group::load(t, left as usize).bits != 0 {
+            return true;
+        }
+    }
+    false
+}
+
+// Collects all groups if any is ready: with none, this is a look at each group's word and no call.
+pub fn collect_if_ready(t: &mut [u64])
+    requires { ⌜ Shaped (now t) × QueueNames (now t) × Linked (now t) ⌝ }
+    ensures { λ _. ⌜ now (t .exit) ≡ collectReady true (now (t .entry)) ⌝ }
+{
+    if has_ready(t) {
+        collect_ready(t, true);
     }
 }

@@ -1,6 +1,7 @@
 -- Retiring the empty paused lanes of a table with no lane queued.
 -- Assumes nothing.
 use mathlib.Core.Path.{_≡_, refl, sym, ap, _∙_}
+use mathlib.Core.Bool.{Bool, true, false, cond}
 use mathlib.Core.List.{List, [], _∷_}
 use Prim.Native.Nat.{ℕ, zero, suc, _+_, _-_, _≤_, _<_}
 use native.Mathlib.Omega.{arith}
@@ -8,19 +9,21 @@ use borrow.Author.Tests.{eqb-true}
 use lib.Dec.{eqb}
 use lib.ListN.{length}
 use Rattle.model.specs.Lists.{count}
+use Rattle.model.specs.declared.Answer.{Answer}
+use Rattle.model.specs.declared.Answer.the-variants.{Empty, Disconnected}
 use Rattle.lane.specs.declared.lane.Lane.{Lane}
 use Rattle.lane.specs.Order.{Refundable}
 use Rattle.lane.specs.Lane.{reloadIsEmpty}
 use Rattle.lane.specs.Table.{laneAt}
 use Rattle.lane.proofs.OrderLaws.{cond-holds, refundable}
 use Rattle.lane.proofs.TableLaws.{slot-of-lane}
-use Rattle.ready.specs.Header.{Shaped, issued, slots, freeCount, laneCount, capacity}
+use Rattle.ready.specs.Header.{Shaped, issued, slots, freeCount, laneCount, livingCount, capacity}
 use Rattle.ready.specs.Queue.{queueOf}
 use Rattle.ready.proofs.QueueLaws.{length-queue}
 use Rattle.store.specs.Registry.{retireLane}
 use Rattle.control.specs.Batch.{forSlots}
 use Rattle.receiver.specs.Turn.{retiredIf}
-use Rattle.receiver.specs.Drained.{Idle, retireEmptyPaused, retireEmptyPausedLanes}
+use Rattle.receiver.specs.Drained.{Idle, retireEmptyPaused, retireEmptyPausedLanes, emptyOrDrained, isDrained, nothingTaken}
 use Rattle.store.proofs.StepLaws.{step-from}
 use Rattle.store.proofs.RetireFrames.{length-retire-lane}
 use Rattle.control.proofs.SlotLoops.{sub-zero, slots-next, slots-end}
@@ -112,3 +115,16 @@ still-slots (suc n) x t k m =
 pub still-all : (t : List ℕ) → Idle t → Idle (retireEmptyPausedLanes t)
 unfolding retireEmptyPausedLanes
 still-all t k = still-slots (issued t) 0 t k (omega arith)
+
+answered : Bool × List ℕ → Answer × List ℕ
+answered o = (cond (o .0) Disconnected Empty, o .1)
+
+-- the answer of a receive that took nothing, by whether the channel is drained
+pub nothing-is : (t u : List ℕ) (d : Bool) → (d, u) ≡ isDrained t → (cond d Disconnected Empty, u) ≡ nothingTaken t
+unfolding nothingTaken emptyOrDrained isDrained answered
+nothing-is t u d e = ap answered e ∙ go (eqb (livingCount t) 0)
+  where
+    go : (b : Bool) → answered (cond b (eqb (laneCount (retireEmptyPausedLanes t)) 0, retireEmptyPausedLanes t) (false, t))
+        ≡ cond b (cond (eqb (laneCount (retireEmptyPausedLanes t)) 0) Disconnected Empty, retireEmptyPausedLanes t) (Empty, t)
+    go true = refl
+    go false = refl

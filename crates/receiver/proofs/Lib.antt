@@ -2,6 +2,7 @@ pub mod TurnLaws
 pub mod FrontLaws
 pub mod CollectKeeps
 pub mod ReceiveLaws
+pub mod FastLaws
 pub mod DrainedLaws
 pub mod TargetLaws
 pub mod OutputLaws

@@ -233,7 +233,7 @@ loop-rest t r k =
     else-rest (turns t r false) (λ u. turns (collectReady true u) r false)
     (λ u e. turns-rest (collectReady true u) r false (collect-keeps true u (subst (λ (o : Took × List ℕ). Turning (o .1)) e (turns-keep t r false k .turning)) .turning))
 
-refill-rest : (t r : List ℕ) → Turning t → Rests (refillTake t r)
+pub refill-rest : (t r : List ℕ) → Turning t → Rests (refillTake t r)
 unfolding refillTake
 refill-rest t r k =
     else-rest (takeWindow (collectedIfDue t) r) (λ u. pollLoop u r)

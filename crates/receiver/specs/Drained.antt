@@ -1,7 +1,7 @@
 -- A receive that took nothing: Empty or Disconnected, as words.
 -- Assumes nothing.
 use mathlib.Core.Path.{_≡_}
-use mathlib.Core.Bool.{cond}
+use mathlib.Core.Bool.{Bool, false, cond}
 use mathlib.Core.List.{List}
 use Prim.Native.Nat.{ℕ, _<_}
 use lib.Dec.{eqb}
@@ -42,3 +42,8 @@ emptyOrDrained t = (cond (eqb (laneCount t) 0) Disconnected Empty, t)
 -- "Disconnected: no living sender and no registered lane, after empty paused lanes are retired."
 unfoldable pub nothingTaken : List ℕ → Answer × List ℕ
 nothingTaken t = cond (eqb (livingCount t) 0) (emptyOrDrained (retireEmptyPausedLanes t)) (Empty, t)
+
+-- whether the answer is Disconnected, and the table that goes with it
+unfoldable pub isDrained : List ℕ → Bool × List ℕ
+isDrained t =
+    cond (eqb (livingCount t) 0) (eqb (laneCount (retireEmptyPausedLanes t)) 0, retireEmptyPausedLanes t) (false, t)

@@ -2,6 +2,7 @@
 -- Assumes nothing.
 use mathlib.Core.Bool.{true, false, cond}
 use mathlib.Core.List.{List}
+use mathlib.Core.Path.{_≡_}
 use Prim.Native.Nat.{ℕ, _-_, _<_}
 use lib.Dec.{eqb, ltb}
 use Rattle.model.specs.declared.Answer.{Answer}
@@ -18,6 +19,7 @@ use Rattle.ready.specs.Ready.{collectReady}
 use Rattle.receiver.specs.declared.turn.Took.{Took}
 use Rattle.receiver.specs.declared.turn.Took.the-variants as Took
 use Rattle.store.specs.Refusal.{receiverVerdict}
+use Rattle.store.specs.Order.{StoreInOrder}
 use Rattle.store.specs.Words.{Words, unlessRefused}
 use Rattle.receiver.specs.Turn.{frontLane, turns}
 use Rattle.receiver.specs.Drained.{nothingTaken}
@@ -48,6 +50,14 @@ takeFast t r =
     (fastTook t (popFast (ringOf (fastSlot t) (capacity t)) r (laneAt t (fastSlot t))))
     (Took.Nothing, t))
     (Took.Nothing, t)
+
+-- what the fast way has found: the lane at `fast_slot`, with its window open
+pub record FastOpen (t r : List ℕ) (l : Lane) : Type 0 where
+  pub in-order : StoreInOrder t r
+  pub is-issued : fastSlot t < issued t
+  pub is-lane : l ≡ laneAt t (fastSlot t)
+  pub is-registered : l .registered ≡ 1
+  pub is-open : l .window ≡ 0 → ⊥
 
 -- an item of a window that was just opened: `fast_slot` is then its lane's
 unfoldable pub openTook : List ℕ → Popped → Took × List ℕ

@@ -2,7 +2,7 @@
 ghost use mathlib.Core.Path.{_≡_};
 ghost use Prim.Native.Nat.{_<_};
 ghost use Rattle.ready.specs.Header.{issued};
-ghost use Rattle.receiver.specs.Drained.{Idle, retireEmptyPaused, retireEmptyPausedLanes, emptyOrDrained, nothingTaken};
+ghost use Rattle.receiver.specs.Drained.{Idle, retireEmptyPaused, retireEmptyPausedLanes, isDrained, nothingTaken};
 use crate::turn;
 use lane::lane::Lane;
 use model::Answer;
@@ -36,24 +36,25 @@ fn retire_empty_paused_lanes(t: &mut [u64])
     }
 }
 
-fn empty_or_drained(t: &mut [u64]) -> Answer
+// Whether no sender lives and no lane is registered; empty paused lanes do not hide that.
+fn is_drained(t: &mut [u64]) -> bool
     requires { ⌜ Idle (now t) ⌝ }
-    ensures { λ a. ⌜ (a, now (t .exit)) ≡ emptyOrDrained (now (t .entry)) ⌝ }
+    ensures { λ d. ⌜ (d, now (t .exit)) ≡ isDrained (now (t .entry)) ⌝ }
 {
-    if t[Header::LANES] == 0 {
-        return Answer::Disconnected;
+    if t[Header::LIVING] != 0 {
+        return false;
     }
-    Answer::Empty
+    retire_empty_paused_lanes(t);
+    t[Header::LANES] == 0
 }
 
-// Disconnected if no sender lives and no lane is registered; empty paused lanes do not hide that.
+// Disconnected if the channel is drained, else Empty.
 pub(crate) fn nothing_taken(t: &mut [u64]) -> Answer
     requires { ⌜ Idle (now t) ⌝ }
     ensures { λ a. ⌜ (a, now (t .exit)) ≡ nothingTaken (now (t .entry)) ⌝ }
 {
-    if t[Header::LIVING] != 0 {
-        return Answer::Empty;
+    if is_drained(t) {
+        return Answer::Disconnected;
     }
-    retire_empty_paused_lanes(t);
-    empty_or_drained(t)
+    Answer::Empty
 }

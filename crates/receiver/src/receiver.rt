@@ -2,14 +2,15 @@
 ghost use mathlib.Core.Path.{_≡_};
 ghost use Prim.Native.Nat.{_<_};
 ghost use Rattle.lane.specs.Order.{poppedLane};
-ghost use Rattle.ready.specs.Header.{Shaped, slots, budget};
+ghost use Rattle.lane.specs.declared.lane.Popped.the-variants as Popped;
+ghost use Rattle.ready.specs.Header.{Shaped, slots, budget, channel};
 ghost use Rattle.store.specs.Order.{StoreInOrder};
 ghost use Rattle.receiver.specs.Turn.{Turning, Ringed};
 ghost use Rattle.receiver.specs.Drained.{Rests};
 ghost use Rattle.receiver.specs.Receive.{
   windowTook,
   Affords,
-  takeFast,
+  FastOpen,
   openTook,
   takeWindow,
   collectedIfDue,
@@ -51,36 +52,23 @@ fn took_of_window(t: &mut [u64], item: u64, l: Lane) -> Took
     }
 }
 
-// The open window at `fast_slot`, with no look-up of the queue and no look for ready lanes.
-fn take_fast(t: &mut [u64], r: &[u64]) -> Took
-    requires { ⌜ StoreInOrder (now t) (now r) ⌝ }
-    ensures { λ a. ⌜ (a, now (t .exit)) ≡ takeFast (now (t .entry)) (now (r .entry)) ⌝ }
+// An item of a window that was just opened: the next plain receive looks there first.
+fn took_of_new(t: &mut [u64], item: u64, l: Lane) -> Took
+    requires { ⌜ Shaped (now t) × (l .key .slot < slots (now t)) × (0 < budget (now t)) ⌝ }
+    ensures { λ a. ⌜ (a, now (t .exit)) ≡ openTook (now (t .entry)) (Popped.Item item l) ⌝ }
 {
-    let slot = t[Header::FAST];
-    if slot >= t[Header::ISSUED] {
-        return Took::Nothing;
-    }
-    let l = Lane::load(t, slot);
-    if l.registered != 1 {
-        return Took::Nothing;
-    }
-    match l.pop_fast(Ring::new(slot, t[Header::CAPACITY]), r) {
-        Popped::Nothing { lane: _ } => Took::Nothing,
-        Popped::Item { item, lane } => took_of_window(t, item, lane),
-    }
+    t[Header::FAST] = l.key.slot;
+    took_of_window(t, item, l)
 }
 
-// An item of a window that was just opened: the next plain receive looks there first.
+// The item of a window that was just opened, if it has one.
 fn took_of_opened(t: &mut [u64], popped: Popped) -> Took
     requires { ⌜ Shaped (now t) × (poppedLane popped .key .slot < slots (now t)) × Affords (now t) popped ⌝ }
     ensures { λ a. ⌜ (a, now (t .exit)) ≡ openTook (now (t .entry)) popped ⌝ }
 {
     match popped {
         Popped::Nothing { lane: _ } => Took::Nothing,
-        Popped::Item { item, lane } => {
-            t[Header::FAST] = lane.key.slot;
-            took_of_window(t, item, lane)
-        }
+        Popped::Item { item, lane } => took_of_new(t, item, lane),
     }
 }
 
@@ -145,19 +133,6 @@ fn try_recv_refill(t: &mut [u64], r: &[u64]) -> Took
     }
 }
 
-fn take_one(t: &mut [u64], r: &[u64]) -> Took
-    requires { ⌜ StoreInOrder (now t) (now r) ⌝ }
-    ensures { λ a. ⌜ (a, now (t .exit)) ≡ takeOne (now (t .entry)) (now (r .entry)) ⌝ }
-{
-    match take_fast(t, r) {
-        Took::Item { item, key } => Took::Item {
-            item: item,
-            key: key,
-        },
-        Took::Nothing => try_recv_refill(t, r),
-    }
-}
-
 // The only queued lane has nothing to rotate past.
 fn take_lone(t: &mut [u64], r: &[u64]) -> Took
     requires { ⌜ Turning (now t) × Ringed (now t) (now r) × (0 < budget (now t)) ⌝ }
@@ -168,16 +143,19 @@ fn take_lone(t: &mut [u64], r: &[u64]) -> Took
     }
     let slot = queue::front(t);
     let ring = Ring::new(slot, t[Header::CAPACITY]);
-    let l = Lane::load(t, slot);
-    let popped = l.pop_fair(ring, r, t[Header::BUDGET]);
-    took_of_opened(t, popped)
+    let l = Lane::load(t, slot).fair_window(t[Header::CAPACITY], t[Header::BUDGET]);
+    if l.window == 0 {
+        return Took::Nothing;
+    }
+    let taken = l.pop_fair(ring, r);
+    took_of_new(t, taken.item, taken.lane)
 }
 
 fn take_fair(t: &mut [u64], r: &[u64]) -> Took
     requires { ⌜ Turning (now t) × Ringed (now t) (now r) ⌝ }
     ensures { λ a. ⌜ (a, now (t .exit)) ≡ takeFair (now (t .entry)) (now (r .entry)) ⌝ }
 {
-    marks::collect_ready(t, true);
+    marks::collect_if_ready(t);
     t[Header::BUDGET] = Header::POLL_BUDGET;
     match take_lone(t, r) {
         Took::Item { item, key } => Took::Item {
@@ -205,6 +183,43 @@ fn answer_one(t: &mut [u64], channel: u64, took: Took) -> Answer
     }
 }
 
+// First the open window at `fast_slot`, with no look-up of the queue and no look for ready lanes. Each
+// way out calls the rest itself, so that the compiler keeps that out of line and its frame too.
+fn try_recv_open(t: &mut [u64], r: &[u64]) -> Answer
+    requires { ⌜ StoreInOrder (now t) (now r) ⌝ }
+    ensures { λ a. ⌜ (a, now (t .exit)) ≡ answerOne (channel (now (t .entry))) (takeOne (now (t .entry)) (now (r .entry))) ⌝ }
+{
+    let slot = t[Header::FAST];
+    if slot >= t[Header::ISSUED] {
+        let channel = t[Header::CHANNEL];
+        let took = try_recv_refill(t, r);
+        return answer_one(t, channel, took);
+    }
+    let l = Lane::load(t, slot);
+    if l.registered != 1 {
+        let channel = t[Header::CHANNEL];
+        let took = try_recv_refill(t, r);
+        return answer_one(t, channel, took);
+    }
+    if l.window == 0 {
+        let channel = t[Header::CHANNEL];
+        let took = try_recv_refill(t, r);
+        return answer_one(t, channel, took);
+    }
+    recv_window(t, r, l)
+}
+
+// The next item of the open window.
+fn recv_window(t: &mut [u64], r: &[u64], l: Lane) -> Answer
+    requires { ⌜ FastOpen (now t) (now r) l ⌝ }
+    ensures { λ a. ⌜ (a, now (t .exit)) ≡ answerOne (channel (now (t .entry))) (takeOne (now (t .entry)) (now (r .entry))) ⌝ }
+{
+    let channel = t[Header::CHANNEL];
+    let taken = l.pop_window(Ring::new(l.key.slot, t[Header::CAPACITY]), r);
+    let took = took_of_window(t, taken.item, taken.lane);
+    answer_one(t, channel, took)
+}
+
 // Receives one item, in bursts of at most 64 of a lane.
 pub fn try_recv(t: &mut [u64], r: &[u64]) -> Answer
     requires { ⌜ StoreInOrder (now t) (now r) ⌝ }
@@ -212,11 +227,7 @@ pub fn try_recv(t: &mut [u64], r: &[u64]) -> Answer
 {
     match refusal::receiver_verdict(t) {
         Verdict::Refuse { why } => Answer::Refused { why: why },
-        Verdict::Pass => {
-            let channel = t[Header::CHANNEL];
-            let took = take_one(t, r);
-            answer_one(t, channel, took)
-        }
+        Verdict::Pass => try_recv_open(t, r),
     }
 }
 

@@ -1,4 +1,5 @@
 pub mod IssueLaws
+pub mod FlushedLaws
 pub mod SenderBounds
 pub mod OpeningBounds
 pub mod SendLaws

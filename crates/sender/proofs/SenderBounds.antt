@@ -13,15 +13,6 @@ use Rattle.model.specs.declared.LaneKey.{LaneKey}
 use Rattle.model.specs.declared.Refusal.{Refusal}
 use Rattle.model.specs.Lists.{if, keep, from}
 use Rattle.model.specs.State.{registeredLanes, livingSenders}
-use Rattle.lane.specs.declared.lane.Lane.{Lane}
-use Rattle.lane.specs.declared.ring.Push.{Push}
-use Rattle.lane.specs.declared.ring.Push.the-variants.{Pushed, Full}
-use Rattle.lane.specs.declared.ring.Ring.{Ring}
-use Rattle.lane.specs.declared.consumer.Sent.{Sent}
-use Rattle.lane.specs.declared.consumer.Sent.the-variants as Sent
-use Rattle.lane.specs.Ring.{push}
-use Rattle.lane.specs.Lane.{sent, pushAndFlush}
-use Rattle.lane.specs.Order.{sentLane}
 use Rattle.lane.specs.Table.{setHead}
 use Rattle.lane.proofs.OrderLaws.{cond-holds}
 use Rattle.lane.proofs.TableLaws.{frames}
@@ -61,19 +52,6 @@ send-room t r k o e =
       slot-in = below-slots t r (o .stores) (k .slot) (send-passes t k e .lives .is-issued);
       ring-in = issued-ring-in t r (o .stores) (k .slot) (send-passes t k e .lives .is-issued);
     }
-
--- the lane that a push hands back has the lane's key
-pub sent-key : (ring : Ring) (store : List ℕ) (v : ℕ) (l : Lane) → sentLane ((pushAndFlush ring store v l) .0) .key ≡ l .key
-unfolding pushAndFlush sent
-sent-key ring store v l = go (push ring store (l .tail) (l .released) v)
-  where
-    go : (p : Push × List ℕ) → sentLane ((sent l p) .0) .key ≡ l .key
-    go (Pushed c, q) = refl
-    go (Full, q) = refl
-
-pub taken-key : (ring : Ring) (store out : List ℕ) (v : ℕ) (l m : Lane) (s : Sent) → (s, out) ≡ pushAndFlush ring store v l → s ≡ Sent.Taken m → m .key ≡ l .key
-taken-key ring store out v l m s e f =
-    ap (λ (z : Sent). sentLane z .key) (sym f ∙ ap (λ (p : Sent × List ℕ). p .0) e) ∙ sent-key ring store v l
 
 -- ---- counts of slots
 

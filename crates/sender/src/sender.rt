@@ -45,9 +45,13 @@ fn send_signaled(t: &mut [u64], r: &mut [u64], key: LaneKey, item: u64) -> Answe
 {
     let ring = Ring::new(key.slot, t[Header::CAPACITY]);
     let l = Lane::load(t, key.slot);
-    match l.push_and_flush(ring, r, item) {
+    match l.push_and_flush(ring) {
         Sent::Full { lane: _ } => Answer::Refused { why: Refusal::Full },
-        Sent::Taken { lane } => take_signaled(t, lane),
+        Sent::Taken { lane } => {
+            let answer = take_signaled(t, lane);
+            ring.put(r, l.tail, item);
+            answer
+        }
     }
 }
 
@@ -57,10 +61,11 @@ fn send_unsignaled(t: &mut [u64], r: &mut [u64], key: LaneKey, item: u64) -> Ans
 {
     let ring = Ring::new(key.slot, t[Header::CAPACITY]);
     let l = Lane::load(t, key.slot);
-    match l.push_and_flush(ring, r, item) {
+    match l.push_and_flush(ring) {
         Sent::Full { lane: _ } => Answer::Refused { why: Refusal::Full },
         Sent::Taken { lane } => {
             lane.store(t);
+            ring.put(r, l.tail, item);
             Answer::Taken { woken: false }
         }
     }

@@ -33,7 +33,7 @@ fn fill(run: Run, ring: Ring, store: &mut [u64; 64]) -> Run
     let mut lane = run.lane;
     let mut send = run.send;
     loop {
-        match lane.push_and_flush(ring, store, send) {
+        match lane.push_and_flush(ring) {
             Sent::Full { lane: full } => {
                 return Run {
                     lane: full,
@@ -43,6 +43,7 @@ fn fill(run: Run, ring: Ring, store: &mut [u64; 64]) -> Run
                 };
             }
             Sent::Taken { lane: next } => {
+                ring.put(store, lane.tail, send);
                 lane = next;
                 send = ring::after(send, 1);
             }

@@ -14,8 +14,8 @@ use borrow.Author.Needs.{needs}
 use Rattle.receiver.proofs.receiver.take_fair.Statement.{statement}
 use Rattle.receiver.proofs.receiver.take_fair.Tie as tie
 
-collect-ready-requires : tie.Need-collect-ready-requires
-collect-ready-requires c κs = search needs
+collect-if-ready-requires : tie.Need-collect-if-ready-requires
+collect-if-ready-requires c κs = search needs
 
 slice-write-t : tie.Need-slice-write-t
 slice-write-t c = search needs
@@ -23,7 +23,7 @@ slice-write-t c = search needs
 take-lone-requires : tie.Need-take-lone-requires
 take-lone-requires c κs =
     let k = fair-keeps _ (c .before .before .before .before .before .before .before .pre .0) in
-    rw (c .before .before .before .collect-ready .ensures) (k .turning, keeps-ringed k (c .before .before .before .before .before .before .before .args .r .now) (c .before .before .before .before .before .before .before .pre .1), fair-budget _ (c .before .before .before .before .before .before .before .pre .0))
+    rw (c .before .before .before .collect-if-ready .ensures) (k .turning, keeps-ringed k (c .before .before .before .before .before .before .before .args .r .now) (c .before .before .before .before .before .before .before .pre .1), fair-budget _ (c .before .before .before .before .before .before .before .pre .0))
 
 enum-known-item : tie.Need-enum-known-item
 enum-known-item c = search needs
@@ -35,30 +35,30 @@ turns-requires : tie.Need-turns-requires
 turns-requires c κs =
     let k = fair-keeps _ (c .before .before .before .before .before .before .before .before .before .before .before .before .before .pre .0) in
     let u = unmoved-is _ _ _ (rw (c .before .enum-told .given .1) at (c .before .before .before .before .before .take-lone .ensures)) (take-lone-unmoved _ (c .before .before .before .before .before .before .before .before .before .before .before .before .before .args .r .now)) in
-    rw (u, c .before .before .before .before .before .before .before .before .before .collect-ready .ensures) (k .turning, keeps-ringed k (c .before .before .before .before .before .before .before .before .before .before .before .before .before .args .r .now) (c .before .before .before .before .before .before .before .before .before .before .before .before .before .pre .1))
+    rw (u, c .before .before .before .before .before .before .before .before .before .collect-if-ready .ensures) (k .turning, keeps-ringed k (c .before .before .before .before .before .before .before .before .before .before .before .before .before .args .r .now) (c .before .before .before .before .before .before .before .before .before .before .before .before .before .pre .1))
 
 same-length : tie.Need-same-length
-same-length c = ap (λ (o : Took × List ℕ). length (o .1)) (rw (c .before .before .before .before .before .before .before .before .before .collect-ready .ensures) at (c .before .before .before .before .before .take-lone .ensures)) ∙ take-lone-long _ (c .before .before .before .before .before .before .before .before .before .before .before .before .before .args .r .now) ∙ fair-keeps _ (c .before .before .before .before .before .before .before .before .before .before .before .before .before .pre .0) .long
+same-length c = ap (λ (o : Took × List ℕ). length (o .1)) (rw (c .before .before .before .before .before .before .before .before .before .collect-if-ready .ensures) at (c .before .before .before .before .before .take-lone .ensures)) ∙ take-lone-long _ (c .before .before .before .before .before .before .before .before .before .before .before .before .before .args .r .now) ∙ fair-keeps _ (c .before .before .before .before .before .before .before .before .before .before .before .before .before .pre .0) .long
 
 returns : tie.Need-returns
 unfolding takeFair
-returns c = else-item _ _ _ _ _ (rw (c .before .item .given .1, c .before .before .before .before .before .before .before .before .before .collect-ready .ensures) at (c .before .before .before .before .before .take-lone .ensures))
+returns c = else-item _ _ _ _ _ (rw (c .before .item .given .1, c .before .before .before .before .before .before .before .before .before .collect-if-ready .ensures) at (c .before .before .before .before .before .take-lone .ensures))
 
 same-length-2 : tie.Need-same-length-2
 same-length-2 c =
     let k = fair-keeps _ (c .before .before .before .before .before .before .before .before .before .before .before .before .before .before .before .before .pre .0) in
-    let u = unmoved-is _ _ _ (rw (c .before .before .before .before .enum-told .given .1, c .before .before .before .before .before .before .before .before .before .before .before .before .collect-ready .ensures) at (c .before .before .before .before .before .before .before .before .take-lone .ensures)) (take-lone-unmoved _ (c .before .before .before .before .before .before .before .before .before .before .before .before .before .before .before .before .args .r .now)) in
+    let u = unmoved-is _ _ _ (rw (c .before .before .before .before .enum-told .given .1, c .before .before .before .before .before .before .before .before .before .before .before .before .collect-if-ready .ensures) at (c .before .before .before .before .before .before .before .before .take-lone .ensures)) (take-lone-unmoved _ (c .before .before .before .before .before .before .before .before .before .before .before .before .before .before .before .before .args .r .now)) in
     ap (λ (o : Took × List ℕ). length (o .1)) (rw u at (c .before .before .turns .ensures)) ∙ turns-keep _ (c .before .before .before .before .before .before .before .before .before .before .before .before .before .before .before .before .args .r .now) true (k .turning) .long ∙ k .long
 
 returns-2 : tie.Need-returns-2
 unfolding takeFair
-returns-2 c = c .before .before .turns .ensures ∙ else-nothing _ _ _ (rw (c .before .before .before .before .enum-told .given .1, c .before .before .before .before .before .before .before .before .before .before .before .before .collect-ready .ensures) at (c .before .before .before .before .before .before .before .before .take-lone .ensures))
+returns-2 c = c .before .before .turns .ensures ∙ else-nothing _ _ _ (rw (c .before .before .before .before .enum-told .given .1, c .before .before .before .before .before .before .before .before .before .before .before .before .collect-if-ready .ensures) at (c .before .before .before .before .before .before .before .before .take-lone .ensures))
 
 pub take-fair-spec : {M : Type 1} → statement M
 take-fair-spec =
     tie.close
     (tie.spec
-    collect-ready-requires
+    collect-if-ready-requires
     slice-write-t
     take-lone-requires
     enum-known-item

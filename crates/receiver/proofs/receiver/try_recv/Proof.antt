@@ -1,62 +1,34 @@
 -- `receiver::receiver::try_recv` meets its contract.
 -- Assumes nothing.
-use Rattle.model.specs.declared.Answer.{Answer}
-use Rattle.receiver.proofs.ReceiveLaws.{turning-of, take-one-rest}
-use Rattle.receiver.specs.Receive.{tryRecv, answerOne, withRings}
-use Rattle.store.specs.Words.{unlessRefused}
-use Rattle.receiver.specs.Drained.{Rests}
-use Prim.Native.Nat.{ℕ}
+use mathlib.Core.Path.{sym, ap, _∙_}
 use mathlib.Core.List.{List}
-use mathlib.Core.Path.{sym, ap, _∙_, subst}
+use Prim.Native.Nat.{ℕ}
+use Rattle.model.specs.declared.Answer.{Answer}
+use Rattle.store.specs.Words.{unlessRefused}
+use Rattle.receiver.specs.Receive.{tryRecv, withRings}
 use borrow.Author.Needs.{needs}
 use Rattle.receiver.proofs.receiver.try_recv.Statement.{statement}
 use Rattle.receiver.proofs.receiver.try_recv.Tie as tie
-
-receiver-verdict-requires : tie.Need-receiver-verdict-requires
-receiver-verdict-requires c κs = search needs
-
-enum-known-why : tie.Need-enum-known-why
-enum-known-why c = search needs
-
-enum-told : tie.Need-enum-told
-enum-told c = search needs
-
-slice-read-channel : tie.Need-slice-read-channel
-slice-read-channel c = search needs
-
-take-one-requires : tie.Need-take-one-requires
-take-one-requires c κs = search needs
-
-answer-one-requires : tie.Need-answer-one-requires
-answer-one-requires c κs = subst Rests (sym (c .before .before .before .take-one .ensures)) (take-one-rest _ (c .before .before .before .before .before .before .before .before .before .before .before .before .args .r .now) (turning-of _ _ (c .before .before .before .before .before .before .before .before .before .before .before .before .pre)))
-
-same-length : tie.Need-same-length
-same-length c = search needs
 
 returns : tie.Need-returns
 unfolding tryRecv unlessRefused
 returns c = rw (sym (c .before .before .before .receiver-verdict .ensures) ∙ c .before .why .given .1)
 
-same-length-2 : tie.Need-same-length-2
-same-length-2 c = search needs
-
 returns-2 : tie.Need-returns-2
 unfolding tryRecv unlessRefused
 returns-2 c =
-    rw (sym (c .before .before .before .before .before .before .before .before .before .before .before .receiver-verdict .ensures) ∙ c .before .before .before .before .before .before .before .before .before .enum-told .given .1)
-    (ap (λ (o : Answer × List ℕ). withRings (c .before .before .before .before .before .before .before .before .before .before .before .before .before .before .before .args .r .now) o) (c .before .before .answer-one .ensures ∙ ap (answerOne _) (c .before .before .before .before .before .before .take-one .ensures)))
+    rw (sym (c .before .before .before .before .before .before .receiver-verdict .ensures) ∙ c .before .before .before .before .enum-told .given .1)
+    (ap (λ (o : Answer × List ℕ). withRings (c .before .before .before .before .before .before .before .before .before .before .args .r .now) o) (c .before .before .try-recv-open .ensures))
 
 pub try-recv-spec : {M : Type 1} → statement M
 try-recv-spec =
     tie.close
     (tie.spec
-    receiver-verdict-requires
-    enum-known-why
-    enum-told
-    slice-read-channel
-    take-one-requires
-    answer-one-requires
-    same-length
+    (λ c κs. search needs)
+    (λ c. search needs)
+    (λ c. search needs)
+    (λ c κs. search needs)
+    (λ c. search needs)
     returns
-    same-length-2
+    (λ c. search needs)
     returns-2)

@@ -1,6 +1,6 @@
 -- `lane::ring::Ring::push` meets its contract.
 -- Assumes nothing.
-use Rattle.lane.specs.Ring.{push}
+use Rattle.lane.specs.Ring.{pushCursor}
 use mathlib.Core.Path.{_≡_, _∙_, ap, sym}
 use borrow.Author.Tests.{eq-eqb, ne-eqb}
 use borrow.Author.Needs.{needs}
@@ -8,12 +8,12 @@ use Rattle.lane.proofs.ring.Ring.push.Statement.{statement}
 use Rattle.lane.proofs.ring.Ring.push.Tie as tie
 
 returns : tie.Need-returns
-unfolding push
+unfolding pushCursor
 returns c = simp (eq-eqb _ _ (sym (c .before .before .distance .ensures) ∙ c .if1 .taken))
 
 returns-2 : tie.Need-returns-2
-unfolding push
-returns-2 c = simp (ne-eqb _ _ (λ e. c .before .before .if1 .left (c .before .before .before .before .distance .ensures ∙ e)), c .after .ensures, c .before .index .ensures .0)
+unfolding pushCursor
+returns-2 c = simp (ne-eqb _ _ (λ e. c .before .if1 .left (c .before .before .before .distance .ensures ∙ e)), c .after .ensures)
 
 pub push-spec : {M : Type 1} → statement M
 push-spec =
@@ -22,7 +22,4 @@ push-spec =
     (λ c κs. search needs)
     returns
     (λ c κs. search needs)
-    (λ c. search needs) (λ c. search needs)
-    (λ c κs. search needs)
-    (λ c. search needs)
     returns-2)
