@@ -1,2 +1,4 @@
 pub mod NumberLaws
 pub mod KindLaws
+pub mod DecimalLaws
+pub mod PutLaws
