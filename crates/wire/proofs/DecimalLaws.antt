@@ -46,14 +46,14 @@ store-first d i v h =
     ∙ ap (λ (x : ℕ). x ∷ drop (suc i) (set d i v)) (getD-set-same d i v 0 h)
     ∙ ap (λ (l : List ℕ). v ∷ l) (drop-set-lt (suc i) d i v (omega arith))
 
-pub spell-start : (n : ℕ) (d : List ℕ) → n < 2 ^ 64 → length d ≡ 20 → Spelled n (n / 10) 19 (set d 19 (lastDigit n))
+pub spell-start : (n : ℕ) (d : List ℕ) (v : ℕ) → n < 2 ^ 64 → length d ≡ 20 → v ≡ lastDigit n → Spelled n (n / 10) 19 (set d 19 v)
 unfolding decimal
-spell-start n d h l =
+spell-start n d v h l e =
     record {
       place = omega arith;
-      long = length-set d 19 (lastDigit n) ∙ l;
+      long = length-set d 19 v ∙ l;
       few = omega arith;
-      is = ap (λ (m : List ℕ). digits (n / 10) ++ m) (store-first d 19 (lastDigit n) (omega arith) ∙ ap (λ (m : List ℕ). lastDigit n ∷ m) (drop-of-length-le d {i = 20} (omega arith)));
+      is = ap (λ (m : List ℕ). digits (n / 10) ++ m) (store-first d 19 v (omega arith) ∙ ap (λ (m : List ℕ). v ∷ m) (drop-of-length-le d {i = 20} (omega arith)) ∙ ap (λ (x : ℕ). x ∷ []) e);
     }
 
 pub spell-room : {left : ℕ} (at : ℕ) → left < 10 ^ at → 0 < left → 1 ≤ at

@@ -5,9 +5,10 @@ use mathlib.Core.List.{List, [], _∷_, _++_, append-assoc}
 use Prim.Native.Nat.{ℕ, zero, suc, _+_, _-_, _*_, _≤_, _<_}
 use native.Mathlib.Numerals.{add-one}
 use native.Mathlib.Omega.{arith}
-use lib.ListN.{length, getD, set, take, length-append, length-set}
-use lib.Seq.{sets, length-sets, take-suc, take-length, take-all}
-use Rattle.wire.specs.Text.{Puts, spaced, decimal, codes}
+use lib.ListN.{length, getD, set, take, drop, length-append, length-drop, length-set}
+use lib.Seq.{sets, take-suc, take-length, take-all}
+use Rattle.model.specs.declared.Answer.{Answer}
+use Rattle.wire.specs.Text.{Puts, spaced, decimal, codes, answerText}
 
 sets-append : (t : List ℕ) (a : ℕ) (s v : List ℕ) → sets (sets t a s) (a + length s) v ≡ sets t a (s ++ v)
 sets-append t a [] v = let e : a + 0 ≡ a = omega arith in ap (λ (i : ℕ). sets t i v) e
@@ -69,6 +70,20 @@ pub spaced-one : (n : ℕ) → codes " " ++ decimal n ≡ spaced (n ∷ [])
 unfolding spaced
 spaced-one n = ap (λ (l : List ℕ). codes " " ++ l) (sym (append-none (decimal n)))
 
+-- the end of an array of 20, from place k on
+module _ (d : List ℕ) (k : ℕ) (l : length d ≡ 20) where
+  all-of-end : take (20 - k) (drop k d) ≡ drop k d
+  all-of-end = take-all (20 - k) (drop k d) (omega (arith, length-drop k d))
+
+  pub end-long : length (take (20 - k) (drop k d)) ≤ 20
+  end-long = omega (arith, ap length all-of-end, length-drop k d)
+
+  pub number-put : {t u w : List ℕ} {a b c : ℕ} (n : ℕ) → Puts t a (codes " ") u b → Puts u b (take (20 - k) (drop k d)) w c → drop k d ≡ decimal n → Puts t a (spaced (n ∷ [])) w c
+  number-put n p q e = puts-as (spaced-one n) (puts-then p (puts-as (all-of-end ∙ e) q))
+
+  pub number-end : {t u w : List ℕ} {a b c : ℕ} → Puts t a (codes " ") u b → Puts u b (take (20 - k) (drop k d)) w c → c ≤ a + 21
+  number-end p q = omega (arith, p .end, q .end, ap length all-of-end, length-drop k d)
+
 pub numbers-start : (t : List ℕ) (a : ℕ) → Puts t a (spaced []) t a
 unfolding spaced
 numbers-start t a = puts-none t a
@@ -78,3 +93,20 @@ numbers-more l i h p q = puts-as (spaced-append (take i l) (getD l i 0 ∷ []) �
 
 pub numbers-end : {t u : List ℕ} {a b : ℕ} (l : List ℕ) (i : ℕ) → Puts t a (spaced (take i l)) u b → i ≡ length l → Puts t a (spaced l) u b
 numbers-end l i p e = puts-as (ap spaced (ap (λ (j : ℕ). take j l) e ∙ take-length l)) p
+
+-- ---- whole lines
+
+pub line-put : {t u v x word : List ℕ} {a b c d : ℕ} (l : List ℕ) → Puts t a word u b → Puts u b (spaced l) v c → Puts v c (codes "\n") x d → Puts t a (word ++ spaced l ++ codes "\n") x d
+line-put l p q r = puts-then (puts-then p q) r
+
+pub items-put : {t u v w x word : List ℕ} {a b c d e : ℕ} (k : ℕ) {l m : List ℕ} → Puts t a word u b → Puts u b (spaced (k ∷ [])) v c → Puts v c (spaced l) w d → l ≡ m → Puts w d (codes "\n") x e
+    → Puts t a (word ++ spaced (k ∷ m) ++ codes "\n") x e
+items-put k {m = m} p q r e s = line-put (k ∷ m) p (puts-as (spaced-append (k ∷ []) m) (puts-then q (puts-as (ap spaced e) r))) s
+
+-- a line whose one number is known by another name
+pub line-with : {t u : List ℕ} {a b : ℕ} (word : List ℕ) {m n : ℕ} → m ≡ n → Puts t a (word ++ spaced (m ∷ []) ++ codes "\n") u b → Puts t a (word ++ spaced (n ∷ []) ++ codes "\n") u b
+line-with word e p = puts-as (ap (λ (k : ℕ). word ++ spaced (k ∷ []) ++ codes "\n") e) p
+
+-- the line of an answer that is known
+pub line-of : {t u : List ℕ} {a b : ℕ} (out : List ℕ) {x y : Answer} → x ≡ y → Puts t a (answerText y out) u b → Puts t a (answerText x out) u b
+line-of out e p = puts-as (ap (λ (z : Answer). answerText z out) (sym e)) p
