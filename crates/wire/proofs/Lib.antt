@@ -2,3 +2,4 @@ pub mod NumberLaws
 pub mod KindLaws
 pub mod DecimalLaws
 pub mod PutLaws
+pub mod ParseLaws
