@@ -6,11 +6,11 @@ use mathlib.Core.List.{List, [], _∷_, _++_, append-assoc}
 use Prim.Native.Nat.{ℕ, zero, suc, _+_, _-_, _*_, _/_, _%_, _^_, _≤_, _<_}
 use native.Mathlib.Nat.{pow-suc, div-lt-iff-lt-mul, zero-lt-suc, le-refl}
 use native.Mathlib.Omega.{arith}
-use borrow.Author.Tests.{eq-eqb, ne-eqb}
+use borrow.Author.Tests.{eqb-true, eq-eqb, ne-eqb}
 use lib.Dec.{eqb}
 use lib.ListN.{length, getD, set, drop, length-set, drop-of-length-le}
 use lib.Seq.{drop-cons, drop-set-lt, getD-set-same}
-use Rattle.wire.specs.Text.{digitsIn, digits, decimal, lastDigit}
+use Rattle.wire.specs.Text.{digitsIn, digits, decimal, lastDigit, valueFrom}
 
 digits-of-none : (f m : ℕ) → m ≡ 0 → digitsIn f m ≡ []
 unfolding digitsIn
@@ -30,6 +30,28 @@ pub digits-decimal : (m : ℕ) → 0 < m → digits m ≡ decimal m
 unfolding digits digitsIn decimal
 digits-decimal zero h = absurd (omega arith)
 digits-decimal (suc m) h = simp (ne-eqb (suc m) 0 (λ e. omega arith)) (ap (λ (l : List ℕ). l ++ lastDigit (suc m) ∷ []) (digits-enough m (suc m / 10) (suc m / 10) (omega arith) (le-refl _)))
+
+-- ---- a number in decimal stands for the number
+
+value-append : (a : ℕ) (l m : List ℕ) → valueFrom a (l ++ m) ≡ valueFrom (valueFrom a l) m
+value-append a [] m = refl
+value-append a (d ∷ l) m = value-append (10 * a + (d - 48)) l m
+
+value-more : (l : List ℕ) (n : ℕ) → valueFrom 0 l ≡ n / 10 → valueFrom 0 (l ++ lastDigit n ∷ []) ≡ n
+value-more l n e = value-append 0 l (lastDigit n ∷ []) ∙ omega (arith, e)
+
+digits-value : (f n : ℕ) → n ≤ f → valueFrom 0 (digitsIn f n) ≡ n
+unfolding digitsIn
+digits-value zero n h = omega arith
+digits-value (suc f) n h = go (eqb n 0) refl (digits-value f (n / 10) (omega arith))
+  where
+    go : (b : Bool) → eqb n 0 ≡ b → valueFrom 0 (digitsIn f (n / 10)) ≡ n / 10 → valueFrom 0 (cond b [] (digitsIn f (n / 10) ++ lastDigit n ∷ [])) ≡ n
+    go true e i = omega (arith, eqb-true n 0 e)
+    go false e i = value-more (digitsIn f (n / 10)) n i
+
+pub decimal-value : (n : ℕ) → valueFrom 0 (decimal n) ≡ n
+unfolding decimal digits
+decimal-value n = value-more (digitsIn (n / 10) (n / 10)) n (digits-value (n / 10) (n / 10) (le-refl _))
 
 -- ---- the loop of `spell`
 

@@ -3,3 +3,4 @@ pub mod KindLaws
 pub mod DecimalLaws
 pub mod PutLaws
 pub mod ParseLaws
+pub mod Examples

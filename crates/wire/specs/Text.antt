@@ -4,7 +4,7 @@ use mathlib.Core.Bool.{Bool, true, false, cond}
 use mathlib.Core.List.{List, [], _∷_, _++_}
 use mathlib.Core.Path.{_≡_}
 use Prim.Native.Char.{Char, code}
-use Prim.Native.Nat.{ℕ, zero, suc, _+_, _/_, _%_}
+use Prim.Native.Nat.{ℕ, zero, suc, _+_, _-_, _*_, _/_, _%_}
 use Prim.Native.String as S
 use lib.Dec.{eqb}
 use lib.ListN.{length}
@@ -45,6 +45,11 @@ digits n = digitsIn n n
 -- a number in decimal: its last digit, after those of its tens
 unfoldable pub decimal : ℕ → List ℕ
 decimal n = digits (n / 10) ++ lastDigit n ∷ []
+
+-- the number that digits after a stand for
+abbrev pub valueFrom : ℕ → List ℕ → ℕ
+valueFrom a [] = a
+valueFrom a (d ∷ l) = valueFrom (10 * a + (d - 48)) l
 
 -- "a space before each"
 unfoldable pub spaced : List ℕ → List ℕ
