@@ -4,3 +4,5 @@ pub mod DecimalLaws
 pub mod PutLaws
 pub mod ParseLaws
 pub mod Examples
+pub mod MoreLaws
+pub mod StreamLaws

@@ -2,6 +2,7 @@
 -- Assumes nothing.
 use mathlib.Core.Bool.{cond}
 use mathlib.Core.List.{List, [], _∷_}
+use mathlib.Core.Path.{_≡_}
 use Prim.Native.Nat.{ℕ, zero, suc}
 use lib.Dec.{eqb}
 use lib.ListN.{length, drop}
@@ -39,3 +40,13 @@ streamIn (suc f) b = cond (eqb (length b) 0) (noMore ended) (streamFrom (parse b
 -- the input as the program takes it
 unfoldable pub stream : List ℕ → Stream
 stream b = streamIn (length b) b
+
+-- the bytes b begin with these records, and the rest follows them
+pub data Reads : List ℕ → List Record → List ℕ → Type 0 where
+  none : {b : List ℕ} → Reads b [] b
+  one : {b rest : List ℕ} {r : Record} {rs : List Record} {n : ℕ} → parse b ≡ Whole r n → Reads (drop n b) rs rest → Reads b (r ∷ rs) rest
+
+-- records before those of a stream
+abbrev pub andThenAll : List Record → Stream → Stream
+andThenAll [] s = s
+andThenAll (r ∷ l) s = andThen r (andThenAll l s)
