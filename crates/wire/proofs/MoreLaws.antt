@@ -8,7 +8,7 @@ use Prim.Native.Nat.{ℕ, zero, suc, _+_, _*_, _≤_, _<_}
 use native.Mathlib.Omega.{arith}
 use borrow.Author.Tests.{ltb-false, eqb-true, eqb-false, le-ltb, eq-eqb, ne-eqb}
 use lib.Dec.{ltb, eqb}
-use lib.ListN.{length, getD, getElem?, length-append, List·getD-append}
+use lib.ListN.{length, getD, getElem?, drop, length-append, List·getD-append}
 use Rattle.wire.specs.declared.record.Record.{Record}
 use Rattle.wire.specs.declared.record.Parsed.{Parsed}
 use Rattle.wire.specs.declared.record.Parsed.the-variants.{Incomplete, Malformed, Whole}
@@ -33,56 +33,18 @@ says-at [] i k a e = let z : _≡_ {A = ℕ} 0 1 = cc in absurd (omega arith)
 says-at (x ∷ l) zero k a e = let q : x ≡ k = cc in subst ByFields q (a .0)
 says-at (x ∷ l) (suc i) k a e = says-at l i k (a .1) e
 
+-- kinds 12 to 15, 9 to 11, 5 to 8, and all
+last-by-fields : AllByFields (drop 12 kinds)
+last-by-fields = (λ b d f. refl, (λ b d f. refl, (λ b d f. refl, (λ b d f. refl, tt))))
+
+controls-by-fields : AllByFields (drop 9 kinds)
+controls-by-fields = (λ b d f. cc (f 0 (omega arith), f 1 (omega arith), f 2 (omega arith)), (λ b d f. cc (f 0 (omega arith), f 1 (omega arith), f 2 (omega arith)), (λ b d f. cc (f 0 (omega arith), f 1 (omega arith), f 2 (omega arith)), last-by-fields)))
+
+receives-by-fields : AllByFields (drop 5 kinds)
+receives-by-fields = (λ b d f. refl, (λ b d f. refl, (λ b d f. cc (f 0 (omega arith), f 1 (omega arith), f 2 (omega arith)), (λ b d f. cc (f 0 (omega arith)), controls-by-fields))))
+
 all-by-fields : AllByFields kinds
-all-by-fields = (
-  λ b d f. cc (f 0 (omega arith), f 1 (omega arith), f 2 (omega arith), f 3 (omega arith), f 4 (omega arith)),
-  (
-    λ b d f. cc (f 0 (omega arith)),
-    (
-      λ b d f. cc (f 0 (omega arith), f 1 (omega arith), f 2 (omega arith)),
-      (
-        λ b d f. cc (f 0 (omega arith), f 1 (omega arith), f 2 (omega arith)),
-        (
-          λ b d f. cc (f 0 (omega arith), f 1 (omega arith)),
-          (
-            λ b d f. refl,
-            (
-              λ b d f. refl,
-              (
-                λ b d f. cc (f 0 (omega arith), f 1 (omega arith), f 2 (omega arith)),
-                (
-                  λ b d f. cc (f 0 (omega arith)),
-                  (
-                    λ b d f. cc (f 0 (omega arith), f 1 (omega arith), f 2 (omega arith)),
-                    (
-                      λ b d f. cc (f 0 (omega arith), f 1 (omega arith), f 2 (omega arith)),
-                      (
-                        λ b d f. cc (f 0 (omega arith), f 1 (omega arith), f 2 (omega arith)),
-                        (
-                          λ b d f. refl,
-                          (
-                            λ b d f. refl,
-                            (
-                              λ b d f. refl,
-                              (
-                                λ b d f. refl,
-                                tt,
-                              ),
-                            ),
-                          ),
-                        ),
-                      ),
-                    ),
-                  ),
-                ),
-              ),
-            ),
-          ),
-        ),
-      ),
-    ),
-  ),
-)
+all-by-fields = (λ b d f. cc (f 0 (omega arith), f 1 (omega arith), f 2 (omega arith), f 3 (omega arith), f 4 (omega arith)), (λ b d f. cc (f 0 (omega arith)), (λ b d f. cc (f 0 (omega arith), f 1 (omega arith), f 2 (omega arith)), (λ b d f. cc (f 0 (omega arith), f 1 (omega arith), f 2 (omega arith)), (λ b d f. cc (f 0 (omega arith), f 1 (omega arith)), receives-by-fields)))))
 
 -- ---- a record that was found, taken apart and put together
 
