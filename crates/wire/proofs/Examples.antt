@@ -1,0 +1,70 @@
+-- Document 01's example computes, and so do inputs around it.
+-- Assumes nothing.
+use mathlib.Core.Path.{_≡_, refl}
+use mathlib.Core.Bool.{true, false}
+use mathlib.Core.List.{List, [], _∷_, _++_}
+use Rattle.model.specs.Answers.{line, number as refusalNumber}
+use Rattle.model.specs.declared.ReceiveCall.the-variants.{TryRecv, TryRecvBatchInto}
+use Rattle.model.specs.declared.Call.the-variants.{Receive}
+use Rattle.model.specs.declared.Answer.the-variants.{Taken, Items, Held, Refused}
+use Rattle.model.specs.declared.Refusal.the-variants as Refusal
+use Rattle.wire.specs.declared.record.Record.the-variants.{Call}
+use Rattle.wire.specs.declared.record.Parsed.the-variants.{Incomplete, Malformed, Whole}
+use Rattle.wire.specs.Record.{number, parseAs, parse}
+use Rattle.wire.specs.Stream.{streamIn, stream, ended, malformed}
+use Rattle.wire.specs.Text.{codes, digitsIn, digits, decimal, spaced, answerText}
+use Rattle.wire.specs.Examples.{u64, receive, sevenBytes, sevenRecords, sevenAnswers, texts}
+
+pub receive-is : parse receive ≡ Whole (Call (Receive TryRecv)) 4
+unfolding parse parseAs number
+receive-is = refl
+
+pub seven-records : stream sevenBytes ≡ record { records = sevenRecords; ending = ended }
+unfolding stream streamIn parse parseAs number
+seven-records = refl
+
+-- "input ending inside a record"
+pub cut-record : stream (receive ++ (2 ∷ 0 ∷ 5 ∷ [])) ≡ record { records = Call (Receive TryRecv) ∷ []; ending = malformed }
+unfolding stream streamIn parse parseAs number
+cut-record = refl
+
+-- "it stops": what follows a malformed record is not read
+pub stops-there : stream (receive ++ (3 ∷ 0 ∷ 5 ∷ 0 ∷ 0 ∷ []) ++ receive) ≡ record { records = Call (Receive TryRecv) ∷ []; ending = malformed }
+unfolding stream streamIn parse parseAs number
+stops-there = refl
+
+-- "a kind not listed", in its low and in its high byte, and "a length that is not its kind's"
+pub not-listed : parse (2 ∷ 0 ∷ 16 ∷ 0 ∷ []) ≡ Malformed
+unfolding parse parseAs number
+not-listed = refl
+
+pub not-listed-high : parse (2 ∷ 0 ∷ 5 ∷ 1 ∷ []) ≡ Malformed
+unfolding parse parseAs number
+not-listed-high = refl
+
+pub other-length : parse ((10 ∷ 0 ∷ 5 ∷ 0 ∷ []) ++ u64 0) ≡ Malformed
+unfolding parse parseAs number
+other-length = refl
+
+pub other-length-high : parse (2 ∷ 1 ∷ 5 ∷ 0 ∷ []) ≡ Malformed
+unfolding parse parseAs number
+other-length-high = refl
+
+-- the beginning of a batch, and a batch with each byte of its limit another
+pub begun : parse (10 ∷ 0 ∷ 8 ∷ 0 ∷ 1 ∷ 0 ∷ 0 ∷ []) ≡ Incomplete
+unfolding parse parseAs number
+begun = refl
+
+pub batch : parse (10 ∷ 0 ∷ 8 ∷ 0 ∷ 8 ∷ 7 ∷ 6 ∷ 5 ∷ 4 ∷ 3 ∷ 2 ∷ 1 ∷ 255 ∷ []) ≡ Whole (Call (Receive (TryRecvBatchInto 72623859790382856 64))) 12
+unfolding parse parseAs number
+batch = refl
+
+-- "`done`, `lane 0 0`, `taken 1`, `item 11 0 0`, `empty`, `done`, `disconnected`", "one line each, no header"
+pub seven-lines : texts sevenAnswers [] ≡ codes "done\nlane 0 0\ntaken 1\nitem 11 0 0\nempty\ndone\ndisconnected\n"
+unfolding line spaced decimal digits digitsIn
+seven-lines = refl
+
+-- "`items N` and the N values on that line, a space before each; `held N`; `refused N`"; "(woken: 1 or 0)"
+pub other-lines : texts (Items 2 ∷ Items 0 ∷ Held 1203 ∷ Refused Refusal.Malformed ∷ Taken false ∷ []) (100 ∷ 9 ∷ 7 ∷ []) ≡ codes "items 2 100 9\nitems 0\nheld 1203\nrefused 15\ntaken 0\n"
+unfolding line refusalNumber spaced decimal digits digitsIn
+other-lines = refl

@@ -1,0 +1,62 @@
+-- Document 01's example of the replay program as bytes, and inputs around it.
+-- Assumes nothing.
+use mathlib.Core.Bool.{Bool, true, false}
+use mathlib.Core.List.{List, [], _∷_, _++_}
+use Prim.Native.Nat.{ℕ}
+use Rattle.model.specs.declared.SenderCall.the-variants.{RegisterSender, TrySend, DropSender}
+use Rattle.model.specs.declared.ReceiveCall.the-variants.{TryRecv, TryRecvBatchInto}
+use Rattle.model.specs.declared.Call.the-variants.{Sender, Receive}
+use Rattle.model.specs.declared.Answer.{Answer}
+use Rattle.model.specs.declared.Answer.the-variants.{Done, Registered, Taken, Item, Items, Empty, Disconnected, Held, Refused}
+use Rattle.model.specs.declared.Refusal.the-variants as Refusal
+use Rattle.wire.specs.declared.record.Record.{Record}
+use Rattle.wire.specs.declared.record.Record.the-variants.{Open, Call}
+use Rattle.wire.specs.declared.record.Parsed.{Parsed}
+use Rattle.wire.specs.declared.record.Parsed.the-variants.{Incomplete, Malformed, Whole}
+use Rattle.wire.specs.Stream.{Stream, ended, malformed}
+use Rattle.wire.specs.Text.{codes, answerText}
+
+-- a number below 256 as a field
+abbrev pub u64 : ℕ → List ℕ
+u64 n = n ∷ 0 ∷ 0 ∷ 0 ∷ 0 ∷ 0 ∷ 0 ∷ 0 ∷ []
+
+-- "Receive is hex 02 00 05 00."
+abbrev pub receive : List ℕ
+receive = 2 ∷ 0 ∷ 5 ∷ 0 ∷ []
+
+-- "Input 0 (4, 2, 7, 0, 0); 1 (2); 2 (0, 0, 11); 5; 5; 4 (0, 0); 5"
+abbrev pub sevenBytes : List ℕ
+sevenBytes =
+    (42 ∷ 0 ∷ 0 ∷ 0 ∷ []) ++ u64 4 ++ u64 2 ++ u64 7 ++ u64 0 ++ u64 0
+    ++ (10 ∷ 0 ∷ 1 ∷ 0 ∷ []) ++ u64 2
+    ++ (26 ∷ 0 ∷ 2 ∷ 0 ∷ []) ++ u64 0 ++ u64 0 ++ u64 11
+    ++ receive ++ receive
+    ++ (18 ∷ 0 ∷ 4 ∷ 0 ∷ []) ++ u64 0 ++ u64 0
+    ++ receive
+
+abbrev pub sevenRecords : List Record
+sevenRecords =
+    Open (record { capacity = 4; slots = 2; channel = 7; cursor = 0; generation = 0 })
+    ∷ Call (Sender (RegisterSender 2))
+    ∷ Call (Sender (TrySend (record { slot = 0; generation = 0 }) 11))
+    ∷ Call (Receive TryRecv)
+    ∷ Call (Receive TryRecv)
+    ∷ Call (Sender (DropSender (record { slot = 0; generation = 0 })))
+    ∷ Call (Receive TryRecv)
+    ∷ []
+
+-- the answers of that example, and the texts of lines: each by its own line, the last with an output of two words
+abbrev pub sevenAnswers : List Answer
+sevenAnswers =
+    Done
+    ∷ Registered (record { slot = 0; generation = 0 })
+    ∷ Taken true
+    ∷ Item 11 (record { channel = 7; key = record { slot = 0; generation = 0 } })
+    ∷ Empty
+    ∷ Done
+    ∷ Disconnected
+    ∷ []
+
+abbrev pub texts : List Answer → List ℕ → List ℕ
+texts [] out = []
+texts (a ∷ l) out = answerText a out ++ texts l out

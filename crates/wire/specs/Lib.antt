@@ -1,0 +1,4 @@
+pub mod Record
+pub mod Text
+pub mod Stream
+pub mod Examples
