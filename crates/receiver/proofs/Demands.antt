@@ -28,7 +28,7 @@ use Rattle.receiver.proofs.CallLaws.{call-unmoved, output-unmoved, call
 use Rattle.receiver.proofs.Simulation.{stores-simulate}
 
 -- a lane's ring in the words is the ring that the rules see
-ring-seen : (t r : List ℕ) (k : LaneKey) → rules.ringOf (view t r) k ≡ itemsIn t r k
+pub ring-seen : (t r : List ℕ) (k : LaneKey) → rules.ringOf (view t r) k ≡ itemsIn t r k
 unfolding rules.ringOf hasLane itemsIn view slotAt vacant
 ring-seen t r k = go (ltb (k .slot) (issued t)) refl
   where

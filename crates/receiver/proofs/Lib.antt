@@ -21,6 +21,7 @@ pub mod TryRecvFromLaws
 pub mod HandsLaws
 pub mod KeysKept
 pub mod StaleNever
+pub mod TurnKeys
 pub mod ChannelKept
 pub mod TryRecvLaws
 pub mod TakeFairView
@@ -37,3 +38,8 @@ pub mod RefusedUnmoved
 pub mod CallLaws
 pub mod Simulation
 pub mod Demands
+pub mod RulesOnWords
+pub mod SlotsSeen
+pub mod DisconnectedOnWords
+pub mod FirstCursorSteps
+pub mod FirstCursorKept

@@ -112,12 +112,12 @@ nothing-taken-accepted t = go (eqb (livingCount t) 0) (eqb (laneCount (retireEmp
     go true false = refl
     go false c = refl
 
-answer-one-accepted : (channel : ℕ) (took : Took × List ℕ) → accepted ((answerOne channel took) .0) ≡ true
+pub answer-one-accepted : (channel : ℕ) (took : Took × List ℕ) → accepted ((answerOne channel took) .0) ≡ true
 unfolding answerOne accepted
 answer-one-accepted channel (Took.Item item k, t) = refl
 answer-one-accepted channel (Took.Nothing, t) = nothing-taken-accepted t
 
-take-from-accepted : (t r : List ℕ) (x : ℕ) → accepted ((takeFrom t r x) .0) ≡ true
+pub take-from-accepted : (t r : List ℕ) (x : ℕ) → accepted ((takeFrom t r x) .0) ≡ true
 unfolding takeFrom targetTook targetSettled accepted
 take-from-accepted t r x = go (refill (laneAt t x))
   where
@@ -154,7 +154,7 @@ answer-items-accepted limit n t = go (eqb n 0) (eqb limit 0)
     go false c = refl
 
 module _ (t r : List ℕ) (limit : ℕ) where
-  batch-accepted : accepted ((batchAnswer t r limit) .0) ≡ true
+  pub batch-accepted : accepted ((batchAnswer t r limit) .0) ≡ true
   unfolding batchAnswer
   batch-accepted = answer-items-accepted limit _ _
 

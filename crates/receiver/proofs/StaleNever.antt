@@ -1,10 +1,12 @@
 -- The Rust's arm `Stale` is for an entry of the queue whose key no lane has any more: its slot holds no lane, or a later one.
 -- From a store in order it never occurs. The port's queue has slots and no generations, so this has two parts:
--- a slot that stands in the queue holds a registered lane, and no call changes that lane's key. Turns of one receive leave a store in order each, and no
--- receive changes any generation (`receive-keeps-generations`), so both hold between two turns too.
+-- a slot that stands in the queue holds a registered lane, and no call changes that lane's key.
+-- The Rust's arm is inside the poll loop, after lanes that retired in the same call. `Turning` is what every turn of the loops starts from: it is what the
+-- contracts of `poll_front` and `look_front` require, and each leaves it. From it alone the front slot holds a registered lane that is named once
+-- (`stale-never-in-loop`, and after a turn `stale-never-next-turn`, `stale-never-next-look`). No turn changes a lane's key (TurnKeys.antt).
 -- Assumes nothing.
 use mathlib.Core.Path.{_≡_, refl, sym, ap, _∙_}
-use mathlib.Core.Bool.{false}
+use mathlib.Core.Bool.{Bool, false}
 use mathlib.Core.List.{List}
 use Prim.Native.Nat.{ℕ, zero, suc, _≤_, _<_}
 use native.Mathlib.Omega.{arith}
@@ -16,16 +18,22 @@ use Rattle.model.specs.declared.Answer.{Answer}
 use Rattle.model.specs.Lists.{count}
 use Rattle.model.specs.State.{Slot, State}
 use Rattle.model.specs.Rules.{outcome}
+use Rattle.model.proofs.Counting.{same-self}
 use Rattle.lane.specs.Table.{laneAt}
-use Rattle.ready.specs.Header.{issued}
-use Rattle.ready.specs.Queue.{queueOf}
+use Rattle.ready.specs.Header.{issued, queueCount}
+use Rattle.ready.specs.Queue.{queueOf, frontSlot}
 use Rattle.store.specs.View.{flag, slotAt, view}
 use Rattle.store.specs.Order.{StoreInOrder}
 use Rattle.store.specs.Words.{Words}
+use Rattle.receiver.specs.Turn.{Turning, pollFront}
+use Rattle.receiver.specs.Drain.{lookFront}
 use Rattle.receiver.specs.Target.{tryRecvFrom}
 use Rattle.store.proofs.ViewLaws.{slot-in}
 use Rattle.store.proofs.RefusalLaws.{seen}
 use Rattle.store.proofs.StoreLaws.{registered-seen}
+use Rattle.receiver.proofs.TurnLaws.{queue-is, front-issued, front-registered, front-alone}
+use Rattle.receiver.proofs.FrontLaws.{poll-front-turned}
+use Rattle.receiver.proofs.LookLaws.{look-front-looked}
 use Rattle.receiver.proofs.TryRecvFromLaws.{try-recv-from-keeps}
 use Rattle.receiver.proofs.KeysKept.{call-keeps-generation, call-keeps-issued}
 
@@ -94,3 +102,29 @@ module _ (t r : List ℕ) (c : Call) (w : Words) (o : StoreInOrder t r) (e : see
       key-by t (w .1) x
       (sym (generation-seen (w .1) (w .2) x still-issued) ∙ ap (λ (s : State). s .slotOf x .generation) state-after
       ∙ call-keeps-generation (view t r) c (o .ordered) x (registered-seen t r (o .stores) x (k .is-issued) (k .registered)) ∙ generation-seen t r x (k .is-issued))
+
+-- ---- in the loops
+
+-- what stands behind the front entry
+pub record FrontLane (t : List ℕ) : Type 0 where
+  pub is-issued : frontSlot t < issued t
+  pub registered : laneAt t (frontSlot t) .registered ≡ 1
+  pub queued : laneAt t (frontSlot t) .queued ≡ 1
+  -- it has one entry
+  pub once : count (frontSlot t) (queueOf t) ≡ 1
+
+-- where a turn starts
+pub stale-never-in-loop : (t : List ℕ) → Turning t → (queueCount t ≡ 0 → ⊥) → FrontLane t
+unfolding count
+stale-never-in-loop t k some =
+    let h = front-issued t k some in
+    let here = front-registered t k some in
+    let once : count (frontSlot t) (queueOf t) ≡ 1 = omega (arith, ap (count (frontSlot t)) (queue-is t k some), same-self (frontSlot t), front-alone t k some) in
+    record { is-issued = h; registered = here; queued = k .names .flagged (frontSlot t) h here ∙ once; once = once }
+
+-- so also where the next starts, after a lane that left or retired
+pub stale-never-next-turn : (t r : List ℕ) (fair : Bool) → Turning t → (queueCount ((pollFront t r fair) .1) ≡ 0 → ⊥) → FrontLane ((pollFront t r fair) .1)
+stale-never-next-turn t r fair k some = stale-never-in-loop ((pollFront t r fair) .1) (poll-front-turned t r fair k .keeps .turning) some
+
+pub stale-never-next-look : (t : List ℕ) → Turning t → (queueCount ((lookFront t) .1) ≡ 0 → ⊥) → FrontLane ((lookFront t) .1)
+stale-never-next-look t k some = stale-never-in-loop ((lookFront t) .1) (look-front-looked t k .keeps .turning) some

@@ -6,3 +6,6 @@ pub mod Hands
 pub mod Drain
 pub mod Runs
 pub mod Demands
+pub mod RulesOnWords
+pub mod DisconnectedOnWords
+pub mod FirstCursor

@@ -47,7 +47,7 @@ fn empty_or_drained(t: &mut [u64]) -> Answer
 }
 
 // Disconnected if no sender lives and no lane is registered; empty paused lanes do not hide that.
-pub fn nothing_taken(t: &mut [u64]) -> Answer
+pub(crate) fn nothing_taken(t: &mut [u64]) -> Answer
     requires { ⌜ Idle (now t) ⌝ }
     ensures { λ a. ⌜ (a, now (t .exit)) ≡ nothingTaken (now (t .entry)) ⌝ }
 {

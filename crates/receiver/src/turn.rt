@@ -26,7 +26,7 @@ pub enum Turn {
 }
 
 // A lane whose sender is dropped retires.
-pub fn retire_if(t: &mut [u64], l: Lane, dropped: bool)
+pub(crate) fn retire_if(t: &mut [u64], l: Lane, dropped: bool)
     requires { ⌜ Shaped (now t) × (l .key .slot < slots (now t)) × (freeCount (now t) < slots (now t)) × (0 < laneCount (now t)) ⌝ }
     ensures { λ _. ⌜ now (t .exit) ≡ retiredIf dropped (now (t .entry)) l ⌝ }
 {
@@ -126,7 +126,7 @@ fn poll_front(t: &mut [u64], r: &[u64], fair: bool) -> Turn
 }
 
 // Turn after turn, until a lane gives an item or none is queued.
-pub fn turns(t: &mut [u64], r: &[u64], fair: bool) -> Took
+pub(crate) fn turns(t: &mut [u64], r: &[u64], fair: bool) -> Took
     requires { ⌜ Turning (now t) × Ringed (now t) (now r) ⌝ }
     ensures { λ a. ⌜ (a, now (t .exit)) ≡ turns (now (t .entry)) (now (r .entry)) fair ⌝ }
 {

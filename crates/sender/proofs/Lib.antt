@@ -6,3 +6,4 @@ pub mod DropLaws
 pub mod RegisterLaws
 pub mod SenderLaws
 pub mod OpeningLaws
+pub mod FirstCursor

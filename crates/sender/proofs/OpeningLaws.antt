@@ -44,7 +44,7 @@ module _ (o : Opening) (t r : List ℕ) where
   abbrev pub lent : Lent
   lent = record { rings = length r; table = length t }
 
-  abbrev C : ℕ
+  abbrev pub C : ℕ
   C = nextPowerOfTwo (o .capacity)
 
   abbrev sizeTests : List (Bool × Refusal)
@@ -98,13 +98,13 @@ module _ (o : Opening) (t r : List ℕ) where
   -- ---- an opening that is accepted
 
   -- what its tests have told
-  record Accepted : Type 0 where
-    sized : Sized o
-    rings-room : o .slots * C ≤ length r
-    table-room : rowWords * o .slots + headerWords ≤ length t
-    leaves : openStore o t r ≡ (Done, putHeader t (openedHeader o C), r)
+  pub record Accepted : Type 0 where
+    pub sized : Sized o
+    pub rings-room : o .slots * C ≤ length r
+    pub table-room : rowWords * o .slots + headerWords ≤ length t
+    pub leaves : openStore o t r ≡ (Done, putHeader t (openedHeader o C), r)
 
-  accepted : (openStore o t r) .0 ≡ Done → Accepted
+  pub accepted : (openStore o t r) .0 ≡ Done → Accepted
   unfolding openStore openSized unlessRefused
   accepted e = go (sizesVerdict o) refl (storesVerdict (o .slots) C (length t) (length r)) refl e
     where
@@ -120,13 +120,13 @@ module _ (o : Opening) (t r : List ℕ) where
       go (Refuse why) a w b e = refused e
 
   module _ (a : Accepted) (e : (openStore o t r) .0 ≡ Done) where
-    abbrev u : List ℕ
+    abbrev pub u : List ℕ
     u = putHeader t (openedHeader o C)
 
     enough : cellAt 0 (o .slots) ≤ length t
     enough = omega (arith, a .table-room)
 
-    hd : (k : ℕ) → ltb k (length (headerList (openedHeader o C))) ≡ true → head u k ≡ getD (headerList (openedHeader o C)) k 0
+    pub hd : (k : ℕ) → ltb k (length (headerList (openedHeader o C))) ≡ true → head u k ≡ getD (headerList (openedHeader o C)) k 0
     hd = head-opened t o C (a .sized .slots-some) (a .sized .slots-most) enough
 
     none : issued u ≡ 0

@@ -1,0 +1,57 @@
+-- The two ways through a call that tests its stores first.
+-- Assumes nothing.
+use mathlib.Core.Path.{_≡_, _∙_, sym, ap}
+use mathlib.Core.Bool.{Bool, true, false, cond}
+use mathlib.Core.List.{List}
+use Prim.Native.Nat.{ℕ}
+use Rattle.model.specs.declared.Refusal.the-variants.{StoreNotInOrder}
+use Rattle.model.specs.declared.Answer.{Answer}
+use Rattle.model.specs.declared.Answer.the-variants.{Refused}
+use Rattle.model.proofs.Counting as counting
+use Rattle.store.specs.Order.{StoreInOrder}
+use Rattle.store.specs.Words.{Words}
+use Rattle.order.specs.InOrder.{inOrder}
+use Rattle.order.proofs.InOrderLaws.{in-order-holds, in-order-fails}
+use Rattle.fanring.specs.Checked.{checked, checkedInto}
+
+module _ (t r : List ℕ) where
+  -- on stores in order the first of two
+  pub if-in-order : {A : Type 0} → StoreInOrder t r → (x y : A) → cond (inOrder t r) x y ≡ x
+  if-in-order {A} o x y = ap (λ (b : Bool). cond {A = A} b x y) (in-order-holds t r o)
+
+  -- on others the second
+  pub unless-in-order : {A : Type 0} → (StoreInOrder t r → ⊥) → (x y : A) → cond (inOrder t r) x y ≡ y
+  unless-in-order {A} n x y = ap (λ (b : Bool). cond {A = A} b x y) (in-order-fails t r n)
+
+  pub checked-inner : StoreInOrder t r → (w : Words) → checked t r w ≡ w
+  unfolding checked
+  checked-inner o w = if-in-order o w _
+
+  pub checked-five : (StoreInOrder t r → ⊥) → (w : Words) → checked t r w ≡ (Refused StoreNotInOrder, t, r)
+  unfolding checked
+  checked-five n w = unless-in-order n w _
+
+-- what the test's answer tells
+abbrev pub Exactly : List ℕ → List ℕ → Bool → Type 0
+Exactly t r a = (a ≡ true → StoreInOrder t r) × (StoreInOrder t r → a ≡ true)
+
+module _ {t r : List ℕ} {a : Bool} (x : Exactly t r a) where
+  not-in-order : a ≡ false → StoreInOrder t r → ⊥
+  not-in-order e o = counting.no (x .1 o) e
+
+  -- a call returns its refusal
+  pub refuses : a ≡ false → (w : Words) → (Refused StoreNotInOrder, t, r) ≡ checked t r w
+  refuses e w = sym (checked-five t r (not-in-order e) w)
+
+  -- a call returns what the inner one left
+  pub passes : a ≡ true → {v w : Words} → v ≡ w → v ≡ checked t r w
+  passes e i = i ∙ sym (checked-inner t r (x .0 e) _)
+
+  -- the same of the batch, with its output
+  pub refuses-into : a ≡ false → (out : List ℕ) (w : Answer × List ℕ × List ℕ × List ℕ) → (Refused StoreNotInOrder, t, r, out) ≡ checkedInto t r out w
+  unfolding checkedInto
+  refuses-into e out w = sym (unless-in-order t r (not-in-order e) w _)
+
+  pub passes-into : a ≡ true → (out : List ℕ) {v w : Answer × List ℕ × List ℕ × List ℕ} → v ≡ w → v ≡ checkedInto t r out w
+  unfolding checkedInto
+  passes-into e out i = i ∙ sym (if-in-order t r (x .0 e) _ _)

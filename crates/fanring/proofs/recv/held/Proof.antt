@@ -1,0 +1,19 @@
+-- `fanring::recv::held` meets its contract.
+-- Assumes nothing.
+use borrow.Author.Tests.{not-true, not-false}
+use borrow.Author.Needs.{needs}
+use Rattle.fanring.proofs.CheckedLaws.{refuses, passes}
+use Rattle.fanring.proofs.recv.held.Statement.{statement}
+use Rattle.fanring.proofs.recv.held.Tie as tie
+
+returns : tie.Need-returns
+returns c = refuses (c .before .in-order .ensures) (not-true _ (c .if1 .taken)) _
+
+held-requires : tie.Need-held-requires
+held-requires c κs = c .before .in-order .ensures .0 (not-false _ (c .if1 .left))
+
+returns-2 : tie.Need-returns-2
+returns-2 c = passes (c .before .before .in-order .ensures) (not-false _ (c .before .if1 .left)) (c .held .ensures)
+
+pub held-spec : {M : Type 1} → statement M
+held-spec = tie.close (tie.spec (λ c κs. search needs) returns held-requires returns-2)

@@ -1,0 +1,56 @@
+// The receives in turn, held, and the receiver's end: src/mpsc/receiver.rs.
+ghost use mathlib.Core.Path.{_≡_};
+ghost use Rattle.control.specs.Control.{closeReceiver};
+ghost use Rattle.control.specs.Batch.{countHeld};
+ghost use Rattle.receiver.specs.Receive.{tryRecv, tryRecvFair};
+ghost use Rattle.fanring.specs.Checked.{checked};
+use model::Answer;
+use model::Refusal;
+
+// Receives one item, in bursts of at most 64 of a lane.
+pub fn try_recv(t: &mut [u64], r: &[u64]) -> Answer
+    ensures { λ a. ⌜ (a, now (t .exit), now (r .entry)) ≡ checked (now (t .entry)) (now (r .entry)) (tryRecv (now (t .entry)) (now (r .entry))) ⌝ }
+{
+    if !order::in_order(t, r) {
+        return Answer::Refused {
+            why: Refusal::StoreNotInOrder,
+        };
+    }
+    receiver::receiver::try_recv(t, r)
+}
+
+// Receives one item, with a look for ready lanes first and a rotation after.
+pub fn try_recv_fair(t: &mut [u64], r: &[u64]) -> Answer
+    ensures { λ a. ⌜ (a, now (t .exit), now (r .entry)) ≡ checked (now (t .entry)) (now (r .entry)) (tryRecvFair (now (t .entry)) (now (r .entry))) ⌝ }
+{
+    if !order::in_order(t, r) {
+        return Answer::Refused {
+            why: Refusal::StoreNotInOrder,
+        };
+    }
+    receiver::receiver::try_recv_fair(t, r)
+}
+
+// The number of items in the rings of registered lanes, also of a receiver that is closed.
+pub fn held(t: &[u64], r: &[u64]) -> Answer
+    ensures { λ a. ⌜ (a, now (t .entry), now (r .entry)) ≡ checked (now (t .entry)) (now (r .entry)) (countHeld (now (t .entry)) (now (r .entry))) ⌝ }
+{
+    if !order::in_order(t, r) {
+        return Answer::Refused {
+            why: Refusal::StoreNotInOrder,
+        };
+    }
+    control::batch::held(t, r)
+}
+
+// The receiver goes; its lanes stay as they are, and their senders find it closed.
+pub fn close_receiver(t: &mut [u64], r: &[u64]) -> Answer
+    ensures { λ a. ⌜ (a, now (t .exit), now (r .entry)) ≡ checked (now (t .entry)) (now (r .entry)) (closeReceiver (now (t .entry)) (now (r .entry))) ⌝ }
+{
+    if !order::in_order(t, r) {
+        return Answer::Refused {
+            why: Refusal::StoreNotInOrder,
+        };
+    }
+    control::lane_control::close_receiver(t, r)
+}

@@ -1,0 +1,99 @@
+-- The test at work: words that are in order, and changes of them that break a clause, most of them only the one named.
+-- Assumes nothing.
+use mathlib.Core.Path.{_≡_, refl}
+use mathlib.Core.Bool.{Bool, true, false, not}
+use mathlib.Core.List.{List, [], _∷_, _++_}
+use Prim.Native.Nat.{ℕ}
+use lib.ListN.{replicate, set, take}
+use Rattle.model.specs.Lists.{both, either, count, same, keep, from}
+use Rattle.model.specs.State.{releaseBatch}
+use Rattle.lane.specs.Table.{cellAt, laneAt}
+use Rattle.ready.specs.Queue.{queueOf}
+use Rattle.ready.specs.Registry.{freeOf}
+use Rattle.order.specs.Clauses.{registeredBelow, livingBelow}
+use Rattle.order.specs.InOrder.{allBelow, someBelow, capacityTest, lengthsTest, placesTest, limitsTest, headerTest, namesTest, cursorsTest, amountsTest, laneTest, fastTest, flagsTest, registeredTest, unregisteredTest, slotTest, slotsTest, countsTest, pageTest, groupTest, pagesTest, groupsTest, inOrder}
+
+-- slots 0 to 2 of 3 are issued, C is 2; the queue has slot 0, the free list slot 2; two lanes, one living sender
+abbrev pub header : List ℕ
+header = 3 ∷ 0 ∷ 1 ∷ 1 ∷ 3 ∷ 64 ∷ 0 ∷ 1 ∷ 2 ∷ 7 ∷ 0 ∷ 0 ∷ 0 ∷ 2 ∷ 1 ∷ []
+
+-- the front lane, with a window of 1 and one item more; page 0 has the bit of slot 1, group 0 that of page 0
+abbrev pub front : List ℕ
+front = 0 ∷ 2 ∷ 0 ∷ 0 ∷ 2 ∷ 1 ∷ 1 ∷ 1 ∷ 1 ∷ 1 ∷ 1 ∷ 0 ∷ 1 ∷ 1 ∷ 0 ∷ 2 ∷ 2 ∷ 1 ∷ replicate 6 0
+
+-- a pending lane that is not queued
+abbrev pub second : List ℕ
+second = 0 ∷ 1 ∷ 0 ∷ 0 ∷ 0 ∷ 0 ∷ 0 ∷ 0 ∷ 0 ∷ 1 ∷ 0 ∷ 0 ∷ 1 ∷ 0 ∷ replicate 10 0
+
+-- no lane
+abbrev pub third : List ℕ
+third = 5 ∷ replicate 23 0
+
+abbrev pub table : List ℕ
+table = header ++ replicate 497 0 ++ front ++ second ++ third
+
+abbrev pub rings : List ℕ
+rings = replicate 12 0
+
+-- one word of the table changed
+abbrev pub Change : Type 0
+Change = ℕ × ℕ
+
+-- the table with some words changed
+unfoldable pub changed : List ℕ → List Change → List ℕ
+changed t [] = t
+changed t (c ∷ cs) = changed (set t (c .0) (c .1)) cs
+
+-- none of the changed tables is in order
+unfoldable pub noneInOrder : List (List Change) → Bool
+noneInOrder [] = true
+noneInOrder (cs ∷ rest) = both (not (inOrder (changed table cs) rings)) (noneInOrder rest)
+
+abbrev pub headerChanges : List (List Change)
+headerChanges =
+    -- issued, the queue's front, S, the budget, the budget below the window
+    ((0, 4) ∷ []) ∷ ((1, 3) ∷ []) ∷ ((4, 0) ∷ []) ∷ ((5, 65) ∷ []) ∷ ((5, 0) ∷ [])
+    -- the group cursor, alive, a capacity that is no power of two, one too large for the rings, the first cursor
+    ∷ ((6, 2) ∷ []) ∷ ((7, 2) ∷ []) ∷ ((8, 3) ∷ []) ∷ ((8, 8) ∷ []) ∷ ((10, 18446744073709551616) ∷ [])
+    -- `fast_slot` that is no slot, that is not the front lane's; the two counts
+    ∷ ((12, 3) ∷ []) ∷ ((12, 1) ∷ []) ∷ ((13, 1) ∷ []) ∷ ((14, 2) ∷ []) ∷ []
+
+abbrev pub laneChanges : List (List Change)
+laneChanges =
+    -- the tail no u64, short of the known tail, too far from the released head
+    ((cellAt 1 0, 18446744073709551618) ∷ []) ∷ ((cellAt 1 0, 1) ∷ []) ∷ ((cellAt 1 0, 3) ∷ [])
+    -- the released head, the head, the known tail no u64
+    ∷ ((cellAt 2 1, 18446744073709551616) ∷ []) ∷ ((cellAt 3 1, 18446744073709551616) ∷ []) ∷ ((cellAt 4 1, 18446744073709551616) ∷ [])
+    -- cached, unreleased, the burst below the window, the burst above 63
+    ∷ ((cellAt 5 0, 2) ∷ []) ∷ ((cellAt 6 0, 0) ∷ []) ∷ ((cellAt 7 0, 0) ∷ []) ∷ ((cellAt 7 0, 64) ∷ [])
+    -- unreleased no longer below the batch
+    ∷ ((cellAt 1 1, 2) ∷ (cellAt 3 1, 2) ∷ (cellAt 4 1, 2) ∷ (cellAt 6 1, 2) ∷ [])
+    -- pending, queued, paused, registered, living no flags
+    ∷ ((cellAt 9 0, 2) ∷ []) ∷ ((cellAt 10 2, 2) ∷ []) ∷ ((cellAt 11 1, 2) ∷ []) ∷ ((cellAt 12 2, 2) ∷ []) ∷ ((cellAt 13 1, 2) ∷ [])
+    -- queued and not flagged, queued and paused, pending and not marked
+    ∷ ((cellAt 10 0, 0) ∷ []) ∷ ((cellAt 11 0, 1) ∷ []) ∷ ((cellAt 16 0, 4) ∷ [])
+    -- a window, at `fast_slot`, of a lane that is not the front one
+    ∷ (
+    (cellAt 5 0, 2) ∷ (cellAt 6 0, 0) ∷ (cellAt 8 0, 0) ∷ (cellAt 4 1, 1) ∷ (cellAt 6 1, 1) ∷ (cellAt 7 1, 1) ∷ (cellAt 8 1, 1) ∷ (12, 1) ∷ []
+    )
+    ∷ []
+
+abbrev pub listChanges : List (List Change)
+listChanges =
+    -- the queue names a slot without a lane, one slot twice, one not issued
+    ((2, 2) ∷ (cellAt 14 1, 2) ∷ []) ∷ ((2, 2) ∷ (cellAt 14 1, 0) ∷ []) ∷ ((2, 2) ∷ (cellAt 14 1, 3) ∷ [])
+    -- the free list names a slot with a lane, one slot twice, one not issued, one of the last generation
+    ∷ ((cellAt 15 0, 1) ∷ []) ∷ ((3, 2) ∷ (cellAt 15 1, 2) ∷ []) ∷ ((cellAt 15 0, 3) ∷ []) ∷ ((cellAt 0 2, 18446744073709551615) ∷ [])
+    -- a page's and a group's word no u64, a page bit of a slot not issued, a group bit missing, a group bit of a page that does not exist
+    ∷ ((cellAt 16 0, 18446744073709551618) ∷ []) ∷ ((cellAt 17 0, 18446744073709551617) ∷ [])
+    ∷ ((cellAt 16 0, 10) ∷ []) ∷ ((cellAt 17 0, 0) ∷ []) ∷ ((cellAt 17 0, 3) ∷ [])
+    ∷ []
+
+-- stores that are too short
+abbrev pub shortInOrder : Bool
+shortInOrder = either (inOrder (take 583 table) rings) (either (inOrder table (replicate 5 0)) (inOrder [] []))
+
+pub in-order-examples : (inOrder table rings ≡ true) × (shortInOrder ≡ false) × (noneInOrder headerChanges ≡ true) × (noneInOrder laneChanges ≡ true)
+    × (noneInOrder listChanges ≡ true)
+unfolding inOrder headerTest lengthsTest placesTest limitsTest capacityTest namesTest slotsTest slotTest flagsTest registeredTest unregisteredTest laneTest cursorsTest amountsTest fastTest countsTest pagesTest pageTest groupsTest groupTest allBelow someBelow registeredBelow livingBelow queueOf freeOf laneAt count same keep from releaseBatch noneInOrder changed
+in-order-examples = (refl, refl, refl, refl, refl)

@@ -1,0 +1,135 @@
+-- Laws of the test of a slot, and of the loop over all of them.
+-- Assumes nothing.
+use mathlib.Core.Path.{_≡_, refl, sym, ap, _∙_, subst}
+use mathlib.Core.Bool.{Bool}
+use mathlib.Core.List.{List, [], _∷_}
+use Prim.Native.Nat.{ℕ, zero, suc, _+_, _≤_, _<_}
+use native.Mathlib.Numerals.{add-one}
+use native.Mathlib.Omega.{arith}
+use borrow.Author.Count.{below-more}
+use lib.Dec.{eqb}
+use lib.ListN.{getD, length, take}
+use Rattle.lane.specs.declared.lane.Lane.{Lane}
+use Rattle.lane.specs.Lists.{tab}
+use Rattle.lane.specs.Table.{laneAt}
+use Rattle.ready.specs.Header.{Shaped, issued, queueCount, laneCount, livingCount}
+use Rattle.ready.specs.Queue.{queueOf, frontSlot}
+use Rattle.ready.proofs.QueueLaws.{queue-front}
+use Rattle.store.specs.View.{flag}
+use Rattle.store.specs.Order.{Flags}
+use Rattle.store.proofs.CountLaws.{one, passing-none, passing-more}
+use Rattle.store.proofs.StoreLaws.{one-flag}
+use Rattle.order.specs.Tells.{Tells}
+use Rattle.order.specs.Seen.{has}
+use Rattle.order.specs.Clauses.{RegisteredHolds, UnregisteredHolds, SlotHolds, SlotsHold, registeredBelow, livingBelow, CountsHold}
+use Rattle.order.proofs.TellsLaws.{tells-of, tells-eq}
+
+-- ---- the front of the queue
+
+module _ (t : List ℕ) where
+  pub no-front : {x : ℕ} → queueCount t ≡ 0 → take 1 (queueOf t) ≡ x ∷ [] → ⊥
+  unfolding queueOf
+  no-front {x} e p = go (queueCount t) _ e p
+    where
+      go : (n : ℕ) (f : ℕ → ℕ) → n ≡ 0 → take 1 (tab n f) ≡ x ∷ [] → ⊥
+      go zero f e p = let z : _≡_ {A = ℕ} 0 1 = ap length p in omega arith
+      go (suc n) f e p = absurd (omega arith)
+
+  module _ (s : Shaped t) (h : 0 < queueCount t) where
+    front-taken : take 1 (queueOf t) ≡ frontSlot t ∷ []
+    front-taken = ap (take 1) (queue-front t s h)
+
+    pub front-alone : {x : ℕ} → frontSlot t ≡ x → take 1 (queueOf t) ≡ x ∷ []
+    front-alone e = front-taken ∙ ap (λ (y : ℕ). y ∷ []) e
+
+    pub not-front : {x f : ℕ} → f ≡ frontSlot t → (f ≡ x → ⊥) → take 1 (queueOf t) ≡ x ∷ [] → ⊥
+    not-front e d p = d (e ∙ ap (λ (l : List ℕ). getD l 0 0) (sym front-taken ∙ p))
+
+-- ---- a slot, by its registered flag
+
+module _ (t : List ℕ) (l : Lane) (x queued free : ℕ) (o : Flags l) where
+  pub registered-tells : l .registered ≡ 1 → {a : Bool} → Tells (RegisteredHolds t l x queued free) a → Tells (SlotHolds t l x queued free) a
+  registered-tells e = tells-of (λ r. record { flags = o; registered = λ f. r; unregistered = λ f. absurd (omega arith) }) (λ p. p .registered e)
+
+  pub unregistered-tells : (l .registered ≡ 1 → ⊥) → {a : Bool} → Tells (UnregisteredHolds (l .key .generation) queued free) a
+      → Tells (SlotHolds t l x queued free) a
+  unregistered-tells d =
+      let e : l .registered ≡ 0 = omega (arith, d, o .registered-flag) in
+      tells-of (λ r. record { flags = o; registered = λ f. absurd (d f); unregistered = λ f. r }) (λ p. p .unregistered e)
+
+-- ---- the counts
+
+module _ (t : List ℕ) (k : ℕ) where
+  registered-more : Flags (laneAt t k) → registeredBelow t (k + 1) ≡ registeredBelow t k + laneAt t k .registered
+  unfolding registeredBelow
+  registered-more o =
+      rw (add-one k)
+      (passing-more (λ x. flag (laneAt t x .registered)) 0 k k (omega arith)
+      ∙ ap (λ (w : ℕ). registeredBelow t k + w) (one-flag (laneAt t k .registered) (o .registered-flag)))
+
+  living-more : Flags (laneAt t k) → livingBelow t (k + 1) ≡ livingBelow t k + laneAt t k .living
+  unfolding livingBelow
+  living-more o =
+      rw (add-one k)
+      (passing-more (λ x. flag (laneAt t x .living)) 0 k k (omega arith)
+      ∙ ap (λ (w : ℕ). livingBelow t k + w) (one-flag (laneAt t k .living) (o .living-flag)))
+
+-- ---- the loop: k slots hold, and have so many lanes and living senders
+
+pub record SlotScan (t queued free : List ℕ) (k lanes living : ℕ) : Type 0 where
+  pub below : k ≤ issued t
+  pub each : (x : ℕ) → x < k → SlotHolds t (laneAt t x) x (has queued x) (has free x)
+  pub lanes-is : lanes ≡ registeredBelow t k
+  pub living-is : living ≡ livingBelow t k
+  pub lanes-most : lanes ≤ k
+  pub living-most : living ≤ k
+
+module _ (t queued free : List ℕ) where
+  pub scan-start : SlotScan t queued free 0 0 0
+  unfolding registeredBelow livingBelow
+  scan-start =
+      record {
+        below = omega arith;
+        each = λ x h. absurd (omega arith);
+        lanes-is = sym (passing-none (λ x. flag (laneAt t x .registered)) 0);
+        living-is = sym (passing-none (λ x. flag (laneAt t x .living)) 0);
+        lanes-most = omega arith;
+        living-most = omega arith;
+      }
+
+  module _ {k : ℕ} {l : Lane} {q f : ℕ} (el : l ≡ laneAt t k) (eq : q ≡ has queued k) (ef : f ≡ has free k) where
+    pub here : {a : Bool} → Tells (SlotHolds t l k q f) a → Tells (SlotHolds t (laneAt t k) k (has queued k) (has free k)) a
+    here {a} h =
+        subst (λ (m : Lane). Tells (SlotHolds t m k (has queued k) (has free k)) a) el
+        (subst (λ (y : ℕ). Tells (SlotHolds t l k y (has free k)) a) eq (subst (λ (z : ℕ). Tells (SlotHolds t l k q z) a) ef h))
+
+    module _ {lanes living : ℕ} (o : SlotScan t queued free k lanes living) where
+      pub scan-next : k < issued t → SlotHolds t (laneAt t k) k (has queued k) (has free k)
+          → SlotScan t queued free (k + 1) (lanes + l .registered) (living + l .living)
+      scan-next h s =
+          let er : l .registered ≡ laneAt t k .registered = ap (λ (m : Lane). m .registered) el in
+          let ev : l .living ≡ laneAt t k .living = ap (λ (m : Lane). m .living) el in
+          record {
+            below = omega arith;
+            each = below-more _ _ (o .each) s;
+            lanes-is = omega (arith, o .lanes-is, registered-more t k (s .flags), er);
+            living-is = omega (arith, o .living-is, living-more t k (s .flags), ev);
+            lanes-most = omega (arith, o .lanes-most, s .flags .registered-flag, er);
+            living-most = omega (arith, o .living-most, s .flags .living-flag, ev);
+          }
+
+  module _ {k lanes living : ℕ} (o : SlotScan t queued free k lanes living) (h : issued t ≤ k) where
+    all : k ≡ issued t
+    all = omega (arith, o .below)
+
+    pub lanes-no : (lanes ≡ laneCount t → ⊥) → SlotsHold t (has queued) (has free) × CountsHold t → ⊥
+    lanes-no d p = d (o .lanes-is ∙ ap (registeredBelow t) all ∙ sym (p .1 .lanes))
+
+    pub living-tells : lanes ≡ laneCount t → Tells (SlotsHold t (has queued) (has free) × CountsHold t) (eqb living (livingCount t))
+    living-tells e =
+        tells-eq living (livingCount t)
+        (λ g. (
+          λ x l. o .each x (omega arith),
+          record { lanes = sym e ∙ o .lanes-is ∙ ap (registeredBelow t) all; living = sym g ∙ o .living-is ∙ ap (livingBelow t) all },
+        ))
+        (λ p. o .living-is ∙ ap (livingBelow t) all ∙ sym (p .1 .living))

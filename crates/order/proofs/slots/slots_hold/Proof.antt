@@ -1,0 +1,70 @@
+-- `order::slots::slots_hold` meets its contract.
+-- Assumes nothing.
+use Prim.Native.Nat.{_-_}
+use native.Mathlib.Omega.{arith}
+use borrow.Author.Tests.{not-true, not-false}
+use borrow.Author.Needs.{needs}
+use Rattle.order.specs.Tells.{no}
+use Rattle.order.proofs.TellsLaws.{told, untold}
+use Rattle.order.proofs.SlotLaws.{SlotScan, scan-start, here, scan-next, lanes-no, living-tells}
+use Rattle.order.proofs.slots.slots_hold.Statement.{statement}
+use Rattle.order.proofs.slots.slots_hold.Tie as tie
+
+abbrev Inv-loop : tie.InvT-loop
+Inv-loop t queued free batch n lanes₀ living₀ slot₀ lanes living slot = SlotScan t queued free slot lanes living
+
+abbrev μ-loop : tie.MeasureT-loop
+μ-loop t queued free batch n lanes₀ living₀ slot₀ lanes living slot = n - slot
+
+returns : tie.Need-returns Inv-loop μ-loop
+returns c =
+    no (λ p. untold (here _ _ _ (c .before .before .before .before .load .ensures) (c .before .before .before .has .ensures) (c .before .before .has2 .ensures) (c .before .slot-holds .ensures)) (not-true _ (c .if1 .taken)) (p .0 _ (c .before .before .before .before .before .loop-test .taken)))
+
+add-lanes : tie.Need-add-lanes Inv-loop μ-loop
+add-lanes c =
+    let s = told (c .before .before .slot-holds .ensures) (not-false _ (c .before .if1 .left)) in
+    omega (arith, s .flags .registered-flag, c .before .before .before .before .before .before .before .loop .inv .lanes-most, c .before .before .before .before .before .before .loop-test .taken, c .before .before .before .before .before .before .before .before .before .before .before .before .pre .0)
+
+add-living : tie.Need-add-living Inv-loop μ-loop
+add-living c =
+    let s = told (c .before .before .before .slot-holds .ensures) (not-false _ (c .before .before .if1 .left)) in
+    omega (arith, s .flags .living-flag, c .before .before .before .before .before .before .before .before .loop .inv .living-most, c .before .before .before .before .before .before .before .loop-test .taken, c .before .before .before .before .before .before .before .before .before .before .before .before .before .pre .0)
+
+add-slot : tie.Need-add-slot Inv-loop μ-loop
+add-slot c = omega (arith, c .before .before .before .before .before .before .before .loop-test .taken, c .before .before .before .before .before .before .before .before .before .before .before .before .before .pre .0)
+
+loop-again : tie.Need-loop-again Inv-loop μ-loop
+loop-again c =
+    let s = told (here _ _ _ (c .before .before .before .before .before .before .load .ensures) (c .before .before .before .before .before .has .ensures) (c .before .before .before .before .has2 .ensures) (c .before .before .before .slot-holds .ensures)) (not-false _ (c .before .before .if1 .left)) in
+    scan-next _ _ _ (c .before .before .before .before .before .before .load .ensures) (c .before .before .before .before .before .has .ensures) (c .before .before .before .before .has2 .ensures) (c .before .before .before .before .before .before .before .before .loop .inv) (c .before .before .before .before .before .before .before .loop-test .taken) s
+
+returns-2 : tie.Need-returns-2 Inv-loop μ-loop
+returns-2 c = no (lanes-no _ _ _ (c .before .before .before .loop .inv) (c .before .before .loop-test .left) (λ e. omega (arith, e, c .if2 .taken)))
+
+returns-3 : tie.Need-returns-3 Inv-loop μ-loop
+returns-3 c = living-tells _ _ _ (c .before .before .before .before .loop .inv) (c .before .before .before .loop-test .left) (omega (arith, c .before .if2 .left))
+
+pub slots-hold-spec : {M : Type 1} → statement M
+slots-hold-spec =
+    tie.close
+    (tie.spec
+    Inv-loop
+    μ-loop
+    (λ c. search needs)
+    (λ c κs. search needs)
+    (λ c. search needs)
+    (λ c. scan-start _ _ _)
+    (λ c κs. search needs)
+    (λ c κs. search needs)
+    (λ c κs. search needs)
+    (λ c κs. search needs)
+    returns
+    add-lanes
+    add-living
+    add-slot
+    (λ c. omega (arith, c .before .before .before .before .before .before .before .loop-test .taken))
+    loop-again
+    (λ c. search needs)
+    returns-2
+    (λ c. search needs)
+    returns-3)

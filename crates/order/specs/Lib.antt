@@ -1,0 +1,4 @@
+pub mod Tells
+pub mod Seen
+pub mod Clauses
+pub mod InOrder

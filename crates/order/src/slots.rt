@@ -1,0 +1,38 @@
+// All issued slots, each read once.
+ghost use Rattle.lane.specs.Cursor.{Capacity};
+ghost use Rattle.ready.specs.Header.{Shaped, capacity};
+ghost use Rattle.order.specs.Tells.{Tells};
+ghost use Rattle.order.specs.Seen.{has};
+ghost use Rattle.order.specs.Clauses.{SlotsHold, CountsHold};
+use crate::seen;
+use crate::slot as each;
+use lane::lane::Lane;
+use lane::release;
+use ready::header::Header;
+
+// Whether every issued slot is in order, and the counts of lanes and living senders are true.
+pub(crate) fn slots_hold(t: &[u64], queued: &[u64; 128], free: &[u64; 128]) -> bool
+    requires { ⌜ Shaped (now t) × Capacity (capacity (now t)) ⌝ }
+    ensures { λ a. ⌜ Tells (SlotsHold (now (t .entry)) (has (now (queued .entry))) (has (now (free .entry))) × CountsHold (now (t .entry))) a ⌝ }
+{
+    let batch = release::release_batch(t[Header::CAPACITY]);
+    let n = t[Header::ISSUED];
+    let mut lanes = 0;
+    let mut living = 0;
+    let mut slot = 0;
+    while slot < n {
+        let l = Lane::load(t, slot);
+        let q = seen::has(queued, slot as usize);
+        let f = seen::has(free, slot as usize);
+        if !each::slot_holds(t, l, slot, q, f, batch) {
+            return false;
+        }
+        lanes += l.registered;
+        living += l.living;
+        slot += 1;
+    }
+    if lanes != t[Header::LANES] {
+        return false;
+    }
+    living == t[Header::LIVING]
+}
