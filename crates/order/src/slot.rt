@@ -32,7 +32,10 @@ fn window_holds(t: &[u64], slot: u64, window: u64) -> bool
     if queue::front(t) != slot {
         return false;
     }
-    window <= t[Header::BUDGET]
+    if window > t[Header::BUDGET] {
+        return false;
+    }
+    true
 }
 
 // Whether the page bit is set of a lane that is pending, unpaused and unqueued.
