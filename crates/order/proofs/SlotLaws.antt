@@ -1,6 +1,6 @@
 -- Laws of the test of a slot, and of the loop over all of them.
 -- Assumes nothing.
-use mathlib.Core.Path.{_≡_, refl, sym, ap, _∙_, subst}
+use mathlib.Core.Path.{_≡_, sym, ap, _∙_, subst}
 use mathlib.Core.Bool.{Bool}
 use mathlib.Core.List.{List, [], _∷_}
 use Prim.Native.Nat.{ℕ, zero, suc, _+_, _≤_, _<_}
@@ -16,7 +16,7 @@ use Rattle.ready.specs.Queue.{queueOf, frontSlot}
 use Rattle.ready.proofs.QueueLaws.{queue-front}
 use Rattle.receiver.specs.View.{flag}
 use Rattle.receiver.specs.Order.{Flags}
-use Rattle.receiver.proofs.CountLaws.{one, passing-none, passing-more}
+use Rattle.receiver.proofs.CountLaws.{passing-none, passing-more}
 use Rattle.receiver.proofs.StoreLaws.{one-flag}
 use Rattle.order.specs.Tells.{Tells}
 use Rattle.order.specs.Seen.{has}
