@@ -3,10 +3,9 @@
 use mathlib.Core.Path.{_≡_, sym, subst}
 use mathlib.Core.Bool.{Bool, true, false}
 use mathlib.Core.List.{List}
-use Prim.Native.Nat.{ℕ, _<_}
+use Prim.Native.Nat.{ℕ}
 use Rattle.model.specs.Lists.{count}
 use Rattle.lane.specs.Table.{laneAt}
-use Rattle.ready.specs.Header.{issued}
 use Rattle.ready.specs.Queue.{queueOf}
 use Rattle.ready.specs.Registry.{freeOf}
 use Rattle.store.specs.Order.{StoreInOrder}

@@ -1,31 +1,29 @@
 -- The clauses together are a store in order.
 -- Assumes nothing.
-use mathlib.Core.Path.{_≡_, refl, sym, ap, ap₂, _∙_, subst}
-use mathlib.Core.Logic.{_≢_}
+use mathlib.Core.Path.{_≡_, refl, sym, _∙_, subst}
 use mathlib.Core.Bool.{Bool, true, false}
 use mathlib.Core.List.{List}
-use Prim.Native.Nat.{ℕ, zero, suc, _+_, _-_, _*_, _/_, _%_, _^_, _≤_, _<_}
+use Prim.Native.Nat.{ℕ, zero, suc, _+_, _-_, _*_, _/_, _%_, _≤_, _<_}
 use native.Mathlib.Omega.{arith}
 use borrow.Author.Tests.{eqb-true, eqb-false, eq-eqb, ne-eqb, ltb-true, ltb-false}
-use lib.Dec.{eqb, ltb}
-use Rattle.model.specs.Lists.{if, count}
-use Rattle.model.specs.State.{Slot, State, vacant, registeredLanes, livingSenders}
-use Rattle.model.specs.Order.{Ordered, SlotOrdered, Sizes}
+use lib.Dec.{ltb}
+use Rattle.model.specs.Lists.{count}
+use Rattle.model.specs.State.{vacant, registeredLanes, livingSenders}
+use Rattle.model.specs.Order.{Ordered, SlotOrdered}
 use Rattle.model.specs.Ready.{groupsIn}
 use Rattle.model.proofs.Counting.{no}
 use Rattle.lane.specs.declared.lane.Lane.{Lane}
 use Rattle.lane.specs.Order.{InOrder}
 use Rattle.lane.specs.Table.{laneAt}
-use Rattle.ready.specs.Header.{Shaped, issued, slots, budget, groupCursor, alive, capacity, firstCursor, fastSlot, laneCount, livingCount}
-use Rattle.ready.specs.Queue.{QueueNames, queueOf}
+use Rattle.ready.specs.Header.{Shaped, issued, budget, capacity, fastSlot}
+use Rattle.ready.specs.Queue.{queueOf}
 use Rattle.ready.specs.Registry.{freeOf}
-use Rattle.ready.specs.Bits.{bit}
-use Rattle.ready.specs.Ready.{pageWord, groupWord, pageBit, groupBit, nonZero, groupsOf, Linked}
+use Rattle.ready.specs.Ready.{Linked}
 use Rattle.store.specs.View.{flag, slotOf, slotAt, view}
 use Rattle.store.specs.Order.{Flag, Flags, Fast, MarkWords, Stores, StoreInOrder}
 use Rattle.store.proofs.ViewLaws.{slot-in, slot-out}
 use Rattle.store.proofs.CountLaws.{passing-same}
-use Rattle.order.specs.Clauses.{HeaderHolds, Names, RegisteredHolds, UnregisteredHolds, SlotHolds, SlotsHold, registeredBelow, livingBelow, CountsHold, PageHolds, GroupHolds, PagesHold, GroupsHold, Clauses}
+use Rattle.order.specs.Clauses.{HeaderHolds, SlotHolds, registeredBelow, livingBelow, PagesHold, GroupsHold, Clauses}
 
 -- ---- the header
 

@@ -1,16 +1,16 @@
 -- Laws of the test of a lane's record.
 -- Assumes nothing.
-use mathlib.Core.Path.{_≡_, sym, ap, ap₂, _∙_, subst}
+use mathlib.Core.Path.{_≡_}
 use mathlib.Core.Bool.{Bool}
-use Prim.Native.Nat.{ℕ, _+_, _-_, _^_, _≤_, _<_}
+use Prim.Native.Nat.{ℕ, _-_, _≤_, _<_}
 use native.Mathlib.Omega.{arith}
-use lib.Dec.{eqb, leb}
+use lib.Dec.{eqb}
 use Rattle.model.specs.State.{releaseBatch}
 use Rattle.lane.specs.declared.lane.Lane.{Lane}
 use Rattle.lane.specs.Cursor.{distance}
 use Rattle.lane.specs.Order.{Cursors, Counts, InOrder}
 use Rattle.order.specs.Tells.{Tells}
-use Rattle.order.proofs.TellsLaws.{tells-of, tells-eq, tells-le}
+use Rattle.order.proofs.TellsLaws.{tells-of, tells-eq}
 
 module _ {batch taken ahead cached unreleased burst window : ℕ} where
   pub cached-no : (cached ≡ ahead - window → ⊥) → Counts batch taken ahead cached unreleased burst window → ⊥

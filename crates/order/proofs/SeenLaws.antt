@@ -1,8 +1,7 @@
 -- Laws of the bitmap, and of a loop that notes the slots of a list in it.
 -- Assumes nothing.
-use mathlib.Core.Path.{_≡_, refl, sym, ap, _∙_}
-use mathlib.Core.Bool.{Bool, true, false}
-use mathlib.Core.List.{List, [], _∷_}
+use mathlib.Core.Path.{_≡_, refl, ap, _∙_}
+use mathlib.Core.List.{List}
 use Prim.Native.Nat.{ℕ, zero, suc, _+_, _*_, _/_, _%_, _^_, _≤_, _<_}
 use native.Mathlib.Nat.{mod-lt, zero-lt-suc}
 use native.Mathlib.Numerals.{add-one}
@@ -11,11 +10,10 @@ use lib.ListN.{length, getD, set, replicate, length-set}
 use lib.Bits.{bitOr}
 use lib.Seq.{getD-set-same, getD-set-other}
 use Rattle.model.specs.Lists.{count, same}
-use Rattle.model.proofs.Counting.{Same, equal, other, same?, same-self}
+use Rattle.model.proofs.Counting.{equal, other, same?, same-self}
 use Rattle.lane.specs.Lists.{tab}
 use Rattle.ready.specs.Bits.{bit}
 use Rattle.ready.proofs.BitLaws.{bit-set-same, bit-set-other, bit-zero, one-shl}
-use Rattle.order.specs.Tells.{Tells, yes, no}
 use Rattle.order.specs.Seen.{has, added, Seen}
 use Rattle.order.specs.Clauses.{Names}
 

@@ -1,13 +1,12 @@
 -- Laws of the test of a slot, and of the loop over all of them.
 -- Assumes nothing.
-use mathlib.Core.Path.{_≡_, refl, sym, ap, _∙_, subst}
+use mathlib.Core.Path.{_≡_, sym, ap, _∙_, subst}
 use mathlib.Core.Bool.{Bool}
 use mathlib.Core.List.{List, [], _∷_}
 use Prim.Native.Nat.{ℕ, zero, suc, _+_, _≤_, _<_}
 use native.Mathlib.Numerals.{add-one}
 use native.Mathlib.Omega.{arith}
 use borrow.Author.Count.{below-more}
-use lib.Dec.{eqb}
 use lib.ListN.{getD, length, take}
 use Rattle.lane.specs.declared.lane.Lane.{Lane}
 use Rattle.lane.specs.Lists.{tab}
@@ -17,12 +16,12 @@ use Rattle.ready.specs.Queue.{queueOf, frontSlot}
 use Rattle.ready.proofs.QueueLaws.{queue-front}
 use Rattle.store.specs.View.{flag}
 use Rattle.store.specs.Order.{Flags}
-use Rattle.store.proofs.CountLaws.{one, passing-none, passing-more}
+use Rattle.store.proofs.CountLaws.{passing-none, passing-more}
 use Rattle.store.proofs.StoreLaws.{one-flag}
 use Rattle.order.specs.Tells.{Tells}
 use Rattle.order.specs.Seen.{has}
 use Rattle.order.specs.Clauses.{RegisteredHolds, UnregisteredHolds, SlotHolds, SlotsHold, registeredBelow, livingBelow, CountsHold}
-use Rattle.order.proofs.TellsLaws.{tells-of, tells-eq}
+use Rattle.order.proofs.TellsLaws.{tells-of}
 
 -- ---- the front of the queue
 
@@ -125,11 +124,11 @@ module _ (t queued free : List ℕ) where
     pub lanes-no : (lanes ≡ laneCount t → ⊥) → SlotsHold t (has queued) (has free) × CountsHold t → ⊥
     lanes-no d p = d (o .lanes-is ∙ ap (registeredBelow t) all ∙ sym (p .1 .lanes))
 
-    pub living-tells : lanes ≡ laneCount t → Tells (SlotsHold t (has queued) (has free) × CountsHold t) (eqb living (livingCount t))
-    living-tells e =
-        tells-eq living (livingCount t)
-        (λ g. (
-          λ x l. o .each x (omega arith),
-          record { lanes = sym e ∙ o .lanes-is ∙ ap (registeredBelow t) all; living = sym g ∙ o .living-is ∙ ap (livingBelow t) all },
-        ))
-        (λ p. o .living-is ∙ ap (livingBelow t) all ∙ sym (p .1 .living))
+    pub living-no : (living ≡ livingCount t → ⊥) → SlotsHold t (has queued) (has free) × CountsHold t → ⊥
+    living-no d p = d (o .living-is ∙ ap (livingBelow t) all ∙ sym (p .1 .living))
+
+    pub scan-all : lanes ≡ laneCount t → living ≡ livingCount t → SlotsHold t (has queued) (has free) × CountsHold t
+    scan-all e g = (
+      λ x l. o .each x (omega arith),
+      record { lanes = sym e ∙ o .lanes-is ∙ ap (registeredBelow t) all; living = sym g ∙ o .living-is ∙ ap (livingBelow t) all },
+    )

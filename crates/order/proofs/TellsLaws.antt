@@ -1,8 +1,8 @@
--- Laws of tests: what an answer tells, tests put together, and a loop that tests each number below a bound.
+-- Laws of tests: what an answer tells, and tests put together.
 -- Assumes nothing.
-use mathlib.Core.Path.{_≡_, refl, sym, subst}
-use mathlib.Core.Bool.{Bool, true, false, not}
-use Prim.Native.Nat.{ℕ, _+_, _≤_, _<_}
+use mathlib.Core.Path.{_≡_, refl}
+use mathlib.Core.Bool.{Bool, true, false}
+use Prim.Native.Nat.{ℕ, _≤_, _<_}
 use native.Mathlib.Omega.{arith}
 use borrow.Author.Tests.{ltb-true, ltb-false, leb-true, leb-false, eqb-true, eqb-false}
 use lib.Dec.{ltb, leb, eqb}
@@ -47,19 +47,3 @@ tells-eq {P} m n f g = go (eqb m n) refl
     go : (a : Bool) → eqb m n ≡ a → Tells P a
     go true e = yes (f (eqb-true m n e))
     go false e = no (λ p. eqb-false m n e (g p))
-
-pub tells-ne : {P : Type 0} (m n : ℕ) → ((m ≡ n → ⊥) → P) → (P → m ≡ n → ⊥) → Tells P (not (eqb m n))
-tells-ne {P} m n f g = go (eqb m n) refl
-  where
-    go : (a : Bool) → eqb m n ≡ a → Tells P (not a)
-    go true e = no (λ p. g p (eqb-true m n e))
-    go false e = yes (f (eqb-false m n e))
-
--- ---- a loop that tests each k below n, and stops at the first that fails
-
-module _ {P : ℕ → Type 0} {n i : ℕ} where
-  pub all-no : {a : Bool} → i < n → Tells (P i) a → a ≡ false → Tells ((k : ℕ) → k < n → P k) false
-  all-no h t e = no (λ p. untold t e (p i h))
-
-  pub all-yes : ((k : ℕ) → k < i → P k) → n ≤ i → Tells ((k : ℕ) → k < n → P k) true
-  all-yes p h = yes (λ k l. p k (omega arith))

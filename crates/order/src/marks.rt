@@ -1,6 +1,6 @@
 // The words of the pages and groups that exist.
 ghost use mathlib.Core.Path.{_≡_};
-ghost use Prim.Native.Nat.{ℕ, _*_, _≤_, _<_};
+ghost use Prim.Native.Nat.{ℕ, _*_, _<_};
 ghost use Rattle.ready.specs.Header.{Shaped, issued};
 ghost use Rattle.ready.specs.Bits.{bit};
 ghost use Rattle.ready.specs.Ready.{nonZero};

@@ -2,7 +2,6 @@
 ghost use mathlib.Core.Path.{_≡_};
 ghost use Prim.Native.Nat.{_≤_, _<_};
 ghost use Rattle.model.specs.State.{releaseBatch};
-ghost use Rattle.lane.specs.Cursor.{Capacity};
 ghost use Rattle.ready.specs.Header.{Shaped, issued, capacity, fastSlot, budget};
 ghost use Rattle.ready.specs.Queue.{queueOf};
 ghost use Rattle.ready.specs.Ready.{pageBit};
@@ -32,7 +31,10 @@ fn window_holds(t: &[u64], slot: u64, window: u64) -> bool
     if queue::front(t) != slot {
         return false;
     }
-    window <= t[Header::BUDGET]
+    if window > t[Header::BUDGET] {
+        return false;
+    }
+    true
 }
 
 // Whether the page bit is set of a lane that is pending, unpaused and unqueued.
@@ -86,16 +88,20 @@ fn registered_holds(t: &[u64], l: Lane, slot: u64, queued: u64, free: u64, batch
     record::lane_holds(l, t[Header::CAPACITY], batch)
 }
 
-fn unregistered_holds(generation: u64, queued: u64, free: u64) -> bool
-    ensures { λ a. ⌜ Tells (UnregisteredHolds generation queued free) a ⌝ }
+// The slot stands `named` times in the queue.
+fn unregistered_holds(generation: u64, named: u64, free: u64) -> bool
+    ensures { λ a. ⌜ Tells (UnregisteredHolds generation named free) a ⌝ }
 {
-    if queued != 0 {
+    if named != 0 {
         return false;
     }
     if free == 0 {
         return true;
     }
-    generation != 18446744073709551615
+    if generation == 18446744073709551615 {
+        return false;
+    }
+    true
 }
 
 // The slot stands `queued` times in the queue and `free` times in the free list.

@@ -34,5 +34,8 @@ pub(crate) fn slots_hold(t: &[u64], queued: &[u64; 128], free: &[u64; 128]) -> b
     if lanes != t[Header::LANES] {
         return false;
     }
-    living == t[Header::LIVING]
+    if living != t[Header::LIVING] {
+        return false;
+    }
+    true
 }

@@ -1,8 +1,7 @@
 -- `order::slot::mark_holds` meets its contract.
 -- Assumes nothing.
-use Prim.Native.Nat.{ℕ, _%_}
+use Prim.Native.Nat.{_%_}
 use mathlib.Core.Path.{_∙_, sym, ap}
-use native.Mathlib.Omega.{arith}
 use borrow.Author.Needs.{needs}
 use Rattle.ready.specs.declared.ready.Page.{Page}
 use Rattle.ready.specs.Bits.{bit}

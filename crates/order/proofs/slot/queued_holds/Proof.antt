@@ -1,7 +1,6 @@
 -- `order::slot::queued_holds` meets its contract.
 -- Assumes nothing.
 use native.Mathlib.Omega.{arith}
-use borrow.Author.Needs.{needs}
 use Rattle.order.specs.Tells.{yes, no}
 use Rattle.order.proofs.TellsLaws.{tells-eq}
 use Rattle.order.proofs.slot.queued_holds.Statement.{statement}

@@ -1,6 +1,5 @@
 -- `order::slot::slot_holds` meets its contract.
 -- Assumes nothing.
-use native.Mathlib.Omega.{arith}
 use borrow.Author.Tests.{not-true, not-false}
 use borrow.Author.Needs.{needs}
 use Rattle.order.specs.Tells.{no}

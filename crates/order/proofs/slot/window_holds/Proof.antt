@@ -4,7 +4,6 @@ use mathlib.Core.Path.{_∙_, sym}
 use native.Mathlib.Omega.{arith}
 use borrow.Author.Needs.{needs}
 use Rattle.order.specs.Tells.{yes, no}
-use Rattle.order.proofs.TellsLaws.{tells-le}
 use Rattle.order.proofs.SlotLaws.{front-alone, no-front, not-front}
 use Rattle.order.proofs.slot.window_holds.Statement.{statement}
 use Rattle.order.proofs.slot.window_holds.Tie as tie
@@ -19,14 +18,16 @@ returns-4 : tie.Need-returns-4
 returns-4 c = no (λ p. not-front _ (c .before .before .before .before .before .before .before .before .pre) (omega (arith, c .before .before .if3 .left)) (c .before .front .ensures) (λ e. omega (arith, e, c .if4 .taken)) (p (omega (arith, c .before .before .before .before .before .before .if1 .left)) .in-front))
 
 returns-5 : tie.Need-returns-5
-returns-5 c =
-    tells-le _ _
-    (λ e h. record {
-      at-fast = omega (arith, c .before .before .before .before .before .if2 .left);
-      in-front = front-alone _ (c .before .before .before .before .before .before .before .before .before .pre) (omega (arith, c .before .before .before .if3 .left)) (sym (c .before .before .front .ensures) ∙ omega (arith, c .before .if4 .left));
-      within = omega (arith, e);
+returns-5 c = no (λ p. omega (arith, p (omega (arith, c .before .before .before .before .before .before .before .before .if1 .left)) .within, c .if5 .taken))
+
+returns-6 : tie.Need-returns-6
+returns-6 c =
+    yes
+    (λ h. record {
+      at-fast = omega (arith, c .before .before .before .before .before .before .if2 .left);
+      in-front = front-alone _ (c .before .before .before .before .before .before .before .before .before .before .pre) (omega (arith, c .before .before .before .before .if3 .left)) (sym (c .before .before .before .front .ensures) ∙ omega (arith, c .before .before .if4 .left));
+      within = omega (arith, c .if5 .left);
     })
-    (λ p. p (omega (arith, c .before .before .before .before .before .before .before .if1 .left)) .within)
 
 pub window-holds-spec : {M : Type 1} → statement M
 window-holds-spec =
@@ -40,4 +41,5 @@ window-holds-spec =
     (λ c κs. search needs)
     returns-4
     (λ c. search needs)
-    returns-5)
+    returns-5
+    returns-6)

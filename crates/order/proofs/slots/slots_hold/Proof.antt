@@ -4,9 +4,9 @@ use Prim.Native.Nat.{_-_}
 use native.Mathlib.Omega.{arith}
 use borrow.Author.Tests.{not-true, not-false}
 use borrow.Author.Needs.{needs}
-use Rattle.order.specs.Tells.{no}
+use Rattle.order.specs.Tells.{yes, no}
 use Rattle.order.proofs.TellsLaws.{told, untold}
-use Rattle.order.proofs.SlotLaws.{SlotScan, scan-start, here, scan-next, lanes-no, living-tells}
+use Rattle.order.proofs.SlotLaws.{SlotScan, scan-start, here, scan-next, lanes-no, living-no, scan-all}
 use Rattle.order.proofs.slots.slots_hold.Statement.{statement}
 use Rattle.order.proofs.slots.slots_hold.Tie as tie
 
@@ -42,7 +42,10 @@ returns-2 : tie.Need-returns-2 Inv-loop μ-loop
 returns-2 c = no (lanes-no _ _ _ (c .before .before .before .loop .inv) (c .before .before .loop-test .left) (λ e. omega (arith, e, c .if2 .taken)))
 
 returns-3 : tie.Need-returns-3 Inv-loop μ-loop
-returns-3 c = living-tells _ _ _ (c .before .before .before .before .loop .inv) (c .before .before .before .loop-test .left) (omega (arith, c .before .if2 .left))
+returns-3 c = no (living-no _ _ _ (c .before .before .before .before .before .loop .inv) (c .before .before .before .before .loop-test .left) (λ e. omega (arith, e, c .if3 .taken)))
+
+returns-4 : tie.Need-returns-4 Inv-loop μ-loop
+returns-4 c = yes (scan-all _ _ _ (c .before .before .before .before .before .loop .inv) (c .before .before .before .before .loop-test .left) (omega (arith, c .before .before .if2 .left)) (omega (arith, c .if3 .left)))
 
 pub slots-hold-spec : {M : Type 1} → statement M
 slots-hold-spec =
@@ -67,4 +70,5 @@ slots-hold-spec =
     (λ c. search needs)
     returns-2
     (λ c. search needs)
-    returns-3)
+    returns-3
+    returns-4)
