@@ -99,7 +99,7 @@ fn refresh_active(t: &mut [u64]) -> Front
     }
 }
 
-// The budget that a chunk is charged to. Where it is 0 the Rust would subtract from 0.
+// The budget that a chunk is charged to. Where it is 0 the Rust takes a chunk of no items, and sets it to 64 in its next round.
 fn full_budget(budget: u64) -> u64
     ensures { λ r. ⌜ r ≡ fullBudget budget ⌝ }
 {

@@ -1,4 +1,4 @@
-// A lane's signal: `mark_ready` of src/ready.rs, where it was idle.
+// A lane's signal: `mark_ready` of src/mpsc.rs, where it was idle.
 ghost use mathlib.Core.Path.{_≡_};
 ghost use Prim.Native.Nat.{_<_};
 ghost use Rattle.ready.specs.Header.{Shaped, slots};
