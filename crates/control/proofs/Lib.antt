@@ -1,11 +1,6 @@
-pub mod ControlBounds
 pub mod ResumeCases
-pub mod SlotLoops
 pub mod CloseReceiverLaws
-pub mod CountHeldLaws
 pub mod PauseLaws
 pub mod ResumeLaws
 pub mod CloseLaneLaws
-pub mod ReleaseConsumedLaws
-pub mod PollAllLaws
 pub mod ControlLaws

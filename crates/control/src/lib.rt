@@ -1,3 +1,2 @@
 // The receiver calls that hand nothing out, on a store in order.
-pub mod batch;
 pub mod lane_control;

@@ -16,7 +16,7 @@ use Rattle.model.specs.declared.Answer.the-variants.{Refused}
 use Rattle.model.specs.Demand2.{HasRoom}
 use Rattle.store.specs.Order.{StoreInOrder}
 use Rattle.store.specs.Words.{Words}
-use Rattle.receiver.specs.Drain.{batchInto}
+use Rattle.bulk.specs.Drain.{batchInto}
 use Rattle.receiver.specs.Runs.{receiveWords, callWords, handsWords, outputWords}
 use Rattle.receiver.proofs.RefusedUnmoved.{Unmoved}
 use Rattle.receiver.proofs.CallLaws.{call-unmoved, output-unmoved, call-keeps}

@@ -11,10 +11,10 @@ use Rattle.model.specs.declared.ControlCall.the-variants.{Pause, Resume, CloseL
 use Rattle.model.specs.declared.Call.the-variants.{Sender, Receive, Control}
 use Rattle.sender.specs.Sender.{registerSender, trySend, trySendUnsignaled, dropSender, senderWords}
 use Rattle.control.specs.Control.{pause, resume, closeLane, closeReceiver}
-use Rattle.control.specs.Batch.{releaseConsumed, pollAllLanes, countHeld}
+use Rattle.walk.specs.Batch.{releaseConsumed, pollAllLanes, countHeld}
 use Rattle.control.specs.Calls.{controlWords}
-use Rattle.receiver.specs.Receive.{tryRecv, tryRecvFair}
-use Rattle.receiver.specs.Target.{tryRecvFrom}
+use Rattle.receives.specs.Receive.{tryRecv, tryRecvFair}
+use Rattle.receives.specs.Target.{tryRecvFrom}
 use Rattle.receiver.specs.Runs.{receiveWords, callWords}
 use Rattle.fanring.specs.Checked.{checked}
 use Rattle.fanring.specs.Runs.{checkedWords}

@@ -14,8 +14,8 @@ use Rattle.model.proofs.Words.{words-demand2, words-demand3, words-none-after-c
 use Rattle.store.specs.Order.{StoreInOrder}
 use Rattle.store.specs.Words.{Words}
 use Rattle.store.proofs.RefusalLaws.{seen}
-use Rattle.sender.specs.Opening.{openStore}
-use Rattle.sender.proofs.OpeningLaws.{open-in-order}
+use Rattle.opening.specs.Opening.{openStore}
+use Rattle.opening.proofs.OpeningLaws.{open-in-order}
 use Rattle.receiver.proofs.RefusedUnmoved.{Unmoved, open-unmoved}
 use Rattle.receiver.proofs.CallLaws.{call-alike}
 use Rattle.receiver.proofs.Demands.{ring-seen}

@@ -36,11 +36,11 @@ use Rattle.store.specs.Refusal.{senderVerdict, closedVerdict, receiverVerdict, 
 use Rattle.store.specs.Words.{Words, unlessRefused}
 use Rattle.sender.specs.Sender.{sendSignaled, takenSignaled, sendUnsignaled, trySend, trySendUnsignaled, dropSender, unusedVerdict, olderVerdict, slotVerdict, registerVerdict, registerSender, senderWords}
 use Rattle.control.specs.Control.{pause, resume, closeLane, closeReceiver}
-use Rattle.control.specs.Batch.{releaseConsumed, pollAllLanes, countHeld}
+use Rattle.walk.specs.Batch.{releaseConsumed, pollAllLanes, countHeld}
 use Rattle.control.specs.Calls.{controlWords}
-use Rattle.receiver.specs.Receive.{tryRecv, tryRecvFair}
-use Rattle.receiver.specs.Drain.{roomVerdict, batchVerdict, tryRecvBatchInto}
-use Rattle.receiver.specs.Target.{tryRecvFrom}
+use Rattle.receives.specs.Receive.{tryRecv, tryRecvFair}
+use Rattle.bulk.specs.Drain.{roomVerdict, batchVerdict, tryRecvBatchInto}
+use Rattle.receives.specs.Target.{tryRecvFrom}
 use Rattle.receiver.specs.Runs.{receiveWords, callWords}
 use Rattle.receiver.proofs.RefusedUnmoved.{answer-one-accepted, take-from-accepted, batch-accepted}
 

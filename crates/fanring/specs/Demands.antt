@@ -22,7 +22,7 @@ use Rattle.model.specs.Closed.{NoneAfterCloseIn}
 use Rattle.model.specs.Held.{HeldAsCountedIn}
 use Rattle.store.specs.View.{view}
 use Rattle.store.specs.Order.{StoreInOrder}
-use Rattle.sender.specs.Opening.{openStore}
+use Rattle.opening.specs.Opening.{openStore}
 use Rattle.receiver.specs.Demands.{itemsIn}
 use Rattle.fanring.specs.Runs.{checkedWords, checkedOutput, theCalls}
 

@@ -9,7 +9,7 @@ use Rattle.model.specs.declared.ReceiveCall.{ReceiveCall}
 use Rattle.model.specs.declared.Call.{Call}
 use Rattle.model.specs.Runs.{Rules}
 use Rattle.store.specs.Words.{Words}
-use Rattle.sender.specs.Opening.{openStore}
+use Rattle.opening.specs.Opening.{openStore}
 use Rattle.receiver.specs.Runs.{callWords, handsWords, outputWords}
 use Rattle.order.specs.InOrder.{inOrder}
 use Rattle.fanring.specs.Checked.{checked}

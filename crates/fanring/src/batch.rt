@@ -1,7 +1,7 @@
 // The batch, credit given back, and poll all lanes: src/mpsc/receiver/batch.rs.
 ghost use mathlib.Core.Path.{_≡_};
-ghost use Rattle.control.specs.Batch.{releaseConsumed, pollAllLanes};
-ghost use Rattle.receiver.specs.Drain.{batchInto};
+ghost use Rattle.walk.specs.Batch.{releaseConsumed, pollAllLanes};
+ghost use Rattle.bulk.specs.Drain.{batchInto};
 ghost use Rattle.fanring.specs.Checked.{checked, checkedInto};
 use model::Answer;
 use model::Refusal;
@@ -15,7 +15,7 @@ pub fn try_recv_batch_into(t: &mut [u64], r: &[u64], out: &mut [u64], limit: u64
             why: Refusal::StoreNotInOrder,
         };
     }
-    receiver::drain::try_recv_batch_into(t, r, out, limit)
+    bulk::drain::try_recv_batch_into(t, r, out, limit)
 }
 
 // Gives back the places of all items that were handed out.
@@ -27,7 +27,7 @@ pub fn release_consumed(t: &mut [u64], r: &[u64]) -> Answer
             why: Refusal::StoreNotInOrder,
         };
     }
-    control::batch::release_consumed(t, r)
+    walk::batch::release_consumed(t, r)
 }
 
 // Queues every lane that is neither queued nor paused, so that items sent without a signal are found.
@@ -39,5 +39,5 @@ pub fn poll_all_lanes(t: &mut [u64], r: &[u64]) -> Answer
             why: Refusal::StoreNotInOrder,
         };
     }
-    control::batch::poll_all_lanes(t, r)
+    walk::batch::poll_all_lanes(t, r)
 }

@@ -1,6 +1,6 @@
 // Opening and registering: src/mpsc.rs.
 ghost use mathlib.Core.Path.{_≡_};
-ghost use Rattle.sender.specs.Opening.{openStore};
+ghost use Rattle.opening.specs.Opening.{openStore};
 ghost use Rattle.sender.specs.Sender.{registerSender};
 ghost use Rattle.fanring.specs.Checked.{checked};
 use model::Answer;
@@ -11,7 +11,7 @@ use model::Refusal;
 pub fn open(opening: Opening, t: &mut [u64], r: &[u64]) -> Answer
     ensures { λ a. ⌜ (a, now (t .exit), now (r .entry)) ≡ openStore opening (now (t .entry)) (now (r .entry)) ⌝ }
 {
-    sender::mpsc::open(opening, t, r)
+    opening::mpsc::open(opening, t, r)
 }
 
 // Registers a sender: the slot freed last, or else the next unused one, gets a new lane.

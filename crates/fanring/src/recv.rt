@@ -1,8 +1,8 @@
 // The receives in turn, held, and the receiver's end: src/mpsc/receiver.rs.
 ghost use mathlib.Core.Path.{_≡_};
 ghost use Rattle.control.specs.Control.{closeReceiver};
-ghost use Rattle.control.specs.Batch.{countHeld};
-ghost use Rattle.receiver.specs.Receive.{tryRecv, tryRecvFair};
+ghost use Rattle.walk.specs.Batch.{countHeld};
+ghost use Rattle.receives.specs.Receive.{tryRecv, tryRecvFair};
 ghost use Rattle.fanring.specs.Checked.{checked};
 use model::Answer;
 use model::Refusal;
@@ -16,7 +16,7 @@ pub fn try_recv(t: &mut [u64], r: &[u64]) -> Answer
             why: Refusal::StoreNotInOrder,
         };
     }
-    receiver::receiver::try_recv(t, r)
+    receives::receiver::try_recv(t, r)
 }
 
 // Receives one item, with a look for ready lanes first and a rotation after.
@@ -28,7 +28,7 @@ pub fn try_recv_fair(t: &mut [u64], r: &[u64]) -> Answer
             why: Refusal::StoreNotInOrder,
         };
     }
-    receiver::receiver::try_recv_fair(t, r)
+    receives::receiver::try_recv_fair(t, r)
 }
 
 // The number of items in the rings of registered lanes, also of a receiver that is closed.
@@ -40,7 +40,7 @@ pub fn held(t: &[u64], r: &[u64]) -> Answer
             why: Refusal::StoreNotInOrder,
         };
     }
-    control::batch::held(t, r)
+    walk::batch::held(t, r)
 }
 
 // The receiver goes; its lanes stay as they are, and their senders find it closed.

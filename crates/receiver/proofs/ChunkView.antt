@@ -27,16 +27,16 @@ use Rattle.ready.specs.Header.{budget, capacity}
 use Rattle.ready.specs.Queue.{queueOf, frontSlot, poppedFront}
 use Rattle.store.specs.View.{slotAt, view}
 use Rattle.store.specs.Order.{Stores, StoreInOrder}
-use Rattle.receiver.specs.Drain.{Fronts, fullBudget, chunkItems, chunkLane, gaveChunk, chunkGiven}
+use Rattle.bulk.specs.Drain.{Fronts, fullBudget, chunkItems, chunkLane, gaveChunk, chunkGiven}
 use Rattle.store.proofs.ViewLaws.{slot-in}
 use Rattle.store.proofs.LaneView.{looked-counts}
 use Rattle.receiver.proofs.SameFlags.{key-by}
 use Rattle.store.proofs.BetweenTurns.{FrontLane, front-lane}
-use Rattle.receiver.proofs.TurnLaws.{queue-is}
-use Rattle.receiver.proofs.ReceiveLaws.{ringed-of}
+use Rattle.turns.proofs.TurnLaws.{queue-is}
+use Rattle.receives.proofs.ReceiveLaws.{ringed-of}
 use Rattle.receiver.proofs.FrontBack.{Back, back-view, back-stores}
-use Rattle.receiver.proofs.ChunkLaws.{chunkEnd, chunk-filled, chunk-flags, chunk-slot, chunk-ring, moved-is, end-ordered, end-flags}
-use Rattle.receiver.proofs.DrainLaws.{length-chunk, chunkHanded}
+use Rattle.bulk.proofs.ChunkLaws.{chunkEnd, chunk-filled, chunk-flags, chunk-slot, chunk-ring, moved-is, end-ordered, end-flags}
+use Rattle.bulk.proofs.DrainLaws.{length-chunk, chunkHanded}
 use Rattle.receiver.proofs.LookView.{ready-holds}
 
 -- ---- lists

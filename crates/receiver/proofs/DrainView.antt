@@ -13,17 +13,17 @@ use Rattle.lane.specs.declared.lane.Lane.{Lane}
 use Rattle.lane.specs.Lane.{chunkLimit}
 use Rattle.ready.specs.Header.{budget, capacity}
 use Rattle.ready.specs.Queue.{queueOf, frontSlot, poppedFront}
-use Rattle.receiver.specs.declared.drain.Front.{Front}
-use Rattle.receiver.specs.declared.drain.Front.the-variants as Front
+use Rattle.bulk.specs.declared.drain.Front.{Front}
+use Rattle.bulk.specs.declared.drain.Front.the-variants as Front
 use Rattle.store.specs.View.{view}
 use Rattle.store.specs.Order.{StoreInOrder}
-use Rattle.receiver.specs.Drain.{refreshActive, Reached, fullBudget, chunkSize, chunkGiven, Drained, chunkThen, drainedWithin, drained}
-use Rattle.receiver.proofs.ReceiveLaws.{turning-of}
-use Rattle.receiver.proofs.LookLaws.{refresh-searched}
+use Rattle.bulk.specs.Drain.{refreshActive, Reached, fullBudget, chunkSize, chunkGiven, Drained, chunkThen, drainedWithin, drained}
+use Rattle.receives.proofs.ReceiveLaws.{turning-of}
+use Rattle.bulk.proofs.LookLaws.{refresh-searched}
 use Rattle.receiver.proofs.LookView.{ReachedAs, none-queued, refresh-alike}
-use Rattle.receiver.proofs.ChunkLaws.{chunk-least, chunk-some, chunk-filled}
+use Rattle.bulk.proofs.ChunkLaws.{chunk-least, chunk-some, chunk-filled}
 use Rattle.receiver.proofs.ChunkView.{chunk-queue, chunk-fits, chunk-hands, chunk-view, chunk-in-order}
-use Rattle.receiver.proofs.DrainLaws.{within-next}
+use Rattle.bulk.proofs.DrainLaws.{within-next}
 
 -- the same is handed out, the rules see the same state, and the words are in order
 pub record DrainedAs (r : List ℕ) (d : Drained) (w : Took) : Type 0 where

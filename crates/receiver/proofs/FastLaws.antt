@@ -17,14 +17,14 @@ use Rattle.lane.specs.Table.{laneAt}
 use Rattle.lane.proofs.WindowLaws.{pop-fast-none, pop-fast-some, pop-fair-none, pop-fair-some}
 use Rattle.ready.specs.Header.{Shaped, issued, slots, queueCount, budget, capacity, fastSlot}
 use Rattle.ready.specs.Queue.{frontSlot}
-use Rattle.receiver.specs.declared.turn.Took.{Took}
-use Rattle.receiver.specs.declared.turn.Took.the-variants as Took
-use Rattle.receiver.specs.Drained.{Rests}
-use Rattle.receiver.specs.Turn.{Turning, frontLane}
-use Rattle.receiver.specs.Receive.{elseTake, windowTook, fastTook, takeFast, FastOpen, openTook, refillTake, takeOne, takeLone}
+use Rattle.turns.specs.declared.turn.Took.{Took}
+use Rattle.turns.specs.declared.turn.Took.the-variants as Took
+use Rattle.turns.specs.Drained.{Rests}
+use Rattle.turns.specs.Turn.{Turning, frontLane}
+use Rattle.receives.specs.Receive.{elseTake, windowTook, fastTook, takeFast, FastOpen, openTook, refillTake, takeOne, takeLone}
 use Rattle.lane.proofs.TableLaws.{slot-of-lane}
-use Rattle.receiver.proofs.TurnLaws.{slot-below, ring-in}
-use Rattle.receiver.proofs.ReceiveLaws.{turning-of, ringed-of, fast-room, lone-room, take-fast-is, take-lone-is}
+use Rattle.turns.proofs.TurnLaws.{slot-below, ring-in}
+use Rattle.receives.proofs.ReceiveLaws.{turning-of, ringed-of, fast-room, lone-room, take-fast-is, take-lone-is}
 
 -- ---- the plain receive
 

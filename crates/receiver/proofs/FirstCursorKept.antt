@@ -30,27 +30,27 @@ use Rattle.ready.specs.Ready.{collectReady}
 use Rattle.ready.proofs.QueueLaws.{head-rotated}
 use Rattle.store.specs.Order.{StoreInOrder}
 use Rattle.sender.specs.Sender.{registerSender}
-use Rattle.sender.specs.FirstCursor.{StartsAt}
-use Rattle.sender.proofs.FirstCursor.{opening-puts-cursor, registered-starts}
-use Rattle.control.specs.Batch.{releaseAll}
+use Rattle.opening.specs.FirstCursor.{StartsAt}
+use Rattle.opening.proofs.FirstCursor.{opening-puts-cursor, registered-starts}
+use Rattle.walk.specs.Batch.{releaseAll}
 use Rattle.control.specs.Control.{withTurn}
-use Rattle.receiver.specs.declared.turn.Took.{Took}
-use Rattle.receiver.specs.declared.turn.Took.the-variants as Took
-use Rattle.receiver.specs.declared.turn.Turn.{Turn}
-use Rattle.receiver.specs.declared.turn.Turn.the-variants as Turn
-use Rattle.receiver.specs.declared.drain.Front.{Front}
-use Rattle.receiver.specs.declared.drain.Front.the-variants as Front
-use Rattle.receiver.specs.declared.drain.Look.{Look}
-use Rattle.receiver.specs.declared.drain.Look.the-variants as Look
-use Rattle.receiver.specs.Turn.{frontLane, retiredIf, leftFront, budgetMet, rotatedIf, turnBy, pollFront, after as afterTurn, turnsWithin, turns}
-use Rattle.receiver.specs.Drained.{retireEmptyPaused, retireEmptyPausedLanes, emptyOrDrained, nothingTaken}
-use Rattle.receiver.specs.Receive.{elseTake, windowTook, fastTook, takeFast, openTook, takeWindow, collectedIfDue, pollLoop, refillTake, takeOne, takeLone, takeFair, answerOne, tryRecv, tryRecvFair}
-use Rattle.receiver.specs.Target.{targetSettled, targetQueued, targetKept, targetTook, takeFrom, tryRecvFrom}
-use Rattle.receiver.specs.Drain.{lookBy, lookFront, afterLook, runDownWithin, runDown, elseFront, refreshActive, fullBudget, chunkSize, chunkLane, gaveChunk, chunkGiven, Drained, chunkThen, drainedWithin, drained, answerItems, batchAnswer, tryRecvBatchInto}
+use Rattle.turns.specs.declared.turn.Took.{Took}
+use Rattle.turns.specs.declared.turn.Took.the-variants as Took
+use Rattle.turns.specs.declared.turn.Turn.{Turn}
+use Rattle.turns.specs.declared.turn.Turn.the-variants as Turn
+use Rattle.bulk.specs.declared.drain.Front.{Front}
+use Rattle.bulk.specs.declared.drain.Front.the-variants as Front
+use Rattle.bulk.specs.declared.drain.Look.{Look}
+use Rattle.bulk.specs.declared.drain.Look.the-variants as Look
+use Rattle.turns.specs.Turn.{frontLane, retiredIf, leftFront, budgetMet, rotatedIf, turnBy, pollFront, after as afterTurn, turnsWithin, turns}
+use Rattle.turns.specs.Drained.{retireEmptyPaused, retireEmptyPausedLanes, emptyOrDrained, nothingTaken}
+use Rattle.receives.specs.Receive.{elseTake, windowTook, fastTook, takeFast, openTook, takeWindow, collectedIfDue, pollLoop, refillTake, takeOne, takeLone, takeFair, answerOne, tryRecv, tryRecvFair}
+use Rattle.receives.specs.Target.{targetSettled, targetQueued, targetKept, targetTook, takeFrom, tryRecvFrom}
+use Rattle.bulk.specs.Drain.{lookBy, lookFront, afterLook, runDownWithin, runDown, elseFront, refreshActive, fullBudget, chunkSize, chunkLane, gaveChunk, chunkGiven, Drained, chunkThen, drainedWithin, drained, answerItems, batchAnswer, tryRecvBatchInto}
 use Rattle.receiver.specs.Runs.{receiveWords, callWords, theStores}
 use Rattle.receiver.specs.Demands.{StaysInOrder}
 use Rattle.receiver.specs.FirstCursor.{RingsStartAtFirstCursor}
-use Rattle.receiver.proofs.FrontLaws.{head-left, head-met, head-gave}
+use Rattle.turns.proofs.FrontLaws.{head-left, head-met, head-gave}
 use Rattle.receiver.proofs.FirstCursorSteps.{At, at-put, at-head, at-pushed-back, at-removed, at-marked-if-idle, at-retired, at-slots, at-collected, unless-at, sender-keeps-cursor, control-keeps-cursor, at-release-all}
 use Rattle.receiver.proofs.Demands.{stays-in-order}
 

@@ -34,7 +34,7 @@ use Rattle.store.proofs.RefusalLaws.{unless-refused-case}
 use Rattle.store.proofs.RetireFrames.{freed-unless-last-is}
 use Rattle.sender.specs.Sender.{withSender, takenSignaled, sendSignaled, sendUnsignaled, pushed, trySend, trySendUnsignaled, dropped, dropSender, dueKey, slotTaken, registeredWith, registerSender, senderWords}
 use Rattle.sender.proofs.IssueLaws.{head-opened-page}
-use Rattle.control.specs.Batch.{forSlots, releaseSlot, releaseAll, releaseConsumed, mayQueue, pollSlot, pollAll, pollAllLanes, countHeld}
+use Rattle.walk.specs.Batch.{forSlots, releaseSlot, releaseAll, releaseConsumed, mayQueue, pollSlot, pollAll, pollAllLanes, countHeld}
 use Rattle.control.specs.Control.{withTurn, pausedLane, paused, pause, resumed, resume, closed, closeLane, closeReceiver}
 use Rattle.control.specs.Calls.{controlWords}
 

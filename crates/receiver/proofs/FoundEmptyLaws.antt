@@ -24,7 +24,7 @@ use Rattle.ready.specs.Ready.{pageBit}
 use Rattle.store.specs.View.{flag, slotOf, slotAt, view}
 use Rattle.store.specs.Order.{Flags, Stores, StoreInOrder}
 use Rattle.store.specs.Registry.{retired, retireLane}
-use Rattle.receiver.specs.Turn.{retiredIf}
+use Rattle.turns.specs.Turn.{retiredIf}
 use Rattle.store.proofs.ViewLaws.{slot-in, view-put-lane}
 use Rattle.store.proofs.StepLaws.{Step}
 use Rattle.store.proofs.StoreLaws.{lane-counted, registered-seen, OtherWindows, Owes, stores-after}

@@ -20,7 +20,7 @@ use Rattle.ready.specs.Queue.{queueOf, rotated}
 use Rattle.ready.proofs.QueueLaws.{queue-putLane, shaped-putLane}
 use Rattle.store.specs.View.{view}
 use Rattle.store.specs.Order.{Stores, StoreInOrder}
-use Rattle.receiver.specs.Turn.{rotatedIf}
+use Rattle.turns.specs.Turn.{rotatedIf}
 use Rattle.store.proofs.ViewLaws.{view-put-holding, view-rotated, view-budget}
 use Rattle.store.proofs.StepLaws.{Step, step-start, step-put-lane, step-rotated, step-budget}
 use Rattle.store.proofs.StoreLaws.{Owes, stores-after, windows-front}

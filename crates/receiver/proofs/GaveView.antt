@@ -26,7 +26,7 @@ use Rattle.ready.specs.Header.{issued, budget, capacity}
 use Rattle.ready.specs.Queue.{queueOf}
 use Rattle.store.specs.View.{slotAt, view}
 use Rattle.store.specs.Order.{Stores, StoreInOrder}
-use Rattle.receiver.specs.Turn.{lessOne, gaveFront}
+use Rattle.turns.specs.Turn.{lessOne, gaveFront}
 use Rattle.store.proofs.ViewLaws.{slot-in}
 use Rattle.store.proofs.StoreLaws.{issued-ring-in}
 use Rattle.store.proofs.LaneFields.{flagged, PollKept, poll-kept}

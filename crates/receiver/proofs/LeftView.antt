@@ -21,7 +21,7 @@ use Rattle.ready.specs.Queue.{queueOf, poppedFront}
 use Rattle.ready.proofs.QueueLaws.{queue-frames, length-queue, queue-putLane, shaped-putLane}
 use Rattle.store.specs.View.{view}
 use Rattle.store.specs.Order.{StoreInOrder}
-use Rattle.receiver.specs.Turn.{leftFront, budgetMet}
+use Rattle.turns.specs.Turn.{leftFront, budgetMet}
 use Rattle.store.proofs.ViewLaws.{view-popped-front, view-budget}
 use Rattle.store.proofs.StepLaws.{Step, step-start, step-put-lane, step-popped-front}
 use Rattle.store.proofs.StoreLaws.{room-in-free, windows-front}

@@ -1,11 +1,4 @@
-pub mod TurnLaws
-pub mod FrontLaws
-pub mod CollectKeeps
-pub mod ReceiveLaws
 pub mod FastLaws
-pub mod DrainedLaws
-pub mod TargetLaws
-pub mod OutputLaws
 pub mod SameFlags
 pub mod NothingTakenLaws
 pub mod EmptyLaneLaws
@@ -27,10 +20,6 @@ pub mod ChannelKept
 pub mod TryRecvLaws
 pub mod TakeFairView
 pub mod TryRecvFairLaws
-pub mod LookLaws
-pub mod ChunkLaws
-pub mod DrainLaws
-pub mod BatchLaws
 pub mod LookView
 pub mod ChunkView
 pub mod DrainView

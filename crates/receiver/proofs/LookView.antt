@@ -25,24 +25,24 @@ use Rattle.ready.specs.Header.{issued, queueCount, capacity}
 use Rattle.ready.specs.Queue.{queueOf, frontSlot}
 use Rattle.ready.specs.Ready.{collectReady}
 use Rattle.ready.proofs.QueueLaws.{length-queue, front-is}
-use Rattle.receiver.specs.declared.drain.Front.{Front}
-use Rattle.receiver.specs.declared.drain.Front.the-variants as Front
-use Rattle.receiver.specs.declared.drain.Look.{Look}
+use Rattle.bulk.specs.declared.drain.Front.{Front}
+use Rattle.bulk.specs.declared.drain.Front.the-variants as Front
+use Rattle.bulk.specs.declared.drain.Look.{Look}
 use Rattle.store.specs.View.{slotAt, view}
 use Rattle.store.specs.Order.{Stores, StoreInOrder}
-use Rattle.receiver.specs.Turn.{leftFront, budgetMet}
-use Rattle.receiver.specs.Receive.{collectedIfDue}
-use Rattle.receiver.specs.Drain.{lookBy, lookFront, afterLook, runDownWithin, runDown, elseFront, refreshActive, Reached}
+use Rattle.turns.specs.Turn.{leftFront, budgetMet}
+use Rattle.receives.specs.Receive.{collectedIfDue}
+use Rattle.bulk.specs.Drain.{lookBy, lookFront, afterLook, runDownWithin, runDown, elseFront, refreshActive, Reached}
 use Rattle.store.proofs.ViewLaws.{slot-in}
 use Rattle.store.proofs.StoreLaws.{issued-ring-in}
 use Rattle.store.proofs.CollectedView.{view-collect-all}
 use Rattle.store.proofs.BetweenTurns.{FrontLane, front-lane, collected-in-order}
-use Rattle.receiver.proofs.TurnLaws.{queue-is}
-use Rattle.receiver.proofs.ReceiveLaws.{turning-of}
+use Rattle.turns.proofs.TurnLaws.{queue-is}
+use Rattle.receives.proofs.ReceiveLaws.{turning-of}
 use Rattle.receiver.proofs.EmptyLaneLaws.{Empties, empties-by-refill}
 use Rattle.receiver.proofs.TurnView.{none-held, left-ordered, view-left, left-rest}
 use Rattle.receiver.proofs.TakeOneView.{due, due-in-order, due-view}
-use Rattle.receiver.proofs.LookLaws.{run-down-searched}
+use Rattle.bulk.proofs.LookLaws.{run-down-searched}
 
 -- the rules see the state that the search leaves, and the words are in order
 pub record ReachedAs (r : List ℕ) (o : Front × List ℕ) (s : State) : Type 0 where

@@ -28,10 +28,10 @@ use Rattle.ready.specs.Queue.{queueOf}
 use Rattle.store.specs.View.{flag, slotAt, view}
 use Rattle.store.specs.Order.{Stores, StoreInOrder}
 use Rattle.store.specs.Registry.{retired, retireLane}
-use Rattle.control.specs.Batch.{forSlots}
-use Rattle.receiver.specs.Turn.{retiredIf}
-use Rattle.receiver.specs.Drained.{retireEmptyPaused, retireEmptyPausedLanes, emptyOrDrained, nothingTaken}
-use Rattle.receiver.specs.Receive.{withRings}
+use Rattle.walk.specs.Batch.{forSlots}
+use Rattle.turns.specs.Turn.{retiredIf}
+use Rattle.turns.specs.Drained.{retireEmptyPaused, retireEmptyPausedLanes, emptyOrDrained, nothingTaken}
+use Rattle.receives.specs.Receive.{withRings}
 use Rattle.store.proofs.ViewLaws.{slot-in}
 use Rattle.store.proofs.RefusalLaws.{seen}
 use Rattle.store.proofs.StepLaws.{Step, step-start}

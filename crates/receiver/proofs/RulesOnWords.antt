@@ -32,8 +32,8 @@ use Rattle.store.specs.View.{view}
 use Rattle.store.specs.Order.{StoreInOrder}
 use Rattle.store.proofs.StoreLaws.{rings-fit}
 use Rattle.store.proofs.CollectedView.{view-collect-all, view-collect-group}
-use Rattle.sender.specs.Opening.{openStore}
-use Rattle.sender.proofs.OpeningLaws.{open-answers-alike, open-view, open-in-order}
+use Rattle.opening.specs.Opening.{openStore}
+use Rattle.opening.proofs.OpeningLaws.{open-answers-alike, open-view, open-in-order}
 use Rattle.receiver.specs.Runs.{theStores}
 use Rattle.receiver.specs.Demands.{runs}
 use Rattle.receiver.specs.RulesOnWords.{eventsFrom, runEvents, EventsTell, BudgetCountsItems, AtMost64InOneTurn, AtMost64BetweenCollections, Collecting}

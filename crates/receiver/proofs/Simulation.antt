@@ -14,7 +14,7 @@ use Rattle.model.proofs.Demand2.{opens-as}
 use Rattle.store.specs.View.{view}
 use Rattle.store.specs.Order.{StoreInOrder}
 use Rattle.receiver.specs.Runs.{theStores}
-use Rattle.sender.proofs.OpeningLaws.{open-answers-alike, open-view, open-in-order}
+use Rattle.opening.proofs.OpeningLaws.{open-answers-alike, open-view, open-in-order}
 use Rattle.receiver.proofs.RefusedUnmoved.{open-unmoved}
 use Rattle.receiver.proofs.CallLaws.{call-alike, call-keeps, hands-alike, output-alike}
 

@@ -25,15 +25,15 @@ use Rattle.ready.specs.Queue.{queueOf, frontSlot}
 use Rattle.store.specs.View.{flag, slotAt, view}
 use Rattle.store.specs.Order.{StoreInOrder}
 use Rattle.store.specs.Words.{Words}
-use Rattle.receiver.specs.Turn.{Turning, pollFront}
-use Rattle.receiver.specs.Drain.{lookFront}
-use Rattle.receiver.specs.Target.{tryRecvFrom}
+use Rattle.turns.specs.Turn.{Turning, pollFront}
+use Rattle.bulk.specs.Drain.{lookFront}
+use Rattle.receives.specs.Target.{tryRecvFrom}
 use Rattle.store.proofs.ViewLaws.{slot-in}
 use Rattle.store.proofs.RefusalLaws.{seen}
 use Rattle.store.proofs.StoreLaws.{registered-seen}
-use Rattle.receiver.proofs.TurnLaws.{queue-is, front-issued, front-registered, front-alone}
-use Rattle.receiver.proofs.FrontLaws.{poll-front-turned}
-use Rattle.receiver.proofs.LookLaws.{look-front-looked}
+use Rattle.turns.proofs.TurnLaws.{queue-is, front-issued, front-registered, front-alone}
+use Rattle.turns.proofs.FrontLaws.{poll-front-turned}
+use Rattle.bulk.proofs.LookLaws.{look-front-looked}
 use Rattle.receiver.proofs.TryRecvFromLaws.{try-recv-from-keeps}
 use Rattle.receiver.proofs.KeysKept.{call-keeps-generation, call-keeps-issued}
 

@@ -27,11 +27,11 @@ use Rattle.ready.specs.Header.{issued, queueCount, budget, capacity}
 use Rattle.ready.specs.Queue.{queueOf, frontSlot, poppedFront}
 use Rattle.ready.specs.Ready.{collectReady}
 use Rattle.ready.proofs.QueueLaws.{header-in, length-queue, queue-front}
-use Rattle.receiver.specs.declared.turn.Took.the-variants as Took
+use Rattle.turns.specs.declared.turn.Took.the-variants as Took
 use Rattle.store.specs.View.{view}
 use Rattle.store.specs.Order.{Stores, StoreInOrder}
-use Rattle.receiver.specs.Turn.{frontLane, turns}
-use Rattle.receiver.specs.Receive.{windowTook, openTook, takeLone, takeFair}
+use Rattle.turns.specs.Turn.{frontLane, turns}
+use Rattle.receives.specs.Receive.{windowTook, openTook, takeLone, takeFair}
 use Rattle.store.proofs.ViewLaws.{view-budget, view-fast-slot}
 use Rattle.store.proofs.StoreLaws.{issued-ring-in}
 use Rattle.store.proofs.CollectedView.{view-collect-all}
@@ -39,7 +39,7 @@ use Rattle.store.proofs.LaneFields.{flagged, flagged-pop-fair}
 use Rattle.store.proofs.LaneView.{pop-fair-more}
 use Rattle.receiver.proofs.SameFlags.{slot-by}
 use Rattle.store.proofs.BetweenTurns.{FrontLane, front-lane, full-budget-in-order, collected-in-order}
-use Rattle.receiver.proofs.ReceiveLaws.{take-lone-unmoved}
+use Rattle.receives.proofs.ReceiveLaws.{take-lone-unmoved}
 use Rattle.receiver.proofs.TurnView.{TookAs, turnsFrom, turns-from-front, turns-from-is, turns-alike, no-length}
 use Rattle.receiver.proofs.WindowView.{Pops, window-took, window-first, step-fast-moved}
 use Rattle.receiver.proofs.WindowTakes.{TakesAs}

@@ -18,17 +18,17 @@ use Rattle.ready.specs.Header.{queueCount, budget}
 use Rattle.ready.specs.Queue.{queueOf}
 use Rattle.ready.specs.Ready.{collectReady}
 use Rattle.ready.proofs.QueueLaws.{length-queue}
-use Rattle.receiver.specs.declared.turn.Took.{Took}
-use Rattle.receiver.specs.declared.turn.Took.the-variants as Took
+use Rattle.turns.specs.declared.turn.Took.{Took}
+use Rattle.turns.specs.declared.turn.Took.the-variants as Took
 use Rattle.store.specs.View.{view}
 use Rattle.store.specs.Order.{StoreInOrder}
-use Rattle.receiver.specs.Turn.{turns}
-use Rattle.receiver.specs.Drained.{Rests}
-use Rattle.receiver.specs.Receive.{elseTake, takeFast, takeWindow, collectedIfDue, pollLoop, refillTake, takeOne}
+use Rattle.turns.specs.Turn.{turns}
+use Rattle.turns.specs.Drained.{Rests}
+use Rattle.receives.specs.Receive.{elseTake, takeFast, takeWindow, collectedIfDue, pollLoop, refillTake, takeOne}
 use Rattle.store.proofs.ViewLaws.{view-budget}
 use Rattle.store.proofs.CollectedView.{view-collect-all, view-collect-group}
 use Rattle.store.proofs.BetweenTurns.{full-budget-in-order, collected-in-order}
-use Rattle.receiver.proofs.ReceiveLaws.{turning-of, turns-rest, Unmoved, take-fast-unmoved, take-window-unmoved}
+use Rattle.receives.proofs.ReceiveLaws.{turning-of, turns-rest, Unmoved, take-fast-unmoved, take-window-unmoved}
 use Rattle.receiver.proofs.TurnView.{TookAs, turns-alike, rests-queue}
 use Rattle.receiver.proofs.WindowTakes.{TakesAs, take-fast-takes, take-window-takes}
 

@@ -27,12 +27,12 @@ use Rattle.store.specs.View.{view}
 use Rattle.store.specs.Order.{StoreInOrder}
 use Rattle.store.specs.Refusal.{andThen}
 use Rattle.store.specs.Words.{Words}
-use Rattle.receiver.specs.Receive.{withRings}
-use Rattle.receiver.specs.Drained.{nothingTaken}
-use Rattle.control.specs.Batch.{releaseAll}
-use Rattle.receiver.specs.Drain.{Drained, drained, roomVerdict, batchVerdict, answerItems, batchAnswer, tryRecvBatchInto, handedBy, batchHands}
+use Rattle.receives.specs.Receive.{withRings}
+use Rattle.turns.specs.Drained.{nothingTaken}
+use Rattle.walk.specs.Batch.{releaseAll}
+use Rattle.bulk.specs.Drain.{Drained, drained, roomVerdict, batchVerdict, answerItems, batchAnswer, tryRecvBatchInto, handedBy, batchHands}
 use Rattle.store.proofs.RefusalLaws.{seen, firstOf, first-of-append, receiver-verdict, refused-alike, unless-refused-case}
-use Rattle.control.proofs.ReleaseConsumedLaws.{view-release-all, stores-release-all}
+use Rattle.walk.proofs.ReleaseConsumedLaws.{view-release-all, stores-release-all}
 use Rattle.receiver.proofs.NothingTakenLaws.{nothing-taken-alike, nothing-taken-keeps}
 use Rattle.receiver.proofs.DrainView.{DrainedAs, drained-alike}
 

@@ -13,7 +13,7 @@ use Rattle.store.specs.Order.{StoreInOrder}
 use Rattle.store.specs.Refusal.{receiverVerdict}
 use Rattle.store.specs.Words.{Words}
 use Rattle.receiver.specs.Hands.{handsOf}
-use Rattle.receiver.specs.Receive.{takeFair, answerOne, withRings, tryRecvFair}
+use Rattle.receives.specs.Receive.{takeFair, answerOne, withRings, tryRecvFair}
 use Rattle.store.proofs.RefusalLaws.{seen, receiver-verdict, refused-alike, unless-refused-case}
 use Rattle.receiver.proofs.HandsLaws.{try-recv-fair-answers, hands-by-answer}
 use Rattle.receiver.proofs.TakeFairView.{take-fair-alike}

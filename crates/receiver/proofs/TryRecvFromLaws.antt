@@ -31,9 +31,9 @@ use Rattle.ready.proofs.QueueLaws.{queue-frames, shaped-putLane}
 use Rattle.store.specs.View.{slotAt, view}
 use Rattle.store.specs.Order.{Stores, StoreInOrder}
 use Rattle.store.specs.Refusal.{idVerdict}
-use Rattle.receiver.specs.Turn.{retiredIf}
-use Rattle.receiver.specs.Receive.{withRings}
-use Rattle.receiver.specs.Target.{targetSettled, targetTook, takeFrom, tryRecvFrom}
+use Rattle.turns.specs.Turn.{retiredIf}
+use Rattle.receives.specs.Receive.{withRings}
+use Rattle.receives.specs.Target.{targetSettled, targetTook, takeFrom, tryRecvFrom}
 use Rattle.store.proofs.ViewLaws.{slot-in, view-removed}
 use Rattle.store.proofs.RefusalLaws.{seen, id-verdict, id-passes, refused-alike, unless-refused-case}
 use Rattle.store.proofs.StepLaws.{Step, step-start, step-put-lane, step-removed}

@@ -10,14 +10,14 @@ use Rattle.model.specs.Turn.{Took as RulesTook}
 use Rattle.model.specs.Turn as rules-turn
 use Rattle.model.specs.Receive as rules
 use Rattle.ready.specs.Header.{channel}
-use Rattle.receiver.specs.declared.turn.Took.{Took}
-use Rattle.receiver.specs.declared.turn.Took.the-variants as Took
+use Rattle.turns.specs.declared.turn.Took.{Took}
+use Rattle.turns.specs.declared.turn.Took.the-variants as Took
 use Rattle.store.specs.View.{view}
 use Rattle.store.specs.Order.{StoreInOrder}
 use Rattle.store.specs.Refusal.{receiverVerdict}
 use Rattle.store.specs.Words.{Words}
 use Rattle.receiver.specs.Hands.{handsOf}
-use Rattle.receiver.specs.Receive.{takeOne, answerOne, withRings, tryRecv}
+use Rattle.receives.specs.Receive.{takeOne, answerOne, withRings, tryRecv}
 use Rattle.store.proofs.RefusalLaws.{seen, receiver-verdict, refused-alike, unless-refused-case}
 use Rattle.receiver.proofs.NothingTakenLaws.{nothing-taken-alike, nothing-taken-keeps}
 use Rattle.receiver.proofs.HandsLaws.{try-recv-answers, hands-by-answer}

@@ -28,16 +28,16 @@ use Rattle.ready.proofs.RegistryLaws.{registry-frames}
 use Rattle.store.specs.Registry.{retired, retireLane}
 use Rattle.store.proofs.RetireFrames.{freed-unless-last-is}
 use Rattle.store.proofs.LaneFields.{Fixed, Flagged, Emptied, PollKept, poll-kept, RefillKept, refill-kept}
-use Rattle.receiver.specs.declared.turn.Took.the-variants as Took
-use Rattle.receiver.specs.declared.turn.Turn.{Turn}
-use Rattle.receiver.specs.declared.turn.Turn.the-variants as Turn
-use Rattle.receiver.specs.declared.drain.Front.the-variants as Front
-use Rattle.receiver.specs.declared.drain.Look.{Look}
-use Rattle.receiver.specs.declared.drain.Look.the-variants as Look
-use Rattle.receiver.specs.Turn.{Turning, frontLane, retiredIf, leftFront, budgetMet, rotatedIf, gaveFront, turnBy, pollFront}
-use Rattle.receiver.specs.Drain.{lookBy, lookFront}
-use Rattle.receiver.proofs.TurnLaws.{slot-below, front-issued}
-use Rattle.receiver.proofs.FrontLaws.{polledFront}
+use Rattle.turns.specs.declared.turn.Took.the-variants as Took
+use Rattle.turns.specs.declared.turn.Turn.{Turn}
+use Rattle.turns.specs.declared.turn.Turn.the-variants as Turn
+use Rattle.bulk.specs.declared.drain.Front.the-variants as Front
+use Rattle.bulk.specs.declared.drain.Look.{Look}
+use Rattle.bulk.specs.declared.drain.Look.the-variants as Look
+use Rattle.turns.specs.Turn.{Turning, frontLane, retiredIf, leftFront, budgetMet, rotatedIf, gaveFront, turnBy, pollFront}
+use Rattle.bulk.specs.Drain.{lookBy, lookFront}
+use Rattle.turns.proofs.TurnLaws.{slot-below, front-issued}
+use Rattle.turns.proofs.FrontLaws.{polledFront}
 
 -- every slot's lane has its key still
 pub record SameKeys (t u : List ℕ) : Type 0 where

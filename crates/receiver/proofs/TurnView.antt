@@ -23,17 +23,17 @@ use Rattle.lane.specs.Table.{laneAt}
 use Rattle.ready.specs.Header.{queueCount, capacity}
 use Rattle.ready.specs.Queue.{queueOf}
 use Rattle.ready.proofs.QueueLaws.{length-queue, front-is}
-use Rattle.receiver.specs.declared.turn.Took.{Took}
-use Rattle.receiver.specs.declared.turn.Took.the-variants as Took
-use Rattle.receiver.specs.declared.turn.Turn.{Turn}
+use Rattle.turns.specs.declared.turn.Took.{Took}
+use Rattle.turns.specs.declared.turn.Took.the-variants as Took
+use Rattle.turns.specs.declared.turn.Turn.{Turn}
 use Rattle.store.specs.View.{slotAt, view}
 use Rattle.store.specs.Order.{StoreInOrder}
-use Rattle.receiver.specs.Turn.{leftFront, budgetMet, gaveFront, turnBy, pollFront, after, turnsWithin, turns}
-use Rattle.receiver.specs.Drained.{Rests}
+use Rattle.turns.specs.Turn.{leftFront, budgetMet, gaveFront, turnBy, pollFront, after, turnsWithin, turns}
+use Rattle.turns.specs.Drained.{Rests}
 use Rattle.store.proofs.ViewLaws.{slot-in}
 use Rattle.receiver.proofs.SameFlags.{key-by}
 use Rattle.store.proofs.BetweenTurns.{FrontLane, front-lane}
-use Rattle.receiver.proofs.ReceiveLaws.{turning-of, turns-rest}
+use Rattle.receives.proofs.ReceiveLaws.{turning-of, turns-rest}
 use Rattle.receiver.proofs.EmptyLaneLaws.{Empties, empties-by-poll}
 use Rattle.receiver.proofs.LeftView.{left-view, left-in-order, left-queue, met-view, met-in-order}
 use Rattle.receiver.proofs.GaveView.{Gives, gives-by-poll, gave-first, gave-view, gave-in-order}

@@ -24,12 +24,12 @@ use Rattle.lane.proofs.HeldLaws.{pop-fast-takes-first}
 use Rattle.ready.specs.Header.{issued, queueCount, budget, capacity, fastSlot, laneCount, livingCount}
 use Rattle.ready.specs.Queue.{queueOf, frontSlot, poppedFront}
 use Rattle.ready.proofs.QueueLaws.{queue-front}
-use Rattle.receiver.specs.declared.turn.Took.{Took}
-use Rattle.receiver.specs.declared.turn.Took.the-variants as Took
+use Rattle.turns.specs.declared.turn.Took.{Took}
+use Rattle.turns.specs.declared.turn.Took.the-variants as Took
 use Rattle.store.specs.View.{slotAt, view}
 use Rattle.store.specs.Order.{Stores, StoreInOrder}
-use Rattle.receiver.specs.Turn.{frontLane}
-use Rattle.receiver.specs.Receive.{windowTook, fastTook, takeFast, openTook, takeWindow}
+use Rattle.turns.specs.Turn.{frontLane}
+use Rattle.receives.specs.Receive.{windowTook, fastTook, takeFast, openTook, takeWindow}
 use Rattle.store.proofs.ViewLaws.{slot-in, view-fast-slot}
 use Rattle.store.proofs.StepLaws.{Step}
 use Rattle.store.proofs.StoreLaws.{issued-ring-in}
@@ -37,7 +37,7 @@ use Rattle.store.proofs.LaneFields.{flagged, flagged-pop-fast, flagged-grant}
 use Rattle.store.proofs.LaneView.{unreleasedSeen, burstSeen, grant-seen, grant-holds, pop-fast-more}
 use Rattle.receiver.proofs.SameFlags.{slot-by}
 use Rattle.store.proofs.BetweenTurns.{FrontLane, front-lane}
-use Rattle.receiver.proofs.ReceiveLaws.{pop-open, granted-within}
+use Rattle.receives.proofs.ReceiveLaws.{pop-open, granted-within}
 use Rattle.receiver.proofs.TurnView.{TookAs}
 use Rattle.receiver.proofs.WindowView.{Pops, window-took, window-first, step-fast-same, step-fast-moved}
 

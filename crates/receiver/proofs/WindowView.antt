@@ -25,7 +25,7 @@ use Rattle.ready.specs.Queue.{queueOf}
 use Rattle.ready.proofs.QueueLaws.{shaped-putLane}
 use Rattle.store.specs.View.{slotAt, view}
 use Rattle.store.specs.Order.{Stores, StoreInOrder}
-use Rattle.receiver.specs.Receive.{windowTook}
+use Rattle.receives.specs.Receive.{windowTook}
 use Rattle.store.proofs.ViewLaws.{slot-in, view-put-holding, view-budget}
 use Rattle.store.proofs.StepLaws.{Step, step-start, step-put-lane, step-budget, step-fast-slot}
 use Rattle.store.proofs.StoreLaws.{below-slots, Owes, stores-after, windows-front}

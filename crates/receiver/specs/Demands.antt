@@ -25,7 +25,7 @@ use Rattle.lane.specs.Lane.{held}
 use Rattle.lane.specs.Table.{laneAt}
 use Rattle.ready.specs.Header.{issued, capacity}
 use Rattle.store.specs.Order.{StoreInOrder}
-use Rattle.sender.specs.Opening.{openStore}
+use Rattle.opening.specs.Opening.{openStore}
 use Rattle.receiver.specs.Runs.{theStores}
 
 -- The items in the ring of the lane with this key, oldest first; none if no lane has it.

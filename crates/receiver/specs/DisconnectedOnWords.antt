@@ -20,8 +20,8 @@ use Rattle.lane.specs.Lane.{held}
 use Rattle.lane.specs.Table.{laneAt}
 use Rattle.ready.specs.Header.{issued, alive, capacity, channel}
 use Rattle.store.specs.Order.{StoreInOrder}
-use Rattle.sender.specs.Opening.{openStore}
-use Rattle.receiver.specs.Target.{tryRecvFrom}
+use Rattle.opening.specs.Opening.{openStore}
+use Rattle.receives.specs.Target.{tryRecvFrom}
 use Rattle.receiver.specs.Runs.{receiveWords, handsWords, theStores}
 use Rattle.receiver.specs.Demands.{runs}
 

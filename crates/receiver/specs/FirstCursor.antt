@@ -9,9 +9,9 @@ use Rattle.model.specs.declared.Call.{Call}
 use Rattle.model.specs.declared.Answer.the-variants.{Done, Registered}
 use Rattle.model.specs.Runs.{after}
 use Rattle.lane.specs.Table.{laneAt}
-use Rattle.sender.specs.Opening.{openStore}
+use Rattle.opening.specs.Opening.{openStore}
 use Rattle.sender.specs.Sender.{registerSender}
-use Rattle.sender.specs.FirstCursor.{StartsAt}
+use Rattle.opening.specs.FirstCursor.{StartsAt}
 use Rattle.receiver.specs.Runs.{theStores}
 use Rattle.receiver.specs.Demands.{runs}
 

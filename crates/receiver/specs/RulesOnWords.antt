@@ -22,7 +22,7 @@ use Rattle.ready.specs.Header.{budget}
 use Rattle.ready.specs.Ready.{collectReady}
 use Rattle.store.specs.View.{view}
 use Rattle.store.specs.Order.{StoreInOrder}
-use Rattle.sender.specs.Opening.{openStore}
+use Rattle.opening.specs.Opening.{openStore}
 use Rattle.receiver.specs.Runs.{handsWords, theStores}
 use Rattle.receiver.specs.Demands.{runs}
 

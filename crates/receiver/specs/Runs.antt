@@ -10,12 +10,12 @@ use Rattle.model.specs.declared.Call.{Call}
 use Rattle.model.specs.declared.Call.the-variants.{Sender, Receive, Control}
 use Rattle.model.specs.Runs.{Rules}
 use Rattle.store.specs.Words.{Words}
-use Rattle.sender.specs.Opening.{openStore}
+use Rattle.opening.specs.Opening.{openStore}
 use Rattle.sender.specs.Sender.{senderWords}
 use Rattle.control.specs.Calls.{controlWords}
-use Rattle.receiver.specs.Receive.{tryRecv, tryRecvFair}
-use Rattle.receiver.specs.Target.{tryRecvFrom}
-use Rattle.receiver.specs.Drain.{tryRecvBatchInto, batchHands, batchInto}
+use Rattle.receives.specs.Receive.{tryRecv, tryRecvFair}
+use Rattle.receives.specs.Target.{tryRecvFrom}
+use Rattle.bulk.specs.Drain.{tryRecvBatchInto, batchHands, batchInto}
 use Rattle.receiver.specs.Hands.{handsOf}
 
 -- every receive

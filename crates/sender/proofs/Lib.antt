@@ -1,10 +1,7 @@
 pub mod IssueLaws
 pub mod FlushedLaws
 pub mod SenderBounds
-pub mod OpeningBounds
 pub mod SendLaws
 pub mod DropLaws
 pub mod RegisterLaws
 pub mod SenderLaws
-pub mod OpeningLaws
-pub mod FirstCursor

@@ -1,3 +1,1 @@
 pub mod Sender
-pub mod Opening
-pub mod FirstCursor

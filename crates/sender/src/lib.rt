@@ -1,3 +1,2 @@
 // Opening, and the sender calls on a store in order.
-pub mod mpsc;
 pub mod sender;

@@ -1,0 +1,2 @@
+// The batch on a store in order.
+pub mod drain;

@@ -1,0 +1,3 @@
+pub mod OpeningBounds
+pub mod OpeningLaws
+pub mod FirstCursor

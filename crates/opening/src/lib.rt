@@ -1,0 +1,2 @@
+// Opening two lent stores, whatever they hold.
+pub mod mpsc;

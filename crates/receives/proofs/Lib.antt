@@ -1,0 +1,2 @@
+pub mod ReceiveLaws
+pub mod TargetLaws

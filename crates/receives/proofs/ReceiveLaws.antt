@@ -1,0 +1,300 @@
+-- What the plain and the fair receive ask of a store in order, and what each of their parts leaves.
+-- Assumes nothing.
+use mathlib.Core.Path.{_≡_, refl, sym, ap, ap₂, _∙_, subst}
+use mathlib.Core.Bool.{Bool, true, false}
+use mathlib.Core.List.{List}
+use Prim.Native.Nat.{ℕ, zero, suc, _+_, _≤_, _<_}
+use native.Mathlib.Omega.{arith}
+use borrow.Author.Tests.{eq-eqb, ne-eqb, eqb-true, lt-ltb}
+use lib.Dec.{eqb, ltb}
+use lib.ListN.{length}
+use Rattle.model.specs.State.{registeredLanes}
+use Rattle.model.specs.declared.LaneKey.{LaneKey}
+use Rattle.lane.specs.declared.ring.Ring.{Ring}
+use Rattle.lane.specs.declared.lane.Lane.{Lane}
+use Rattle.lane.specs.declared.lane.Popped.{Popped}
+use Rattle.lane.specs.declared.lane.Popped.the-variants as Popped
+use Rattle.lane.specs.declared.lane.LanePoll.{LanePoll}
+use Rattle.lane.specs.declared.lane.LanePoll.the-variants as LanePoll
+use Rattle.lane.specs.Ring.{ringOf}
+use Rattle.lane.specs.Order.{InOrder, poppedLane}
+use Rattle.lane.specs.Lane.{popFast, grantFast, openFor, closeFast, reload, popFair}
+use Rattle.lane.specs.Table.{laneAt, setHead}
+use Rattle.lane.proofs.OrderLaws.{cond-holds, closed-reload-keeps, window-for-fits}
+use Rattle.lane.proofs.TableLaws.{frames, slot-of-lane}
+use Rattle.ready.specs.Header.{Shaped, issued, slots, queueCount, budget, capacity, fastSlot}
+use Rattle.ready.proofs.QueueLaws.{header-in, shaped-setHead}
+use Rattle.ready.specs.Queue.{frontSlot}
+use Rattle.ready.specs.Ready.{collectReady}
+use Rattle.store.specs.View.{flag, slotAt, view}
+use Rattle.store.specs.Order.{StoreInOrder}
+use Rattle.turns.specs.declared.turn.Took.{Took}
+use Rattle.turns.specs.declared.turn.Took.the-variants as Took
+use Rattle.turns.specs.declared.turn.Turn.{Turn}
+use Rattle.turns.specs.declared.turn.Turn.the-variants as Turn
+use Rattle.turns.specs.Turn.{registeredIn, Turning, Ringed, frontLane, turnBy, pollFront, after, turnsWithin, turns}
+use Rattle.turns.specs.Drained.{Idle, Rests}
+use Rattle.receives.specs.Receive.{elseTake, windowTook, fastTook, Affords, takeFast, openTook, takeWindow, collectedIfDue, pollLoop, refillTake, takeOne, takeLone, takeFair}
+use Rattle.store.proofs.ViewLaws.{slot-in}
+use Rattle.store.proofs.CountLaws.{passing-same}
+use Rattle.store.proofs.StoreLaws.{free-slot}
+use Rattle.store.proofs.LaneFields.{Flagged, flagged-pop-fast, flagged-grant, flagged-pop-fair}
+use Rattle.turns.proofs.TurnLaws.{slot-below, front-issued, front-ordered, turning-budget}
+use Rattle.turns.proofs.FrontLaws.{Keeps, keeps-self, keeps-then, Turned, polledFront, poll-front-turned, turns-keep}
+use Rattle.turns.proofs.CollectKeeps.{collect-keeps}
+
+-- ---- a store in order is ready for turns
+
+module _ (t r : List ℕ) (o : StoreInOrder t r) where
+  seen-registered : (x : ℕ) → x < issued t → view t r .slotOf x .registered ≡ flag (laneAt t x .registered)
+  unfolding slotAt
+  seen-registered x h = rw (slot-in t r x h)
+
+  pub turning-of : Turning t
+  unfolding view registeredIn registeredLanes
+  turning-of =
+      record {
+        shaped = o .stores .shaped;
+        power = o .stores .power;
+        names = o .stores .named;
+        linked = o .stores .linked;
+        lanes = o .stores .lanes;
+        queued-registered = λ x n.
+            eqb-true _ 1 (sym (seen-registered x (o .stores .named .issued-only x n)) ∙ o .ordered .each-slot x .queued-registered n);
+        free-once = λ x. o .ordered .each-slot x .free-once;
+        free-issued = λ x n. free-slot t r o x n .is-issued;
+        free-unregistered = λ x n e. free-slot t r o x n .unregistered e;
+        counted =
+            o .stores .lanes-counted
+            ∙ passing-same (λ x. view t r .slotOf x .registered) (λ x. flag (laneAt t x .registered)) 0 (issued t) (λ x a b. seen-registered x (omega arith));
+      }
+
+  pub ringed-of : Ringed t r
+  ringed-of = o .stores .rings-room
+
+-- ---- windows
+
+nothing-item : {A : Type 0} {l m : Lane} {item : ℕ} → Popped.Nothing l ≡ Popped.Item item m → A
+nothing-item e = let z : _≡_ {A = ℕ} 0 1 = cc in absurd (omega arith)
+
+module _ (ring : Ring) (store : List ℕ) (l : Lane) where
+  -- an item comes of an open window
+  pub pop-open : (item : ℕ) (m : Lane) → popFast ring store l ≡ Popped.Item item m → l .window ≡ 0 → ⊥
+  unfolding popFast
+  pop-open item m e z = nothing-item (rw (eq-eqb (l .window) 0 z) at e)
+
+  pub pop-slot : (p : Popped) → popFast ring store l ≡ p → poppedLane p .key .slot ≡ l .key .slot
+  pop-slot p e = ap (λ (q : Popped). poppedLane q .key .slot) (sym e) ∙ ap (λ (z : Flagged). z .0 .slot) (flagged-pop-fast ring store l)
+
+module _ (t r : List ℕ) (o : StoreInOrder t r) (h : fastSlot t < issued t) (e : laneAt t (fastSlot t) .registered ≡ 1) where
+  pub fast-room : (item : ℕ) (m : Lane) → popFast (ringOf (fastSlot t) (capacity t)) r (laneAt t (fastSlot t)) ≡ Popped.Item item m
+      → Shaped t × (m .key .slot < slots t) × (0 < budget t)
+  fast-room item m p =
+      let some = pop-open (ringOf (fastSlot t) (capacity t)) r (laneAt t (fastSlot t)) item m p in
+      let w : 0 < laneAt t (fastSlot t) .window = omega (arith, some) in
+      let at = pop-slot (ringOf (fastSlot t) (capacity t)) r (laneAt t (fastSlot t)) (Popped.Item item m) p ∙ slot-of-lane t (fastSlot t) in
+      (o .stores .shaped, rw at (slot-below t (turning-of t r o) (fastSlot t) h), omega (arith, w, o .stores .windows (fastSlot t) h e w .within))
+
+-- a window granted is within the budget
+pub granted-within : (C b : ℕ) (l : Lane) → C ≤ 65536 → InOrder C l → grantFast C b l .window ≤ b
+unfolding grantFast openFor
+granted-within C b l s o = window-for-fits C s b (reload (closeFast l)) (closed-reload-keeps C s l o) .3
+
+affords-some : (t : List ℕ) → 0 < budget t → (p : Popped) → Affords t p
+affords-some t h (Popped.Item item l) = h
+affords-some t h (Popped.Nothing l) = omega arith
+
+module _ (t r : List ℕ) (k : Turning t) (some : queueCount t ≡ 0 → ⊥) where
+  granted-slot : grantFast (capacity t) (budget t) (frontLane t) .key .slot ≡ frontSlot t
+  granted-slot = ap (λ (z : Flagged). z .0 .slot) (flagged-grant (capacity t) (budget t) (frontLane t)) ∙ slot-of-lane t (frontSlot t)
+
+  pub window-room : (l : Lane) → l ≡ grantFast (capacity t) (budget t) (frontLane t) → (p : Popped) → p ≡ popFast (ringOf (frontSlot t) (capacity t)) r l
+      → Shaped t × (poppedLane p .key .slot < slots t) × Affords t p
+  window-room l a p e = (
+    k .shaped,
+    rw (pop-slot (ringOf (frontSlot t) (capacity t)) r l p (sym e) ∙ ap (λ (m : Lane). m .key .slot) a ∙ granted-slot) (slot-below t k (frontSlot t) (front-issued t k some)),
+    go p (sym e),
+  )
+    where
+      go : (p : Popped) → popFast (ringOf (frontSlot t) (capacity t)) r l ≡ p → Affords t p
+      go (Popped.Item item m) f =
+          let w = pop-open (ringOf (frontSlot t) (capacity t)) r l item m f in
+          let b : l .window ≤ budget t = rw a (granted-within (capacity t) (budget t) (frontLane t) (k .power .most) (front-ordered t k some)) in
+          omega (arith, w, b)
+      go (Popped.Nothing m) f = omega arith
+
+  pub lone-room : 0 < budget t → (p : Popped) → p ≡ popFair (ringOf (frontSlot t) (capacity t)) r (budget t) (frontLane t)
+      → Shaped t × (poppedLane p .key .slot < slots t) × Affords t p
+  lone-room h p e =
+      let at = ap (λ (q : Popped). poppedLane q .key .slot) e ∙ ap (λ (z : Flagged). z .0 .slot) (flagged-pop-fair (ringOf (frontSlot t) (capacity t)) r (budget t) (frontLane t)) ∙ slot-of-lane t (frontSlot t) in
+      (k .shaped, rw at (slot-below t k (frontSlot t) (front-issued t k some)), affords-some t h p)
+
+-- ---- one take after another
+
+module _ (o : Took × List ℕ) (f : List ℕ → Took × List ℕ) (u : List ℕ) where
+  pub else-item : (item : ℕ) (key : LaneKey) → (Took.Item item key, u) ≡ o → (Took.Item item key, u) ≡ elseTake o f
+  unfolding elseTake
+  else-item item key e = ap (λ (p : Took × List ℕ). elseTake p f) e
+
+  pub else-nothing : (Took.Nothing, u) ≡ o → f u ≡ elseTake o f
+  unfolding elseTake
+  else-nothing e = ap (λ (p : Took × List ℕ). elseTake p f) e
+
+-- a take that handed nothing out and changed nothing
+abbrev pub Unmoved : List ℕ → Took × List ℕ → Type 0
+Unmoved t (Took.Item item key, u) = 0 < 1
+Unmoved t (Took.Nothing, u) = u ≡ t
+
+open-unmoved : (t : List ℕ) (p : Popped) → Unmoved t (openTook t p)
+unfolding openTook windowTook
+open-unmoved t (Popped.Item item l) = omega arith
+open-unmoved t (Popped.Nothing l) = refl
+
+fast-unmoved : (t : List ℕ) (p : Popped) → Unmoved t (fastTook t p)
+unfolding fastTook windowTook
+fast-unmoved t (Popped.Item item l) = omega arith
+fast-unmoved t (Popped.Nothing l) = refl
+
+pub take-fast-unmoved : (t r : List ℕ) → Unmoved t (takeFast t r)
+unfolding takeFast
+take-fast-unmoved t r =
+    cond-holds (Unmoved t) (ltb (fastSlot t) (issued t)) _ (Took.Nothing, t)
+    (λ e. cond-holds (Unmoved t) (eqb (laneAt t (fastSlot t) .registered) 1) _ (Took.Nothing, t) (λ f. fast-unmoved t _) (λ f. refl)) (λ e. refl)
+
+pub take-window-unmoved : (t r : List ℕ) → Unmoved t (takeWindow t r)
+unfolding takeWindow
+take-window-unmoved t r = cond-holds (Unmoved t) (eqb (queueCount t) 0) (Took.Nothing, t) _ (λ e. refl) (λ e. open-unmoved t _)
+
+pub take-lone-unmoved : (t r : List ℕ) → Unmoved t (takeLone t r)
+unfolding takeLone
+take-lone-unmoved t r = cond-holds (Unmoved t) (eqb (queueCount t) 1) _ (Took.Nothing, t) (λ e. open-unmoved t _) (λ e. refl)
+
+pub unmoved-is : (t u : List ℕ) (o : Took × List ℕ) → (Took.Nothing, u) ≡ o → Unmoved t o → u ≡ t
+unmoved-is t u o e k = subst (Unmoved t) (sym e) k
+
+-- ---- what is kept, and where nothing is taken no lane is queued
+
+pub due-keeps : (t : List ℕ) → Turning t → Keeps t (collectedIfDue t)
+unfolding collectedIfDue
+due-keeps t k =
+    cond-holds (Keeps t) (eqb (budget t) 0) _ t
+    (λ e. cond-holds (Keeps t) (eqb (queueCount t) 0) t _ (λ f. keeps-self t k) (λ f. keeps-then (collect-keeps false t k) (budget-keeps (collectReady false t) (collect-keeps false t k .turning) 64)))
+    (λ e. keeps-self t k)
+  where
+    budget-keeps : (u : List ℕ) → Turning u → (v : ℕ) → Keeps u (setHead u 5 v)
+    budget-keeps u k v = record { turning = turning-budget u k v; long = simp frames; same-slots = simp frames; same-capacity = simp frames }
+
+pub fair-keeps : (t : List ℕ) → Turning t → Keeps t (setHead (collectReady true t) 5 64)
+fair-keeps t k =
+    let c = collect-keeps true t k in
+    keeps-then c (record { turning = turning-budget (collectReady true t) (c .turning) 64; long = simp frames; same-slots = simp frames; same-capacity = simp frames })
+
+abbrev Ending : Turn × List ℕ → Type 0
+Ending (Turn.Ends (Took.Item item key), u) = 0 < 1
+Ending (Turn.Ends Took.Nothing, u) = queueCount u ≡ 0
+Ending (Turn.Left, u) = 0 < 1
+
+poll-ending : (t r : List ℕ) (fair : Bool) → Ending (pollFront t r fair)
+unfolding pollFront turnBy
+poll-ending t r fair =
+    cond-holds Ending (eqb (queueCount t) 0) (Turn.Ends Took.Nothing, t) (turnBy t (polledFront t r fair)) (λ e. eqb-true (queueCount t) 0 e) (λ e. go (polledFront t r fair))
+  where
+    go : (p : LanePoll) → Ending (turnBy t p)
+    go (LanePoll.Item item rotate released l) = omega arith
+    go (LanePoll.Idle found) = omega arith
+
+rest-within : (n : ℕ) (t r : List ℕ) (fair : Bool) → Turning t → queueCount t ≡ n → Rests (turnsWithin n t r fair)
+unfolding turnsWithin after
+rest-within zero t r fair k e = record { turning = k; none-queued = e }
+rest-within (suc n) t r fair k e = go (λ u m f. rest-within n u r fair m f) (pollFront t r fair) (poll-front-turned t r fair k) (poll-ending t r fair)
+  where
+    one-less : {m : ℕ} → m + 1 ≡ queueCount t → m ≡ n
+    one-less f = omega arith
+
+    go : ((u : List ℕ) → Turning u → queueCount u ≡ n → Rests (turnsWithin n u r fair)) → (o : Turn × List ℕ) → Turned t o → Ending o
+        → Rests (after o (turnsWithin n (o .1) r fair))
+    go ih (Turn.Ends (Took.Item item key), u) a b = omega arith
+    go ih (Turn.Ends Took.Nothing, u) a b = record { turning = a .keeps .turning; none-queued = b }
+    go ih (Turn.Left, u) a b = ih u (a .keeps .turning) (one-less (a .fewer refl))
+
+pub turns-rest : (t r : List ℕ) (fair : Bool) → Turning t → Rests (turns t r fair)
+unfolding turns
+turns-rest t r fair k = rest-within (queueCount t) t r fair k refl
+
+-- the second take starts where the first ended
+else-rest : (o : Took × List ℕ) (f : List ℕ → Took × List ℕ) → ((u : List ℕ) → o ≡ (Took.Nothing, u) → Rests (f u)) → Rests (elseTake o f)
+unfolding elseTake
+else-rest (Took.Item item key, u) f k = omega arith
+else-rest (Took.Nothing, u) f k = k u refl
+
+loop-rest : (t r : List ℕ) → Turning t → Rests (pollLoop t r)
+unfolding pollLoop
+loop-rest t r k =
+    else-rest (turns t r false) (λ u. turns (collectReady true u) r false)
+    (λ u e. turns-rest (collectReady true u) r false (collect-keeps true u (subst (λ (o : Took × List ℕ). Turning (o .1)) e (turns-keep t r false k .turning)) .turning))
+
+pub refill-rest : (t r : List ℕ) → Turning t → Rests (refillTake t r)
+unfolding refillTake
+refill-rest t r k =
+    else-rest (takeWindow (collectedIfDue t) r) (λ u. pollLoop u r)
+    (λ u e. loop-rest u r (subst Turning (sym (unmoved-is (collectedIfDue t) u _ (sym e) (take-window-unmoved (collectedIfDue t) r))) (due-keeps t k .turning)))
+
+pub take-one-rest : (t r : List ℕ) → Turning t → Rests (takeOne t r)
+unfolding takeOne
+take-one-rest t r k =
+    else-rest (takeFast t r) (λ u. refillTake u r) (λ u e. refill-rest u r (subst Turning (sym (unmoved-is t u _ (sym e) (take-fast-unmoved t r))) k))
+
+pub take-fair-rest : (t r : List ℕ) → Turning t → Rests (takeFair t r)
+unfolding takeFair
+take-fair-rest t r k =
+    let v = setHead (collectReady true t) 5 64 in
+    else-rest (takeLone v r) (λ u. turns u r true)
+    (λ u e. turns-rest u r true (subst Turning (sym (unmoved-is v u _ (sym e) (take-lone-unmoved v r))) (fair-keeps t k .turning)))
+
+-- ---- what the code has for the definitions' parts
+
+pub popped-as : (r : List ℕ) (ring R : Ring) (l m : Lane) (p : Popped) → ring ≡ R → l ≡ m → p ≡ popFast ring r l → p ≡ popFast R r m
+popped-as r ring R l m p a b e = e ∙ ap₂ (λ (x : Ring) (y : Lane). popFast x r y) a b
+
+pub take-fast-is : (t r : List ℕ) → fastSlot t < issued t → laneAt t (fastSlot t) .registered ≡ 1 → (p : Popped)
+    → popFast (ringOf (fastSlot t) (capacity t)) r (laneAt t (fastSlot t)) ≡ p → fastTook t p ≡ takeFast t r
+unfolding takeFast
+take-fast-is t r h e p f = sym (rw (lt-ltb (fastSlot t) (issued t) h, eq-eqb (laneAt t (fastSlot t) .registered) 1 e) (ap (fastTook t) f))
+
+pub take-window-is : (t r : List ℕ) → (queueCount t ≡ 0 → ⊥) → (p : Popped)
+    → p ≡ popFast (ringOf (frontSlot t) (capacity t)) r (grantFast (capacity t) (budget t) (frontLane t)) → openTook t p ≡ takeWindow t r
+unfolding takeWindow
+take-window-is t r h p f = sym (rw (ne-eqb (queueCount t) 0 h) (ap (openTook t) (sym f)))
+
+pub take-lone-is : (t r : List ℕ) → queueCount t ≡ 1 → (p : Popped)
+    → p ≡ popFair (ringOf (frontSlot t) (capacity t)) r (budget t) (frontLane t) → openTook t p ≡ takeLone t r
+unfolding takeLone
+take-lone-is t r h p f = sym (rw (eq-eqb (queueCount t) 1 h) (ap (openTook t) (sym f)))
+
+pub fair-as : (r : List ℕ) (b : ℕ) (ring R : Ring) (l m : Lane) (p : Popped) → ring ≡ R → l ≡ m → p ≡ popFair ring r b l → p ≡ popFair R r b m
+fair-as r b ring R l m p a c e = e ∙ ap₂ (λ (x : Ring) (y : Lane). popFair x r b y) a c
+
+pub opened-room : (t : List ℕ) (p : Popped) → Shaped t × (poppedLane p .key .slot < slots t) × Affords t p → (item : ℕ) (l : Lane) → p ≡ Popped.Item item l → (v : ℕ)
+    → Shaped (setHead t 12 v) × (l .key .slot < slots (setHead t 12 v)) × (0 < budget (setHead t 12 v))
+opened-room t p k item l e v =
+    let q = subst (λ (z : Popped). Shaped t × (poppedLane z .key .slot < slots t) × Affords t z) e k in
+    (shaped-setHead t (q .0) 12 v refl refl refl refl refl refl, simp frames (q .1), simp frames (q .2))
+
+window-long : (t : List ℕ) (item : ℕ) (l : Lane) (v : ℕ) → length ((windowTook (setHead t 12 v) item l) .1) ≡ length t
+unfolding windowTook
+window-long t item l v = simp frames
+
+open-long : (t : List ℕ) (p : Popped) → length ((openTook t p) .1) ≡ length t
+unfolding openTook
+open-long t (Popped.Item item l) = window-long t item l (l .key .slot)
+open-long t (Popped.Nothing l) = refl
+
+pub take-lone-long : (t r : List ℕ) → length ((takeLone t r) .1) ≡ length t
+unfolding takeLone
+take-lone-long t r = cond-holds (λ (o : Took × List ℕ). length (o .1) ≡ length t) (eqb (queueCount t) 1) _ (Took.Nothing, t) (λ e. open-long t _) (λ e. refl)
+
+pub fair-budget : (t : List ℕ) → Turning t → 0 < budget (setHead (collectReady true t) 5 64)
+fair-budget t k = simp (frames, header-in (collectReady true t) (collect-keeps true t k .turning .shaped)) (omega arith)
+
+pub opened-long : (t u : List ℕ) (took : Took) (item : ℕ) (l : Lane) (v : ℕ) → (took, u) ≡ windowTook (setHead t 12 v) item l → length u ≡ length t
+opened-long t u took item l v e = ap (λ (o : Took × List ℕ). length (o .1)) e ∙ window-long t item l v

@@ -1,0 +1,53 @@
+-- The targeted receive, as words.
+-- Assumes nothing.
+use mathlib.Core.Bool.{cond}
+use mathlib.Core.List.{List}
+use Prim.Native.Nat.{ℕ}
+use lib.Dec.{eqb}
+use Rattle.model.specs.declared.LaneId.{LaneId}
+use Rattle.model.specs.declared.Answer.{Answer}
+use Rattle.model.specs.declared.Answer.the-variants.{Item, Empty, Disconnected}
+use Rattle.lane.specs.declared.lane.Lane.{Lane}
+use Rattle.lane.specs.declared.lane.EmptyLane.{EmptyLane}
+use Rattle.lane.specs.declared.lane.Refill.{Refill}
+use Rattle.lane.specs.declared.lane.Refill.the-variants as Refill
+use Rattle.lane.specs.Ring.{ringOf}
+use Rattle.lane.specs.Lane.{refill, popTargeted}
+use Rattle.lane.specs.Table.{laneAt, putLane}
+use Rattle.ready.specs.Header.{capacity, channel}
+use Rattle.ready.specs.Queue.{pushedBack, removed}
+use Rattle.store.specs.Refusal.{idVerdict}
+use Rattle.store.specs.Words.{Words, unlessRefused}
+use Rattle.store.specs.Signal.{markedIfIdle}
+use Rattle.control.specs.Control.{withTurn}
+use Rattle.turns.specs.Turn.{retiredIf}
+use Rattle.receives.specs.Receive.{withRings}
+
+-- A lane found empty settles and leaves the queue; with its sender dropped it retires and the answer is Disconnected.
+unfoldable pub targetSettled : List ℕ → EmptyLane → Answer × List ℕ
+targetSettled t found = (
+  cond (found .disconnected) Disconnected Empty,
+  retiredIf (found .disconnected) (removed (putLane t (found .lane)) (found .lane .key .slot)) (found .lane),
+)
+
+-- "Whatever queues a lane, resume too, puts it at the back." Its signal is marked.
+unfoldable pub targetQueued : List ℕ → Lane → List ℕ
+targetQueued t l = pushedBack (markedIfIdle (putLane t (withTurn 1 1 0 l)) l) (l .key .slot)
+
+-- "works on a paused lane, queues an unpaused one"
+unfoldable pub targetKept : List ℕ → Lane → List ℕ
+targetKept t l = cond (eqb (l .paused) 0) (cond (eqb (l .queued) 0) (targetQueued t l) (putLane t l)) (putLane t l)
+
+-- "Targeted: counts in neither burst nor budget"
+unfoldable pub targetTook : List ℕ → List ℕ → ℕ → Refill → Answer × List ℕ
+targetTook t r x (Refill.Idle found) = targetSettled t found
+targetTook t r x (Refill.Ready l) = (
+  Item (popTargeted (ringOf x (capacity t)) r l .item) (record { channel = channel t; key = l .key }),
+  targetKept t (popTargeted (ringOf x (capacity t)) r l .lane),
+)
+
+unfoldable pub takeFrom : List ℕ → List ℕ → ℕ → Answer × List ℕ
+takeFrom t r x = targetTook t r x (refill (laneAt t x))
+
+unfoldable pub tryRecvFrom : List ℕ → List ℕ → LaneId → Words
+tryRecvFrom t r i = unlessRefused (idVerdict t i) t r (withRings r (takeFrom t r (i .key .slot)))

@@ -1,0 +1,4 @@
+pub mod TurnLaws
+pub mod FrontLaws
+pub mod CollectKeeps
+pub mod DrainedLaws

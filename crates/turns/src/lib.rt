@@ -1,0 +1,3 @@
+// Turns at the front of the queue, and what follows where nothing was taken.
+pub mod drained;
+pub mod turn;

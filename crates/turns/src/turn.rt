@@ -1,0 +1,141 @@
+// A turn at the front of the queue: the poll loop of src/mpsc/receiver.rs, and `settle_empty_front` of receiver/batch.rs.
+ghost use mathlib.Core.Path.{_≡_};
+ghost use Prim.Native.Nat.{_*_, _≤_, _<_};
+ghost use lib.ListN.{length};
+ghost use Rattle.ready.specs.Header.{Shaped, slots, queueCount, freeCount, laneCount, capacity};
+ghost use Rattle.turns.specs.Turn.{Turning, Ringed, retiredIf, leftFront, budgetMet, lessOne, rotatedIf, gaveFront, pollFront, turns};
+use lane::lane::EmptyLane;
+use lane::lane::Lane;
+use lane::lane::LanePoll;
+use lane::ring::Ring;
+use model::LaneKey;
+use ready::header::Header;
+use ready::queue;
+use store::registry;
+
+// What a take hands out.
+pub enum Took {
+    Item { item: u64, key: LaneKey },
+    Nothing,
+}
+
+// A turn ends the take, or its lane was empty and has left the queue.
+pub enum Turn {
+    Ends { took: Took },
+    Left,
+}
+
+// A lane whose sender is dropped retires.
+pub fn retire_if(t: &mut [u64], l: Lane, dropped: bool)
+    requires { ⌜ Shaped (now t) × (l .key .slot < slots (now t)) × (freeCount (now t) < slots (now t)) × (0 < laneCount (now t)) ⌝ }
+    ensures { λ _. ⌜ now (t .exit) ≡ retiredIf dropped (now (t .entry)) l ⌝ }
+{
+    if dropped {
+        registry::retire_lane(t, l);
+    }
+}
+
+// The front lane was found empty: it leaves the queue.
+pub fn settle_empty_front(t: &mut [u64], found: EmptyLane)
+    requires { ⌜ Shaped (now t) × (found .lane .key .slot < slots (now t)) × (0 < queueCount (now t)) × (freeCount (now t) < slots (now t)) × (0 < laneCount (now t)) ⌝ }
+    ensures { λ _. ⌜ now (t .exit) ≡ leftFront (now (t .entry)) found ⌝ }
+{
+    let l = found.lane;
+    l.store(t);
+    queue::pop_front(t);
+    retire_if(t, l, found.disconnected);
+}
+
+// Before every turn but the first a budget of 0 becomes 64.
+pub fn meet_budget(t: &mut [u64])
+    requires { ⌜ Shaped (now t) ⌝ }
+    ensures { λ _. ⌜ now (t .exit) ≡ budgetMet (now (t .entry)) ⌝ }
+{
+    if t[Header::QUEUED] == 0 {
+        return;
+    }
+    if t[Header::BUDGET] == 0 {
+        t[Header::BUDGET] = Header::POLL_BUDGET;
+    }
+}
+
+// The budget after one more item. Where it is 0 the Rust would subtract from 0.
+fn less_one(budget: u64) -> u64
+    ensures { λ r. ⌜ r ≡ lessOne budget ⌝ }
+{
+    if budget == 0 {
+        return Header::POLL_BUDGET - 1;
+    }
+    budget - 1
+}
+
+pub fn rotate_if(t: &mut [u64], rotate: bool)
+    requires { ⌜ Shaped (now t) × (0 < queueCount (now t)) ⌝ }
+    ensures { λ _. ⌜ now (t .exit) ≡ rotatedIf rotate (now (t .entry)) ⌝ }
+{
+    if rotate {
+        queue::rotate(t);
+    }
+}
+
+// The front lane gave an item.
+fn gave_front(t: &mut [u64], rotate: bool, l: Lane)
+    requires { ⌜ Shaped (now t) × (l .key .slot < slots (now t)) × (0 < queueCount (now t)) ⌝ }
+    ensures { λ _. ⌜ now (t .exit) ≡ gaveFront (now (t .entry)) rotate l ⌝ }
+{
+    let budget = less_one(t[Header::BUDGET]);
+    l.store(t);
+    rotate_if(t, rotate);
+    t[Header::BUDGET] = budget;
+}
+
+// One turn: the front lane gives an item, or is empty and leaves.
+fn poll_front(t: &mut [u64], r: &[u64], fair: bool) -> Turn
+    requires { ⌜ Turning (now t) × Ringed (now t) (now r) ⌝ }
+    ensures { λ a. ⌜ (a, now (t .exit)) ≡ pollFront (now (t .entry)) (now (r .entry)) fair ⌝ }
+{
+    if t[Header::QUEUED] == 0 {
+        return Turn::Ends {
+            took: Took::Nothing,
+        };
+    }
+    let slot = queue::front(t);
+    let ring = Ring::new(slot, t[Header::CAPACITY]);
+    match Lane::load(t, slot).poll(ring, r, fair) {
+        LanePoll::Idle { found } => {
+            settle_empty_front(t, found);
+            meet_budget(t);
+            Turn::Left
+        }
+        LanePoll::Item {
+            item,
+            rotate,
+            released: _,
+            lane,
+        } => {
+            gave_front(t, rotate, lane);
+            let key = lane.key;
+            Turn::Ends {
+                took: Took::Item {
+                    item: item,
+                    key: key,
+                },
+            }
+        }
+    }
+}
+
+// Turn after turn, until a lane gives an item or none is queued.
+pub fn turns(t: &mut [u64], r: &[u64], fair: bool) -> Took
+    requires { ⌜ Turning (now t) × Ringed (now t) (now r) ⌝ }
+    ensures { λ a. ⌜ (a, now (t .exit)) ≡ turns (now (t .entry)) (now (r .entry)) fair ⌝ }
+{
+    loop {
+        match poll_front(t, r, fair) {
+            Turn::Ends { took } => {
+                return took;
+            }
+            Turn::Left => {}
+        }
+    }
+}

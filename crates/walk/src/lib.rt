@@ -1,0 +1,2 @@
+// The calls that go over every issued slot.
+pub mod batch;
