@@ -239,11 +239,6 @@ refill-rest t r k =
     else-rest (takeWindow (collectedIfDue t) r) (λ u. pollLoop u r)
     (λ u e. loop-rest u r (subst Turning (sym (unmoved-is (collectedIfDue t) u _ (sym e) (take-window-unmoved (collectedIfDue t) r))) (due-keeps t k .turning)))
 
-pub take-one-rest : (t r : List ℕ) → Turning t → Rests (takeOne t r)
-unfolding takeOne
-take-one-rest t r k =
-    else-rest (takeFast t r) (λ u. refillTake u r) (λ u e. refill-rest u r (subst Turning (sym (unmoved-is t u _ (sym e) (take-fast-unmoved t r))) k))
-
 pub take-fair-rest : (t r : List ℕ) → Turning t → Rests (takeFair t r)
 unfolding takeFair
 take-fair-rest t r k =
@@ -252,9 +247,6 @@ take-fair-rest t r k =
     (λ u e. turns-rest u r true (subst Turning (sym (unmoved-is v u _ (sym e) (take-lone-unmoved v r))) (fair-keeps t k .turning)))
 
 -- ---- what the code has for the definitions' parts
-
-pub popped-as : (r : List ℕ) (ring R : Ring) (l m : Lane) (p : Popped) → ring ≡ R → l ≡ m → p ≡ popFast ring r l → p ≡ popFast R r m
-popped-as r ring R l m p a b e = e ∙ ap₂ (λ (x : Ring) (y : Lane). popFast x r y) a b
 
 pub take-fast-is : (t r : List ℕ) → fastSlot t < issued t → laneAt t (fastSlot t) .registered ≡ 1 → (p : Popped)
     → popFast (ringOf (fastSlot t) (capacity t)) r (laneAt t (fastSlot t)) ≡ p → fastTook t p ≡ takeFast t r
@@ -270,9 +262,6 @@ pub take-lone-is : (t r : List ℕ) → queueCount t ≡ 1 → (p : Popped)
     → p ≡ popFair (ringOf (frontSlot t) (capacity t)) r (budget t) (frontLane t) → openTook t p ≡ takeLone t r
 unfolding takeLone
 take-lone-is t r h p f = sym (rw (eq-eqb (queueCount t) 1 h) (ap (openTook t) (sym f)))
-
-pub fair-as : (r : List ℕ) (b : ℕ) (ring R : Ring) (l m : Lane) (p : Popped) → ring ≡ R → l ≡ m → p ≡ popFair ring r b l → p ≡ popFair R r b m
-fair-as r b ring R l m p a c e = e ∙ ap₂ (λ (x : Ring) (y : Lane). popFair x r b y) a c
 
 pub opened-room : (t : List ℕ) (p : Popped) → Shaped t × (poppedLane p .key .slot < slots t) × Affords t p → (item : ℕ) (l : Lane) → p ≡ Popped.Item item l → (v : ℕ)
     → Shaped (setHead t 12 v) × (l .key .slot < slots (setHead t 12 v)) × (0 < budget (setHead t 12 v))

@@ -105,17 +105,6 @@ retiring-next t₀ t slot k h u e =
 pub retiring-end : (t₀ t : List ℕ) (slot : ℕ) → Retiring t₀ t slot → issued t₀ ≤ slot → t ≡ retireEmptyPausedLanes t₀
 retiring-end t₀ t slot k n = sym (slots-end retireEmptyPaused (issued t₀) slot t n) ∙ k .rest
 
-still-slots : (n x : ℕ) (t : List ℕ) → Idle t → x + n ≤ issued t → Idle (forSlots retireEmptyPaused n x t)
-unfolding forSlots
-still-slots zero x t k m = k
-still-slots (suc n) x t k m =
-    let s = still-slot t k x (omega arith) in
-    still-slots n (x + 1) (retireEmptyPaused t x) (s .idle) (omega (arith, s .same-issued))
-
-pub still-all : (t : List ℕ) → Idle t → Idle (retireEmptyPausedLanes t)
-unfolding retireEmptyPausedLanes
-still-all t k = still-slots (issued t) 0 t k (omega arith)
-
 answered : Bool × List ℕ → Answer × List ℕ
 answered o = (cond (o .0) Disconnected Empty, o .1)
 
