@@ -28,7 +28,7 @@ returns-2 : tie.Need-returns-2
 unfolding sendUnsignaled
 returns-2 c =
     let e = c .before .before .before .before .before .before .before .before .before .push-and-flush .ensures ∙ ap₂ (λ (g : Ring) (m : Lane). pushAndFlush g (c .before .before .before .before .before .before .before .before .before .before .before .before .before .before .before .before .before .args .r .now) (c .before .before .before .before .before .before .before .before .before .before .before .before .before .before .before .before .before .args .item) m) (c .before .before .before .before .before .before .before .before .before .before .before .before .before .new .ensures) (c .before .before .before .before .before .before .before .before .before .before .before .load .ensures) in
-    rw (← e, c .before .before .before .before .before .lane .given .1, ← c .before .before .store .ensures)
+    rw (← e, c .before .before .before .before .before .lane .given .1, c .before .before .store .ensures)
 
 pub send-unsignaled-spec : {M : Type 1} → statement M
 send-unsignaled-spec =
