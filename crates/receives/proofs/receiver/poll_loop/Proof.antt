@@ -31,7 +31,7 @@ collect-ready-requires c κs =
 turns-requires-2 : tie.Need-turns-requires-2
 turns-requires-2 c κs =
     let k = subst (λ (o : Took × List ℕ). Keeps (c .before .before .before .before .before .before .before .before .before .before .before .before .before .args .t .now) (o .1)) (sym (c .before .before .before .before .before .before .before .before .before .turns .ensures)) (turns-keep _ (c .before .before .before .before .before .before .before .before .before .before .before .before .before .args .r .now) false (c .before .before .before .before .before .before .before .before .before .before .before .before .before .pre .0)) in
-    let m = collect-keeps true _ (k .turning) in
+    let m = collect-keeps _ _ (k .turning) in
     rw (c .before .before .before .collect-ready .ensures) (m .turning, keeps-ringed (keeps-then k m) (c .before .before .before .before .before .before .before .before .before .before .before .before .before .args .r .now) (c .before .before .before .before .before .before .before .before .before .before .before .before .before .pre .1))
 
 same-length : tie.Need-same-length
