@@ -1,4 +1,3 @@
-pub mod FastLaws
 pub mod SameFlags
 pub mod NothingTakenLaws
 pub mod EmptyLaneLaws

@@ -1,2 +1,3 @@
 pub mod ReceiveLaws
 pub mod TargetLaws
+pub mod FastLaws

@@ -3,7 +3,7 @@
 use mathlib.Core.Path.{sym, ap, _∙_, subst}
 use Rattle.turns.specs.Drained.{Rests}
 use Rattle.receives.specs.Receive.{answerOne}
-use Rattle.receiver.proofs.FastLaws.{open-sizes, open-ring, open-within, open-room, open-take, window-rests}
+use Rattle.receives.proofs.FastLaws.{open-sizes, open-ring, open-within, open-room, open-take, window-rests}
 use borrow.Author.Needs.{needs}
 use Rattle.receives.proofs.receiver.recv_window.Statement.{statement}
 use Rattle.receives.proofs.receiver.recv_window.Tie as tie

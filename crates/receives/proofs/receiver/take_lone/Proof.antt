@@ -5,7 +5,7 @@ use native.Mathlib.Omega.{arith}
 use borrow.Author.Tests.{ne-eqb}
 use Rattle.receives.specs.Receive.{takeLone}
 use Rattle.turns.proofs.TurnLaws.{slot-below, ring-in, front-issued, front-ordered}
-use Rattle.receiver.proofs.FastLaws.{lone-none, lone-item, lone-item-room}
+use Rattle.receives.proofs.FastLaws.{lone-none, lone-item, lone-item-room}
 use borrow.Author.Needs.{needs}
 use Rattle.receives.proofs.receiver.take_lone.Statement.{statement}
 use Rattle.receives.proofs.receiver.take_lone.Tie as tie
