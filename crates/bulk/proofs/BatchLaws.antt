@@ -18,10 +18,10 @@ use Rattle.lane.specs.declared.lane.Lane.{Lane}
 use Rattle.lane.specs.Lane.{releasePending}
 use Rattle.lane.specs.Table.{laneAt, putLane}
 use Rattle.lane.proofs.OrderLaws.{release-pending-keeps, refundable}
-use Rattle.ready.specs.Header.{Shaped, issued, queueCount, capacity, laneCount, livingCount, fastSlot, budget}
-use Rattle.ready.specs.Queue.{queueOf}
-use Rattle.ready.specs.Registry.{freeOf}
-use Rattle.ready.proofs.RegistryLaws.{registry-frames}
+use Rattle.queues.specs.Header.{Shaped, issued, queueCount, capacity, laneCount, livingCount, fastSlot, budget}
+use Rattle.queues.specs.Queue.{queueOf}
+use Rattle.queues.specs.Registry.{freeOf}
+use Rattle.queues.proofs.RegistryLaws.{registry-frames}
 use Rattle.store.specs.View.{flag}
 use Rattle.store.specs.declared.refusal.Verdict.{Verdict}
 use Rattle.store.specs.declared.refusal.Verdict.the-variants.{Pass, Refuse}

@@ -7,19 +7,19 @@ use native.Mathlib.Omega.{arith}
 use borrow.Author.Tests.{eqb-false}
 use lib.Dec.{eqb}
 use lib.ListN.{length, set}
-use Rattle.lane.specs.declared.ring.Ring.{Ring}
+use Rattle.yring.specs.declared.ring.Ring.{Ring}
 use Rattle.lane.specs.declared.consumer.Moved.{Moved}
 use Rattle.lane.specs.declared.lane.Lane.{Lane}
 use Rattle.lane.specs.declared.lane.BurstEnd.{BurstEnd}
-use Rattle.lane.specs.Lists.{written}
-use Rattle.lane.specs.Ring.{ringOf, items, Within}
+use Rattle.yring.specs.Lists.{written}
+use Rattle.yring.specs.Ring.{ringOf, items, Within}
 use Rattle.lane.specs.Order.{Counts, InOrder, Filled}
 use Rattle.lane.specs.Lane.{headOn, charged, addBurst, movedInto, endFullBurst, chunkLimit, chunkMoved, moveChunk}
 use Rattle.lane.specs.Table.{putLane, setHead}
 use Rattle.lane.proofs.OrderLaws.{cond-holds, refill-fills, chunk-whole, move-chunk-keeps}
 use Rattle.lane.proofs.TableLaws.{frames, slot-of-lane}
-use Rattle.ready.specs.Header.{slots, budget, capacity}
-use Rattle.ready.specs.Queue.{frontSlot}
+use Rattle.queues.specs.Header.{slots, budget, capacity}
+use Rattle.queues.specs.Queue.{frontSlot}
 use Rattle.turns.specs.Turn.{Turning, Ringed, frontLane, lessOne, rotatedIf, gaveFront}
 use Rattle.bulk.specs.Drain.{Fronts, fullBudget, chunkSize, chunkItems, chunkLane, gaveChunk, chunkGiven}
 use Rattle.store.proofs.LaneFields.{Flagged, flagged, flagged-at-batch, flagged-end, RefillKept, refill-kept}

@@ -11,8 +11,8 @@ use lib.ListN.{length, length-append, length-map}
 use Rattle.model.specs.declared.LaneKey.{LaneKey}
 use Rattle.model.specs.Receive as rules
 use Rattle.lane.specs.declared.lane.Lane.{Lane}
-use Rattle.lane.specs.Lists.{tab, written}
-use Rattle.lane.specs.Ring.{items}
+use Rattle.yring.specs.Lists.{tab, written}
+use Rattle.yring.specs.Ring.{items}
 use Rattle.bulk.specs.declared.drain.Front.{Front}
 use Rattle.bulk.specs.declared.drain.Front.the-variants as Front
 use Rattle.turns.specs.Turn.{Turning}

@@ -15,8 +15,8 @@ use Rattle.lane.specs.Order.{InOrder, Refundable, refilledLane}
 use Rattle.lane.specs.Lane.{refill}
 use Rattle.lane.specs.Table.{laneAt}
 use Rattle.lane.proofs.OrderLaws.{cond-holds, refundable, refill-keeps}
-use Rattle.ready.specs.Header.{Shaped, slots, queueCount, freeCount, capacity, laneCount}
-use Rattle.ready.specs.Queue.{frontSlot}
+use Rattle.queues.specs.Header.{Shaped, slots, queueCount, freeCount, capacity, laneCount}
+use Rattle.queues.specs.Queue.{frontSlot}
 use Rattle.ready.specs.Ready.{collectReady}
 use Rattle.bulk.specs.declared.drain.Front.{Front}
 use Rattle.bulk.specs.declared.drain.Front.the-variants as Front

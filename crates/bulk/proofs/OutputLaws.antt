@@ -8,8 +8,8 @@ use native.Mathlib.Nat.{zero-add}
 use lib.ListN.{length, drop, length-append, length-map, length-drop}
 use Rattle.model.specs.declared.LaneKey.{LaneKey}
 use Rattle.model.specs.Receive as rules
-use Rattle.lane.specs.Lists.{written}
-use Rattle.lane.proofs.ListLaws.{written-twice}
+use Rattle.yring.specs.Lists.{written}
+use Rattle.yring.proofs.ListLaws.{written-twice}
 
 -- The words of what is handed out.
 abbrev pub valuesOf : List (LaneKey × ℕ) → List ℕ

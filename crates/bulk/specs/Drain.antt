@@ -14,11 +14,11 @@ use Rattle.model.specs.Receive as rules
 use Rattle.lane.specs.declared.lane.Lane.{Lane}
 use Rattle.lane.specs.declared.lane.Refill.{Refill}
 use Rattle.lane.specs.declared.lane.Refill.the-variants as Refill
-use Rattle.lane.specs.Lists.{written}
-use Rattle.lane.specs.Ring.{ringOf, items}
+use Rattle.yring.specs.Lists.{written}
+use Rattle.yring.specs.Ring.{ringOf, items}
 use Rattle.lane.specs.Lane.{headOn, charged, addBurst, releaseAtBatch, refill, endFullBurst, chunkLimit}
 use Rattle.lane.specs.Table.{putLane, setHead}
-use Rattle.ready.specs.Header.{queueCount, budget, capacity}
+use Rattle.queues.specs.Header.{queueCount, budget, capacity}
 use Rattle.ready.specs.Ready.{collectReady}
 use Rattle.store.specs.declared.refusal.Verdict.{Verdict}
 use Rattle.store.specs.declared.refusal.Verdict.the-variants.{Pass, Refuse}

@@ -2,7 +2,7 @@
 ghost use mathlib.Core.Path.{_≡_};
 ghost use Prim.Native.Nat.{_+_, _≤_, _<_};
 ghost use lib.ListN.{length};
-ghost use Rattle.ready.specs.Header.{Shaped, slots, queueCount, budget};
+ghost use Rattle.queues.specs.Header.{Shaped, slots, queueCount, budget};
 ghost use Rattle.store.specs.Order.{StoreInOrder};
 ghost use Rattle.turns.specs.Turn.{Turning, Ringed};
 ghost use Rattle.bulk.specs.Drain.{
@@ -22,12 +22,10 @@ ghost use Rattle.bulk.specs.Drain.{
 };
 use lane::lane::Lane;
 use lane::lane::Refill;
-use lane::num;
-use lane::ring::Ring;
 use model::Answer;
 use model::Refusal;
-use ready::header::Header;
-use ready::queue;
+use queues::header::Header;
+use queues::queue;
 use ready::ready as marks;
 use receives::receiver;
 use store::refusal;
@@ -35,6 +33,8 @@ use store::refusal::Verdict;
 use turns::drained;
 use turns::turn;
 use walk::batch;
+use yring::num;
+use yring::ring::Ring;
 
 // The front lane with items at hand, or no lane is queued.
 pub enum Front {

@@ -5,11 +5,11 @@ use mathlib.Core.Bool.{false}
 use mathlib.Core.List.{List}
 use Prim.Native.Nat.{ℕ}
 use native.Mathlib.Omega.{arith}
-use Rattle.lane.specs.Cursor.{Capacity}
-use Rattle.lane.specs.Ring.{ringOf}
+use Rattle.yring.specs.Cursor.{Capacity}
+use Rattle.yring.specs.Ring.{ringOf}
 use Rattle.lane.specs.Lane.{pushAndFlush, poll}
 use Rattle.lane.specs.Order.{InOrder, sentLane, polledLane}
-use Rattle.lane.specs.declared.ring.Ring.{Ring}
+use Rattle.yring.specs.declared.ring.Ring.{Ring}
 use Rattle.lane.specs.declared.lane.Lane.{Lane}
 use Rattle.lane.specs.declared.lane.LanePoll.{LanePoll}
 use Rattle.lane.specs.declared.consumer.Sent.{Sent}

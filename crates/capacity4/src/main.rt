@@ -2,14 +2,14 @@
 // plain receives still 11; after the fourth, taken." A line for each call, and what it answers.
 ghost use mathlib.Core.Path.{_≡_};
 ghost use mathlib.Core.Bool.{false};
-ghost use Rattle.lane.specs.Ring.{ringOf};
+ghost use Rattle.yring.specs.Ring.{ringOf};
 ghost use Rattle.lane.specs.Lane.{newLane, pushAndFlush, poll};
 ghost use Rattle.lane.specs.Order.{InOrder, sentLane, polledLane};
 use lane::consumer::Sent;
 use lane::lane::Lane;
 use lane::lane::LanePoll;
-use lane::ring::Ring;
 use model::LaneKey;
+use yring::ring::Ring;
 
 // The lane of slot 0, newly registered.
 fn start() -> Lane

@@ -16,9 +16,9 @@ use Rattle.model.proofs.Counting.{without-own, without-other}
 use Rattle.lane.specs.declared.lane.Lane.{Lane}
 use Rattle.lane.specs.Table.{laneAt}
 use Rattle.lane.proofs.TableLaws.{slot-of-lane}
-use Rattle.ready.specs.Header.{issued, slots, budget, fastSlot, freeCount, laneCount, livingCount}
-use Rattle.ready.specs.Queue.{queueOf, removed}
-use Rattle.ready.proofs.QueueLaws.{queue-frames, shaped-removed, head-removed, lane-removed}
+use Rattle.queues.specs.Header.{issued, slots, budget, fastSlot, freeCount, laneCount, livingCount}
+use Rattle.queues.specs.Queue.{queueOf, removed}
+use Rattle.queues.proofs.QueueLaws.{queue-frames, shaped-removed, head-removed, lane-removed}
 use Rattle.store.specs.View.{view}
 use Rattle.store.specs.Order.{Stores, StoreInOrder}
 use Rattle.store.specs.Refusal.{idVerdict}

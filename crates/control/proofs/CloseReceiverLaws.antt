@@ -12,8 +12,8 @@ use Rattle.model.specs.Outcome.{says}
 use Rattle.model.specs.Control as rules
 use Rattle.lane.specs.Table.{setHead, laneAt}
 use Rattle.lane.proofs.TableLaws.{frames, lane-setHead}
-use Rattle.ready.proofs.QueueLaws.{queue-frames, header-in, shaped-setHead}
-use Rattle.ready.proofs.NamesLaws.{names-same}
+use Rattle.queues.proofs.QueueLaws.{queue-frames, header-in, shaped-setHead}
+use Rattle.queues.proofs.NamesLaws.{names-same}
 use Rattle.store.specs.View.{view}
 use Rattle.store.specs.Order.{Stores, StoreInOrder}
 use Rattle.store.specs.Refusal.{receiverVerdict}

@@ -19,9 +19,9 @@ use Rattle.lane.specs.Table.{laneAt, putLane}
 use Rattle.lane.proofs.OrderLaws.{release-pending-keeps}
 use Rattle.lane.proofs.TableLaws.{slot-of-lane}
 use Rattle.lane.specs.Lane.{releasePending}
-use Rattle.ready.specs.Header.{issued, capacity, budget, fastSlot, laneCount, livingCount}
-use Rattle.ready.specs.Queue.{queueOf, removed}
-use Rattle.ready.proofs.QueueLaws.{shaped-putLane}
+use Rattle.queues.specs.Header.{issued, capacity, budget, fastSlot, laneCount, livingCount}
+use Rattle.queues.specs.Queue.{queueOf, removed}
+use Rattle.queues.proofs.QueueLaws.{shaped-putLane}
 use Rattle.store.specs.View.{flag, slotAt, view}
 use Rattle.store.specs.Order.{Flags, Stores, StoreInOrder}
 use Rattle.store.specs.Refusal.{idVerdict}

@@ -6,7 +6,7 @@ use Prim.Native.Nat.{ℕ}
 use borrow.Author.Tests.{eq-eqb, ne-eqb}
 use Rattle.lane.specs.declared.lane.Lane.{Lane}
 use Rattle.lane.specs.Table.{putLane}
-use Rattle.ready.specs.Queue.{pushedBack}
+use Rattle.queues.specs.Queue.{pushedBack}
 use Rattle.store.specs.Signal.{markedIfIdle}
 use Rattle.control.specs.Control.{withTurn, resumed}
 

@@ -15,9 +15,9 @@ use Rattle.model.specs.Control as rules
 use Rattle.lane.specs.declared.lane.Lane.{Lane}
 use Rattle.lane.specs.Table.{laneAt, putLane}
 use Rattle.lane.proofs.TableLaws.{frames, slot-of-lane}
-use Rattle.ready.specs.Header.{Shaped, issued, slots, budget, fastSlot, laneCount, livingCount, queueCount}
-use Rattle.ready.specs.Queue.{queueOf, pushedBack}
-use Rattle.ready.proofs.QueueLaws.{shaped-putLane, length-queue}
+use Rattle.queues.specs.Header.{Shaped, issued, slots, budget, fastSlot, laneCount, livingCount, queueCount}
+use Rattle.queues.specs.Queue.{queueOf, pushedBack}
+use Rattle.queues.proofs.QueueLaws.{shaped-putLane, length-queue}
 use Rattle.store.specs.View.{flag, slotAt, view}
 use Rattle.store.specs.Order.{Stores, StoreInOrder}
 use Rattle.store.specs.Refusal.{idVerdict}

@@ -9,7 +9,7 @@ use Rattle.model.specs.declared.Answer.the-variants.{Done}
 use Rattle.lane.specs.declared.lane.Lane.{Lane}
 use Rattle.lane.specs.Lane.{releasePending}
 use Rattle.lane.specs.Table.{laneAt, putLane, setHead}
-use Rattle.ready.specs.Queue.{pushedBack, removed}
+use Rattle.queues.specs.Queue.{pushedBack, removed}
 use Rattle.store.specs.Refusal.{receiverVerdict, idVerdict}
 use Rattle.store.specs.Words.{Words, unlessRefused}
 use Rattle.store.specs.Signal.{markedIfIdle}

@@ -2,14 +2,14 @@
 ghost use mathlib.Core.Path.{_≡_};
 ghost use Prim.Native.Nat.{_<_};
 ghost use Rattle.lane.specs.Order.{Refundable};
-ghost use Rattle.ready.specs.Header.{Shaped, slots, queueCount, freeCount, laneCount};
+ghost use Rattle.queues.specs.Header.{Shaped, slots, queueCount, freeCount, laneCount};
 ghost use Rattle.store.specs.Order.{StoreInOrder};
 ghost use Rattle.control.specs.Control.{withTurn, paused, pause, resumed, resume, closed, closeLane, closeReceiver};
 use lane::lane::Lane;
 use model::Answer;
 use model::LaneId;
-use ready::header::Header;
-use ready::queue;
+use queues::header::Header;
+use queues::queue;
 use store::refusal;
 use store::refusal::Verdict;
 use store::registry;

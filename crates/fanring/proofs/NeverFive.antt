@@ -28,8 +28,8 @@ use Rattle.lane.specs.declared.lane.Lane.{Lane}
 use Rattle.lane.specs.declared.consumer.Sent.{Sent}
 use Rattle.lane.specs.declared.consumer.Sent.the-variants as Sent
 use Rattle.lane.specs.Table.{laneAt}
-use Rattle.ready.specs.Header.{issued, freeCount, slots, alive, channel, laneCount}
-use Rattle.ready.specs.Registry.{lastFreed}
+use Rattle.queues.specs.Header.{issued, freeCount, slots, alive, channel, laneCount}
+use Rattle.queues.specs.Registry.{lastFreed}
 use Rattle.store.specs.declared.refusal.Verdict.{Verdict}
 use Rattle.store.specs.declared.refusal.Verdict.the-variants.{Pass, Refuse}
 use Rattle.store.specs.Refusal.{senderVerdict, closedVerdict, receiverVerdict, laneVerdict, andThen, sendVerdict, idVerdict}

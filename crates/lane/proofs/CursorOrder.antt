@@ -3,9 +3,9 @@
 use mathlib.Core.Path.{_≡_, _∙_, ap}
 use Prim.Native.Nat.{ℕ, _+_, _-_, _≤_, _<_, _^_}
 use native.Mathlib.Omega.{arith}
-use Rattle.lane.specs.Cursor.{after, distance}
+use Rattle.yring.specs.Cursor.{after, distance}
 use Rattle.lane.specs.Order.{Cursors}
-use Rattle.lane.proofs.CursorLaws.{distance-self, distance-adds, behind-after, ahead-after, after-u64}
+use Rattle.yring.proofs.CursorLaws.{distance-self, distance-adds, behind-after, ahead-after, after-u64}
 
 module _ (C tail released head known : ℕ) (small : C ≤ 65536) (o : Cursors C tail released head known) where
   two : {m n : ℕ} → m ≤ C → n ≤ C → m + n < 2 ^ 64

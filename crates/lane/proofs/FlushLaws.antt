@@ -5,10 +5,10 @@ use mathlib.Core.List.{List}
 use mathlib.Core.Path.{_≡_, refl, sym, ap, _∙_}
 use Prim.Native.Nat.{ℕ}
 use lib.Dec.{eqb}
-use Rattle.lane.specs.Cursor.{distance}
-use Rattle.lane.specs.Ring.{push, pushCursor, putItem}
+use Rattle.yring.specs.Cursor.{distance}
+use Rattle.yring.specs.Ring.{push, pushCursor, putItem}
 use Rattle.lane.specs.Lane.{sent, pushAndFlush, sentBy, flushed}
-use Rattle.lane.specs.declared.ring.Ring.{Ring}
+use Rattle.yring.specs.declared.ring.Ring.{Ring}
 use Rattle.lane.specs.declared.lane.Lane.{Lane}
 use Rattle.lane.specs.declared.consumer.Sent.{Sent}
 use Rattle.lane.specs.declared.consumer.Sent.the-variants as Sent

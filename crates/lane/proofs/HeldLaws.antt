@@ -8,12 +8,12 @@ use native.Mathlib.Omega.{arith}
 use borrow.Author.Tests.{ne-eqb, eqb-true, eqb-false}
 use lib.Dec.{eqb}
 use lib.ListN.{length, set}
-use Rattle.lane.specs.Cursor.{after, distance}
-use Rattle.lane.specs.Ring.{Within, place, itemAt, items, push}
-use Rattle.lane.specs.Lists.{written}
+use Rattle.yring.specs.Cursor.{after, distance}
+use Rattle.yring.specs.Ring.{Within, place, itemAt, items, push}
+use Rattle.yring.specs.Lists.{written}
 use Rattle.lane.specs.Lane.{held, headOn, closeFast, prefetch, reload, windowPop, openFor, grantFast, popFast, fairWindow, burstOfWindow, fairly, popFair, sent, pushAndFlush, popTargeted, targeted, charged, addBurst, endBurst, polled, pollItem, pollRefilled, poll, readyOrIdle, refill, settleEmpty, chunkLimit, movedInto, chunkMoved, moveChunk}
 use Rattle.lane.specs.Order.{Counts, InOrder, Filled, sentLane}
-use Rattle.lane.specs.declared.ring.Ring.{Ring}
+use Rattle.yring.specs.declared.ring.Ring.{Ring}
 use Rattle.lane.specs.declared.lane.Lane.{Lane}
 use Rattle.lane.specs.declared.lane.Targeted.{Targeted}
 use Rattle.lane.specs.declared.lane.LanePoll.the-variants as LanePoll
@@ -21,9 +21,9 @@ use Rattle.lane.specs.declared.lane.Refill.{Refill}
 use Rattle.lane.specs.declared.lane.Refill.the-variants as Refill
 use Rattle.lane.specs.declared.lane.Popped.{Popped}
 use Rattle.lane.specs.declared.lane.Popped.the-variants as Popped
-use Rattle.lane.proofs.CursorLaws.{behind-after, ahead-after, after-distance}
+use Rattle.yring.proofs.CursorLaws.{behind-after, ahead-after, after-distance}
 use Rattle.lane.proofs.CursorOrder.{held-adds, span-adds}
-use Rattle.lane.proofs.RingLaws.{push-appends, pop-takes-first, items-split}
+use Rattle.yring.proofs.RingLaws.{push-appends, pop-takes-first, items-split}
 use Rattle.lane.proofs.OrderLaws.{cond-holds, at-batch-is, fair-window-keeps, refill-fills, chunk-within, chunk-whole}
 
 -- only the head and the tail tell what a lane holds

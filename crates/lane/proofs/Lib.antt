@@ -1,12 +1,7 @@
-pub mod ListLaws
-pub mod EveryEntry
-pub mod CursorLaws
-pub mod ReleaseLaws
 pub mod CursorOrder
 pub mod CountOrder
 pub mod OrderLaws
 pub mod TableLaws
-pub mod RingLaws
 pub mod HeldLaws
 pub mod FlushLaws
 pub mod WindowLaws

@@ -8,12 +8,13 @@ use native.Mathlib.Omega.{arith}
 use borrow.Author.Tests.{eqb-true, eqb-false}
 use lib.Dec.{eqb}
 use Rattle.model.specs.State.{releaseBatch}
-use Rattle.lane.specs.Cursor.{after, distance, Capacity}
+use Rattle.yring.proofs.ReleaseLaws.{batch-some}
+use Rattle.yring.specs.Cursor.{after, distance, Capacity}
 use Rattle.lane.specs.Lane.{withCursors, withCounts, prefetch, reload, released, headOn, closeFast, windowFor, openWindow, openFor, grantFast, windowPop, popFast, releaseAtBatch, releaseAny, releasePending, settled, emptied, settleEmpty, readyOrIdle, refill, reloadIsEmpty, charged, addBurst, endBurst, targeted, popTargeted, polled, pollItem, pollRefilled, poll, fairWindow, burstOfWindow, fairly, popFair, endFullBurst, chunkLimit, chunkMoved, moveChunk, movedInto, sent, pushAndFlush, newLane}
 use Rattle.lane.specs.Order.{Cursors, Counts, InOrder, Filled, FoundEmpty, Refundable, sentLane, poppedLane, refilledLane, polledLane}
-use Rattle.lane.specs.Ring.{push, itemAt}
+use Rattle.yring.specs.Ring.{push, itemAt}
 use Rattle.model.specs.declared.LaneKey.{LaneKey}
-use Rattle.lane.specs.declared.ring.Ring.{Ring}
+use Rattle.yring.specs.declared.ring.Ring.{Ring}
 use Rattle.lane.specs.declared.consumer.Moved.{Moved}
 use Rattle.lane.specs.declared.lane.Lane.{Lane}
 use Rattle.lane.specs.declared.lane.Popped.{Popped}
@@ -23,7 +24,7 @@ use Rattle.lane.specs.declared.lane.Targeted.{Targeted}
 use Rattle.lane.specs.declared.lane.LanePoll.the-variants as LanePoll
 use Rattle.lane.specs.declared.lane.Refill.{Refill}
 use Rattle.lane.specs.declared.lane.Refill.the-variants as Refill
-use Rattle.lane.proofs.CursorLaws.{some, behind-after, ahead-after, distance-self, distance-none}
+use Rattle.yring.proofs.CursorLaws.{some, behind-after, ahead-after, distance-self, distance-none}
 use Rattle.lane.proofs.CursorOrder.{held-adds, head-goes-on, tail-goes-on, known-is-tail, released-is-head}
 use Rattle.lane.proofs.CountOrder.{counts-close, counts-look, counts-open, counts-pop, counts-charge, counts-credit, counts-release, counts-burst}
 
@@ -34,15 +35,6 @@ cond-holds P false x y f g = g refl
 
 positive : {n : ℕ} → (n ≡ 0 → ⊥) → 0 < n
 positive h = omega arith
-
--- the release batch is at most the capacity
-pub batch-most : (C : ℕ) → releaseBatch C ≤ C
-unfolding releaseBatch
-batch-most C = omega arith
-
-pub batch-some : (C : ℕ) → 0 < C → 0 < releaseBatch C
-unfolding releaseBatch
-batch-some C h = omega arith
 
 module _ (C : ℕ) (small : C ≤ 65536) (l : Lane) (o : InOrder C l) where
   fits : {B d m c u b w : ℕ} → Counts B d m c u b w → m ≤ C → c + w < 2 ^ 64

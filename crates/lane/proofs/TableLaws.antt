@@ -13,7 +13,7 @@ use lib.ListN.{length, getD, length-set}
 use lib.Seq.{getD-set-same, getD-set-other, set-getD}
 use Rattle.lane.specs.declared.lane.Lane.{Lane}
 use Rattle.lane.specs.Table.{headerWords, rowWords, laneWords, head, setHead, cellAt, cell, setCell, HasRow, words, laneAt, putLane}
-use Rattle.lane.proofs.ListLaws.{length-scatter, scatter-in, scatter-out}
+use Rattle.yring.proofs.ListLaws.{length-scatter, scatter-in, scatter-out}
 
 -- ---- a lane stored
 

@@ -5,13 +5,13 @@ use mathlib.Core.List.{List}
 use Prim.Native.Nat.{ℕ, _+_, _-_, _≤_, min}
 use lib.Dec.{eqb}
 use Rattle.model.specs.declared.LaneKey.{LaneKey}
-use Rattle.lane.specs.Lists.{written}
-use Rattle.lane.specs.Cursor.{after, distance}
-use Rattle.lane.specs.Ring.{itemAt, items, push, pushCursor}
+use Rattle.yring.specs.Lists.{written}
+use Rattle.yring.specs.Cursor.{after, distance}
+use Rattle.yring.specs.Ring.{itemAt, items, push, pushCursor}
 use Rattle.model.specs.State.{releaseBatch}
-use Rattle.lane.specs.declared.ring.Ring.{Ring}
-use Rattle.lane.specs.declared.ring.Push.{Push}
-use Rattle.lane.specs.declared.ring.Push.the-variants.{Pushed, Full}
+use Rattle.yring.specs.declared.ring.Ring.{Ring}
+use Rattle.yring.specs.declared.ring.Push.{Push}
+use Rattle.yring.specs.declared.ring.Push.the-variants.{Pushed, Full}
 use Rattle.lane.specs.declared.consumer.Sent.{Sent}
 use Rattle.lane.specs.declared.consumer.Sent.the-variants as Sent
 use Rattle.lane.specs.declared.consumer.Moved.{Moved}

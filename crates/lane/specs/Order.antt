@@ -2,7 +2,7 @@
 -- Assumes nothing.
 use mathlib.Core.Path.{_≡_}
 use Prim.Native.Nat.{ℕ, _+_, _^_, _≤_, _<_}
-use Rattle.lane.specs.Cursor.{distance}
+use Rattle.yring.specs.Cursor.{distance}
 use Rattle.model.specs.State.{releaseBatch}
 use Rattle.lane.specs.declared.consumer.Sent.{Sent}
 use Rattle.lane.specs.declared.consumer.Sent.the-variants as Sent

@@ -3,7 +3,7 @@
 use mathlib.Core.List.{List, [], _∷_}
 use Prim.Native.Nat.{ℕ, _+_, _*_, _≤_}
 use lib.ListN.{length, getD, set}
-use Rattle.lane.specs.Lists.{scatter}
+use Rattle.yring.specs.Lists.{scatter}
 use Rattle.lane.specs.declared.lane.Lane.{Lane}
 
 -- "a table store of at least 24 × S + 512": the header's 512 words, then a row of 24 words for each slot

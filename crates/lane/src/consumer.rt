@@ -2,14 +2,14 @@
 ghost use mathlib.Core.Path.{_≡_};
 ghost use Prim.Native.Nat.{_+_, _≤_, _<_, min};
 ghost use lib.ListN.{length};
-ghost use Rattle.lane.specs.Cursor.{distance};
-ghost use Rattle.lane.specs.Ring.{Within};
+ghost use Rattle.yring.specs.Cursor.{distance};
+ghost use Rattle.yring.specs.Ring.{Within};
 ghost use Rattle.lane.specs.Lane.{flushed, prefetch, reload, released, pop, movedInto};
 use crate::lane::Lane;
-use crate::num;
-use crate::ring;
-use crate::ring::Push;
-use crate::ring::Ring;
+use yring::num;
+use yring::ring;
+use yring::ring::Push;
+use yring::ring::Ring;
 
 pub enum Sent {
     Taken { lane: Lane },

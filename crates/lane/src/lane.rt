@@ -3,8 +3,8 @@
 ghost use mathlib.Core.Path.{_≡_};
 ghost use Prim.Native.Nat.{_+_, _-_, _≤_, _<_};
 ghost use lib.ListN.{length};
-ghost use Rattle.lane.specs.Cursor.{Capacity};
-ghost use Rattle.lane.specs.Ring.{Within};
+ghost use Rattle.yring.specs.Cursor.{Capacity};
+ghost use Rattle.yring.specs.Ring.{Within};
 ghost use Rattle.lane.specs.Order.{InOrder, Filled, FoundEmpty, Refundable};
 ghost use Rattle.lane.specs.Lane.{
   newLane,
@@ -34,11 +34,11 @@ ghost use Rattle.lane.specs.Lane.{
 };
 use crate::consumer::Moved;
 use crate::consumer::Taken;
-use crate::num;
-use crate::release::release_batch;
-use crate::ring;
-use crate::ring::Ring;
 use model::LaneKey;
+use yring::num;
+use yring::release::release_batch;
+use yring::ring;
+use yring::ring::Ring;
 
 // Flags are words that hold 0 or 1, so that a record loaded and stored is the same words.
 pub struct Lane {

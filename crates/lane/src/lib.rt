@@ -1,7 +1,4 @@
 // One sender's lane and its ring, as words of two lent stores.
 pub mod consumer;
 pub mod lane;
-pub mod num;
-pub mod release;
-pub mod ring;
 pub mod table;

@@ -12,7 +12,7 @@ use Rattle.model.specs.declared.Answer.the-variants.{Done, Registered}
 use Rattle.lane.specs.Lane.{newLane}
 use Rattle.lane.specs.Table.{HasRow, laneAt}
 use Rattle.lane.proofs.TableLaws.{frames, has-row}
-use Rattle.ready.specs.Header.{firstCursor}
+use Rattle.queues.specs.Header.{firstCursor}
 use Rattle.store.specs.declared.refusal.Verdict.{Verdict}
 use Rattle.store.specs.declared.refusal.Verdict.the-variants.{Pass, Refuse}
 use Rattle.store.specs.Order.{StoreInOrder}

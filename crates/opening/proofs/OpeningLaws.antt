@@ -22,11 +22,11 @@ use Rattle.model.specs.Opening.{nextPowerOfTwo, opened, openingOutcome}
 use Rattle.model.specs.Order.{Ordered}
 use Rattle.model.proofs.Words.{state-path}
 use Rattle.model.proofs.Opened.{opened-ordered}
-use Rattle.lane.specs.Cursor.{Capacity}
+use Rattle.yring.specs.Cursor.{Capacity}
 use Rattle.lane.specs.Table.{head, cellAt, headerWords, rowWords}
-use Rattle.ready.specs.Header.{issued, openedHeader, headerList, putHeader}
-use Rattle.ready.specs.Queue.{queueOf}
-use Rattle.ready.proofs.HeaderLaws.{shaped-opened, queue-opened, free-opened, head-opened}
+use Rattle.queues.specs.Header.{issued, openedHeader, headerList, putHeader}
+use Rattle.queues.specs.Queue.{queueOf}
+use Rattle.queues.proofs.HeaderLaws.{shaped-opened, queue-opened, free-opened, head-opened}
 use Rattle.store.specs.declared.refusal.Verdict.{Verdict}
 use Rattle.store.specs.declared.refusal.Verdict.the-variants.{Pass, Refuse}
 use Rattle.store.specs.View.{flag, view}

@@ -10,7 +10,7 @@ use Rattle.model.specs.declared.Refusal.the-variants.{CapacityOutOfRange, Slots
 use Rattle.model.specs.declared.Answer.the-variants.{Done}
 use Rattle.model.specs.Opening.{nextPowerOfTwo}
 use Rattle.lane.specs.Table.{headerWords, rowWords}
-use Rattle.ready.specs.Header.{openedHeader, putHeader}
+use Rattle.queues.specs.Header.{openedHeader, putHeader}
 use Rattle.store.specs.declared.refusal.Verdict.{Verdict}
 use Rattle.store.specs.declared.refusal.Verdict.the-variants.{Pass, Refuse}
 use Rattle.store.specs.Words.{Words, unlessRefused}

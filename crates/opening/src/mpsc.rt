@@ -7,7 +7,7 @@ use lane::lane::Lane;
 use model::Answer;
 use model::Opening;
 use model::Refusal;
-use ready::header::Header;
+use queues::header::Header;
 use store::refusal::Verdict;
 
 // `MAX_CAPACITY_PER_SENDER`, and the most slots.

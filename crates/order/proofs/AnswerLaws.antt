@@ -6,8 +6,8 @@ use mathlib.Core.List.{List}
 use Prim.Native.Nat.{ℕ}
 use Rattle.model.specs.Lists.{count}
 use Rattle.lane.specs.Table.{laneAt}
-use Rattle.ready.specs.Queue.{queueOf}
-use Rattle.ready.specs.Registry.{freeOf}
+use Rattle.queues.specs.Queue.{queueOf}
+use Rattle.queues.specs.Registry.{freeOf}
 use Rattle.store.specs.Order.{StoreInOrder}
 use Rattle.order.specs.Tells.{Tells, no}
 use Rattle.order.specs.Seen.{has, Seen}

@@ -15,9 +15,9 @@ use Rattle.model.proofs.Counting.{no}
 use Rattle.lane.specs.declared.lane.Lane.{Lane}
 use Rattle.lane.specs.Order.{InOrder}
 use Rattle.lane.specs.Table.{laneAt}
-use Rattle.ready.specs.Header.{Shaped, issued, budget, capacity, fastSlot}
-use Rattle.ready.specs.Queue.{queueOf}
-use Rattle.ready.specs.Registry.{freeOf}
+use Rattle.queues.specs.Header.{Shaped, issued, budget, capacity, fastSlot}
+use Rattle.queues.specs.Queue.{queueOf}
+use Rattle.queues.specs.Registry.{freeOf}
 use Rattle.ready.specs.Ready.{Linked}
 use Rattle.store.specs.View.{flag, slotOf, slotAt, view}
 use Rattle.store.specs.Order.{Flag, Flags, Fast, MarkWords, Stores, StoreInOrder}

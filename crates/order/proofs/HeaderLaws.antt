@@ -6,8 +6,8 @@ use native.Mathlib.Nat.{mul-le-mul}
 use native.Mathlib.Omega.{arith}
 use lib.Count.{trailingZeros}
 use lib.Pow.{pow-mono}
-use Rattle.lane.specs.Cursor.{Capacity}
-use Rattle.lane.proofs.ReleaseLaws.{log-is}
+use Rattle.yring.specs.Cursor.{Capacity}
+use Rattle.yring.proofs.ReleaseLaws.{log-is}
 use Rattle.ready.proofs.BitLaws.{one-shl}
 
 module _ (c : ℕ) where

@@ -8,8 +8,8 @@ use lib.ListN.{replicate, set, take}
 use Rattle.model.specs.Lists.{both, either, count, same, keep, from}
 use Rattle.model.specs.State.{releaseBatch}
 use Rattle.lane.specs.Table.{cellAt, laneAt}
-use Rattle.ready.specs.Queue.{queueOf}
-use Rattle.ready.specs.Registry.{freeOf}
+use Rattle.queues.specs.Queue.{queueOf}
+use Rattle.queues.specs.Registry.{freeOf}
 use Rattle.order.specs.Clauses.{registeredBelow, livingBelow}
 use Rattle.order.specs.InOrder.{allBelow, someBelow, capacityTest, lengthsTest, placesTest, limitsTest, headerTest, namesTest, cursorsTest, amountsTest, laneTest, fastTest, flagsTest, registeredTest, unregisteredTest, slotTest, slotsTest, countsTest, pageTest, groupTest, pagesTest, groupsTest, inOrder}
 

@@ -11,12 +11,12 @@ use Rattle.model.specs.Lists.{count}
 use Rattle.model.specs.State.{releaseBatch}
 use Rattle.model.proofs.Counting.{equal, other, same?, same-self}
 use Rattle.lane.specs.declared.lane.Lane.{Lane}
-use Rattle.lane.specs.Cursor.{Capacity, distance}
+use Rattle.yring.specs.Cursor.{Capacity, distance}
 use Rattle.lane.specs.Order.{Cursors, Counts, InOrder}
 use Rattle.lane.specs.Table.{laneAt}
-use Rattle.ready.specs.Header.{issued, budget, capacity, fastSlot}
-use Rattle.ready.specs.Queue.{queueOf}
-use Rattle.ready.specs.Registry.{freeOf}
+use Rattle.queues.specs.Header.{issued, budget, capacity, fastSlot}
+use Rattle.queues.specs.Queue.{queueOf}
+use Rattle.queues.specs.Registry.{freeOf}
 use Rattle.ready.specs.Ready.{groupsOf}
 use Rattle.store.specs.Order.{Flags, Fast, StoreInOrder}
 use Rattle.order.specs.Tells.{Tells, yes, no}

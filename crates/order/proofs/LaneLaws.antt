@@ -7,7 +7,7 @@ use native.Mathlib.Omega.{arith}
 use lib.Dec.{eqb}
 use Rattle.model.specs.State.{releaseBatch}
 use Rattle.lane.specs.declared.lane.Lane.{Lane}
-use Rattle.lane.specs.Cursor.{distance}
+use Rattle.yring.specs.Cursor.{distance}
 use Rattle.lane.specs.Order.{Cursors, Counts, InOrder}
 use Rattle.order.specs.Tells.{Tells}
 use Rattle.order.proofs.TellsLaws.{tells-of, tells-eq}

@@ -11,7 +11,7 @@ use lib.Count.{trailingZeros}
 use lib.Dec.{ltb, eqb}
 use lib.Pow.{pow-add, shr-lt}
 use Rattle.ready.specs.Bits.{bit}
-use Rattle.ready.specs.Header.{issued}
+use Rattle.queues.specs.Header.{issued}
 use Rattle.ready.specs.Ready.{pageWord, groupWord, nonZero}
 use Rattle.ready.proofs.BitLaws.{tz-lt, tz-set, bit-zero}
 use Rattle.order.specs.Tells.{Tells}

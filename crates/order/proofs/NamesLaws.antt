@@ -7,11 +7,11 @@ use native.Mathlib.Nat.{mod-lt, mod-add-mod, mod-eq-of-lt, add-zero, add-assoc, 
 use native.Mathlib.Numerals.{add-one}
 use native.Mathlib.Omega.{arith}
 use lib.ListN.{replicate}
-use Rattle.lane.specs.Lists.{tab}
+use Rattle.yring.specs.Lists.{tab}
 use Rattle.lane.specs.Table.{cell}
-use Rattle.ready.specs.Header.{Shaped, issued, slots, queueFront, queueCount, freeCount}
-use Rattle.ready.specs.Queue.{queueColumn, queueRow, queueOf}
-use Rattle.ready.specs.Registry.{freeColumn, freeOf}
+use Rattle.queues.specs.Header.{Shaped, issued, slots, queueFront, queueCount, freeCount}
+use Rattle.queues.specs.Queue.{queueColumn, queueRow, queueOf}
+use Rattle.queues.specs.Registry.{freeColumn, freeOf}
 use Rattle.order.specs.Seen.{has, added, Seen}
 use Rattle.order.specs.Clauses.{Names}
 use Rattle.order.proofs.SeenLaws.{Noted, noted-none, noted-more, noted-no, noted-all}

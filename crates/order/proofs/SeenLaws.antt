@@ -11,7 +11,7 @@ use lib.Bits.{bitOr}
 use lib.Seq.{getD-set-same, getD-set-other}
 use Rattle.model.specs.Lists.{count, same}
 use Rattle.model.proofs.Counting.{equal, other, same?, same-self}
-use Rattle.lane.specs.Lists.{tab}
+use Rattle.yring.specs.Lists.{tab}
 use Rattle.ready.specs.Bits.{bit}
 use Rattle.ready.proofs.BitLaws.{bit-set-same, bit-set-other, bit-zero, one-shl}
 use Rattle.order.specs.Seen.{has, added, Seen}

@@ -9,11 +9,11 @@ use native.Mathlib.Omega.{arith}
 use borrow.Author.Count.{below-more}
 use lib.ListN.{getD, length, take}
 use Rattle.lane.specs.declared.lane.Lane.{Lane}
-use Rattle.lane.specs.Lists.{tab}
+use Rattle.yring.specs.Lists.{tab}
 use Rattle.lane.specs.Table.{laneAt}
-use Rattle.ready.specs.Header.{Shaped, issued, queueCount, laneCount, livingCount}
-use Rattle.ready.specs.Queue.{queueOf, frontSlot}
-use Rattle.ready.proofs.QueueLaws.{queue-front}
+use Rattle.queues.specs.Header.{Shaped, issued, queueCount, laneCount, livingCount}
+use Rattle.queues.specs.Queue.{queueOf, frontSlot}
+use Rattle.queues.proofs.QueueLaws.{queue-front}
 use Rattle.store.specs.View.{flag}
 use Rattle.store.specs.Order.{Flags}
 use Rattle.store.proofs.CountLaws.{passing-none, passing-more}

@@ -7,12 +7,12 @@ use Prim.Native.Nat.{ℕ, _+_, _*_, _^_, _≤_, _<_}
 use lib.ListN.{length}
 use Rattle.model.specs.Lists.{count, keep, from}
 use Rattle.lane.specs.declared.lane.Lane.{Lane}
-use Rattle.lane.specs.Cursor.{Capacity}
+use Rattle.yring.specs.Cursor.{Capacity}
 use Rattle.lane.specs.Order.{InOrder}
 use Rattle.lane.specs.Table.{cellAt, laneAt}
-use Rattle.ready.specs.Header.{issued, queueFront, queueCount, freeCount, slots, budget, groupCursor, alive, capacity, firstCursor, fastSlot, laneCount, livingCount}
-use Rattle.ready.specs.Queue.{queueOf}
-use Rattle.ready.specs.Registry.{freeOf}
+use Rattle.queues.specs.Header.{issued, queueFront, queueCount, freeCount, slots, budget, groupCursor, alive, capacity, firstCursor, fastSlot, laneCount, livingCount}
+use Rattle.queues.specs.Queue.{queueOf}
+use Rattle.queues.specs.Registry.{freeOf}
 use Rattle.ready.specs.Bits.{bit}
 use Rattle.ready.specs.Ready.{pageWord, groupWord, pageBit, groupBit, nonZero, groupsOf}
 use Rattle.store.specs.View.{flag}

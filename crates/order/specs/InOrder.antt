@@ -9,11 +9,11 @@ use lib.ListN.{length}
 use Rattle.model.specs.Lists.{both, either, count}
 use Rattle.model.specs.State.{releaseBatch}
 use Rattle.lane.specs.declared.lane.Lane.{Lane}
-use Rattle.lane.specs.Cursor.{distance}
+use Rattle.yring.specs.Cursor.{distance}
 use Rattle.lane.specs.Table.{cellAt, laneAt}
-use Rattle.ready.specs.Header.{issued, queueFront, queueCount, freeCount, slots, budget, groupCursor, alive, capacity, firstCursor, fastSlot, laneCount, livingCount}
-use Rattle.ready.specs.Queue.{queueOf}
-use Rattle.ready.specs.Registry.{freeOf}
+use Rattle.queues.specs.Header.{issued, queueFront, queueCount, freeCount, slots, budget, groupCursor, alive, capacity, firstCursor, fastSlot, laneCount, livingCount}
+use Rattle.queues.specs.Queue.{queueOf}
+use Rattle.queues.specs.Registry.{freeOf}
 use Rattle.ready.specs.Bits.{bit}
 use Rattle.ready.specs.Ready.{pageWord, groupWord, pageBit, groupBit, nonZero, groupsOf}
 use Rattle.order.specs.Clauses.{registeredBelow, livingBelow}

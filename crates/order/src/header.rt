@@ -1,13 +1,13 @@
 // The lengths of the stores, and the words of the header.
 ghost use Prim.Native.Nat.{_≤_};
 ghost use lib.ListN.{length};
-ghost use Rattle.lane.specs.Cursor.{Capacity};
+ghost use Rattle.yring.specs.Cursor.{Capacity};
 ghost use Rattle.lane.specs.Table.{headerWords};
-ghost use Rattle.ready.specs.Header.{issued};
+ghost use Rattle.queues.specs.Header.{issued};
 ghost use Rattle.order.specs.Tells.{Tells};
 ghost use Rattle.order.specs.Clauses.{LengthsHold, PlacesHold, LimitsHold, HeaderHolds};
 use lane::lane::Lane;
-use ready::header::Header;
+use queues::header::Header;
 use ready::ready::Group;
 
 // The most slots that an opening takes, and the logarithm of the largest capacity.

@@ -1,12 +1,12 @@
 // The words of the pages and groups that exist.
 ghost use mathlib.Core.Path.{_≡_};
 ghost use Prim.Native.Nat.{ℕ, _*_, _<_};
-ghost use Rattle.ready.specs.Header.{Shaped, issued};
+ghost use Rattle.queues.specs.Header.{Shaped, issued};
 ghost use Rattle.ready.specs.Bits.{bit};
 ghost use Rattle.ready.specs.Ready.{nonZero};
 ghost use Rattle.order.specs.Tells.{Tells};
 ghost use Rattle.order.specs.Clauses.{PageHolds, GroupHolds, PagesHold, GroupsHold};
-use ready::header::Header;
+use queues::header::Header;
 use ready::ready::Group;
 use ready::ready::Page;
 

@@ -3,16 +3,16 @@ ghost use mathlib.Core.Path.{_≡_};
 ghost use mathlib.Core.Bool.{true};
 ghost use Prim.Native.Nat.{_+_, _%_, _≤_, _<_};
 ghost use lib.ListN.{replicate};
-ghost use Rattle.ready.specs.Header.{Shaped, issued};
-ghost use Rattle.ready.specs.Queue.{queueOf};
-ghost use Rattle.ready.specs.Registry.{freeOf};
+ghost use Rattle.queues.specs.Header.{Shaped, issued};
+ghost use Rattle.queues.specs.Queue.{queueOf};
+ghost use Rattle.queues.specs.Registry.{freeOf};
 ghost use Rattle.order.specs.Tells.{Tells};
 ghost use Rattle.order.specs.Seen.{Seen};
 ghost use Rattle.order.specs.Clauses.{Names};
 use crate::seen;
 use lane::lane::Lane;
 use lane::table;
-use ready::header::Header;
+use queues::header::Header;
 
 // The columns of the rows that hold the queue's places and the free list's.
 const QUEUE_PLACE: usize = Lane::LANE_WORDS;

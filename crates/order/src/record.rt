@@ -5,7 +5,7 @@ ghost use Rattle.lane.specs.Order.{Cursors, Counts, InOrder};
 ghost use Rattle.store.specs.Order.{Flags};
 ghost use Rattle.order.specs.Tells.{Tells};
 use lane::lane::Lane;
-use lane::ring;
+use yring::ring;
 
 pub(crate) fn flags_hold(l: Lane) -> bool
     ensures { λ a. ⌜ Tells (Flags l) a ⌝ }

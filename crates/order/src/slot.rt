@@ -2,16 +2,16 @@
 ghost use mathlib.Core.Path.{_≡_};
 ghost use Prim.Native.Nat.{_≤_, _<_};
 ghost use Rattle.model.specs.State.{releaseBatch};
-ghost use Rattle.ready.specs.Header.{Shaped, issued, capacity, fastSlot, budget};
-ghost use Rattle.ready.specs.Queue.{queueOf};
+ghost use Rattle.queues.specs.Header.{Shaped, issued, capacity, fastSlot, budget};
+ghost use Rattle.queues.specs.Queue.{queueOf};
 ghost use Rattle.ready.specs.Ready.{pageBit};
 ghost use Rattle.store.specs.Order.{Fast};
 ghost use Rattle.order.specs.Tells.{Tells};
 ghost use Rattle.order.specs.Clauses.{RegisteredHolds, UnregisteredHolds, SlotHolds};
 use crate::record;
 use lane::lane::Lane;
-use ready::header::Header;
-use ready::queue;
+use queues::header::Header;
+use queues::queue;
 use ready::ready::Page;
 
 // Whether a slot's window, if it has one, is the front lane's at `fast_slot` and within the budget.

@@ -1,14 +1,14 @@
 // All issued slots, each read once.
-ghost use Rattle.lane.specs.Cursor.{Capacity};
-ghost use Rattle.ready.specs.Header.{Shaped, capacity};
+ghost use Rattle.yring.specs.Cursor.{Capacity};
+ghost use Rattle.queues.specs.Header.{Shaped, capacity};
 ghost use Rattle.order.specs.Tells.{Tells};
 ghost use Rattle.order.specs.Seen.{has};
 ghost use Rattle.order.specs.Clauses.{SlotsHold, CountsHold};
 use crate::seen;
 use crate::slot as each;
 use lane::lane::Lane;
-use lane::release;
-use ready::header::Header;
+use queues::header::Header;
+use yring::release;
 
 // Whether every issued slot is in order, and the counts of lanes and living senders are true.
 pub(crate) fn slots_hold(t: &[u64], queued: &[u64; 128], free: &[u64; 128]) -> bool

@@ -12,14 +12,14 @@ use lib.ListN.{length}
 use Rattle.model.proofs.Counting.{equal, other, same?}
 use Rattle.lane.specs.Table.{headerWords, rowWords, laneWords, HasRow, head, cell, setCell, laneAt}
 use Rattle.lane.proofs.TableLaws.{frames, has-row}
-use Rattle.ready.specs.Header.{Shaped, issued, groupCursor, setGroupCursor}
-use Rattle.ready.specs.Queue.{queueColumn, QueueNames}
-use Rattle.ready.specs.Registry.{freeOf}
+use Rattle.queues.specs.Header.{Shaped, issued, groupCursor, setGroupCursor}
+use Rattle.queues.specs.Queue.{queueColumn, QueueNames}
+use Rattle.queues.specs.Registry.{freeOf}
 use Rattle.ready.specs.Bits.{bit, bitsFrom}
 use Rattle.ready.specs.Ready.{pageColumn, groupColumn, pageWord, groupWord, nonZero, Linked, queuedLane, offered, collectedPage, collectedGroup, groupsOf, groupAt, collectedFrom, collectReady}
 use Rattle.ready.proofs.BitLaws.{In, here, there, bits-in, Each, none, both, bits-each, bit-zero}
-use Rattle.ready.proofs.NamesLaws.{names-same}
-use Rattle.ready.proofs.QueueLaws.{queue-frames, header-in, shaped-setCell}
+use Rattle.queues.proofs.NamesLaws.{names-same}
+use Rattle.queues.proofs.QueueLaws.{queue-frames, header-in, shaped-setCell}
 use Rattle.ready.proofs.OfferLaws.{Rest, rest-self, rest-then, rest-offered, shaped-offered, names-offered}
 
 -- pages and groups stay linked where their words stay

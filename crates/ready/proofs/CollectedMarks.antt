@@ -17,8 +17,8 @@ use Rattle.model.specs.State.{State}
 use Rattle.model.specs.Ready.{marks}
 use Rattle.model.proofs.Pages.{marks-range, byPages, pages}
 use Rattle.lane.specs.Table.{HasRow}
-use Rattle.ready.specs.Header.{Shaped, issued}
-use Rattle.ready.specs.Queue.{queueOf, QueueNames}
+use Rattle.queues.specs.Header.{Shaped, issued}
+use Rattle.queues.specs.Queue.{queueOf, QueueNames}
 use Rattle.ready.specs.Bits.{bit, keepIf, bitsFrom}
 use Rattle.ready.specs.Ready.{pageWord, groupWord, pageBit, groupBit, marked, nonZero, Linked, wanted, collectedGroup}
 use Rattle.ready.proofs.BitLaws.{bit-suc, bit-zero}

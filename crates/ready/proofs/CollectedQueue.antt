@@ -10,12 +10,12 @@ use lib.Dec.{ltb, leb}
 use Rattle.model.specs.Lists.{if, keep}
 use Rattle.lane.specs.Table.{rowWords, laneWords, setCell, laneAt}
 use Rattle.lane.proofs.TableLaws.{frames}
-use Rattle.ready.specs.Header.{Shaped, issued}
-use Rattle.ready.specs.Queue.{queueOf, QueueNames}
+use Rattle.queues.specs.Header.{Shaped, issued}
+use Rattle.queues.specs.Queue.{queueOf, QueueNames}
 use Rattle.ready.specs.Bits.{bitsFrom}
 use Rattle.ready.specs.Ready.{pageColumn, groupColumn, pageWord, groupWord, wanted, offered, collectedPage, collectedGroup}
 use Rattle.ready.proofs.BitLaws.{Each, none, both, bits-each, Ascends, end, next, bits-ascend}
-use Rattle.ready.proofs.QueueLaws.{queue-frames}
+use Rattle.queues.proofs.QueueLaws.{queue-frames}
 use Rattle.ready.proofs.OfferLaws.{wants, offered-case, rest-offered, shaped-offered, names-offered, queue-enqueued, other-enqueued}
 use Rattle.ready.proofs.CollectLaws.{Kept, kept-setCell, kept-page, page-left}
 

@@ -12,8 +12,8 @@ use Rattle.model.specs.State.{State}
 use Rattle.model.specs.Ready.{marks, collectGroup, collectFirst, collectEach, groupsIn, startGroup, groupsRound, collectReadyGroup}
 use Rattle.model.specs.Ready as rules
 use Rattle.lane.proofs.TableLaws.{frames}
-use Rattle.ready.specs.Header.{Shaped, issued, groupCursor, setGroupCursor}
-use Rattle.ready.specs.Queue.{QueueNames}
+use Rattle.queues.specs.Header.{Shaped, issued, groupCursor, setGroupCursor}
+use Rattle.queues.specs.Queue.{QueueNames}
 use Rattle.ready.specs.Ready.{groupWord, Linked, collectedGroup, groupsOf, groupAt, collectedFrom, collectReady}
 use Rattle.ready.proofs.CollectLaws.{keeps-group, group-lt}
 use Rattle.ready.proofs.CollectedState.{WordsFit, fit-collected, no-marks, some-marks, Sees, sees-group, sees-none}

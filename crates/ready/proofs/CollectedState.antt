@@ -20,12 +20,12 @@ use Rattle.model.proofs.Counting.{equal, other, same?}
 use Rattle.lane.specs.declared.lane.Lane.{Lane}
 use Rattle.lane.specs.Table.{laneAt}
 use Rattle.lane.proofs.TableLaws.{frames}
-use Rattle.ready.specs.Header.{Shaped, issued, groupCursor, setGroupCursor}
-use Rattle.ready.specs.Queue.{queueOf, QueueNames}
+use Rattle.queues.specs.Header.{Shaped, issued, groupCursor, setGroupCursor}
+use Rattle.queues.specs.Queue.{queueOf, QueueNames}
 use Rattle.ready.specs.Bits.{bitsFrom}
 use Rattle.ready.specs.Ready.{pageWord, groupWord, pageBit, groupBit, nonZero, Linked, wantedLane, wanted, collectedGroup}
 use Rattle.ready.proofs.BitLaws.{bits-next, bits-zero, tz-lt, tz-set, bit-zero, Each, none, both}
-use Rattle.ready.proofs.QueueLaws.{queue-frames, header-in}
+use Rattle.queues.proofs.QueueLaws.{queue-frames, header-in}
 use Rattle.ready.proofs.CollectLaws.{kept-group, beside-group, group-taken, other-group-left, pages-taken, other-pages-left}
 use Rattle.ready.proofs.CollectedQueue.{slotsOfPages, keep-each, each-map}
 use Rattle.ready.proofs.CollectedMarks.{SameMarks, group-marks, queue-collected}

@@ -13,8 +13,8 @@ use Rattle.model.specs.State.{Slot, State}
 use Rattle.model.specs.Changes.{withSlots, withQueue, withCursor, withSignal, unmarked}
 use Rattle.model.specs.Ready.{groupOf, marks, collectMarks, collectGroup, collectFirst, collectEach, groupsRound, collectReadyGroup}
 use Rattle.model.specs.Ready as rules
-use Rattle.ready.specs.Header.{Shaped, issued}
-use Rattle.ready.specs.Queue.{QueueNames}
+use Rattle.queues.specs.Header.{Shaped, issued}
+use Rattle.queues.specs.Queue.{QueueNames}
 use Rattle.ready.specs.Ready.{Linked, collectReady}
 use Rattle.ready.proofs.CollectedMarks.{SameMarks}
 use Rattle.ready.proofs.CollectedState.{WordsFit, Sees}

@@ -12,15 +12,15 @@ use Rattle.model.specs.Lists.{count}
 use Rattle.model.proofs.Counting.{equal, other, same?}
 use Rattle.lane.specs.Table.{headerWords, rowWords, HasRow, head, cell, laneAt}
 use Rattle.lane.proofs.TableLaws.{frames, has-row}
-use Rattle.ready.specs.Header.{Shaped, issued}
-use Rattle.ready.specs.Queue.{queueOf, QueueNames}
-use Rattle.ready.specs.Registry.{freeOf}
+use Rattle.queues.specs.Header.{Shaped, issued}
+use Rattle.queues.specs.Queue.{queueOf, QueueNames}
+use Rattle.queues.specs.Registry.{freeOf}
 use Rattle.ready.specs.Bits.{bit, withBit}
 use Rattle.ready.specs.Ready.{pageColumn, groupColumn, pageWord, groupWord, pageBit, groupBit, setPageBit, setGroupBit, marked, nonZero, Linked}
 use Rattle.ready.proofs.BitLaws.{bit-set-same, bit-set-other, set-not-zero}
-use Rattle.ready.proofs.NamesLaws.{names-same}
-use Rattle.ready.proofs.QueueLaws.{queue-frames}
-use Rattle.ready.proofs.RegistryLaws.{registry-frames}
+use Rattle.queues.proofs.NamesLaws.{names-same}
+use Rattle.queues.proofs.QueueLaws.{queue-frames}
+use Rattle.queues.proofs.RegistryLaws.{registry-frames}
 use Rattle.ready.proofs.CollectLaws.{Kept}
 
 module _ (t : List ℕ) (x : ℕ) where

@@ -9,7 +9,7 @@ use borrow.Author.Tests.{eq-eqb, ne-eqb, eqb-true, eqb-false, ltb-true}
 use lib.Dec.{eqb, ltb}
 use lib.ListN.{length}
 use Rattle.lane.specs.Table.{HasRow}
-use Rattle.ready.specs.Header.{Shaped, issued, groupCursor}
+use Rattle.queues.specs.Header.{Shaped, issued, groupCursor}
 use Rattle.ready.specs.Ready.{groupWord, groupsOf, groupAt, collectedFrom, collectReady, anyReady}
 
 pred-suc : (k : ℕ) → suc k - 1 ≡ k

@@ -12,13 +12,13 @@ use Rattle.model.specs.Lists as rules
 use Rattle.model.proofs.Counting.{equal, other, same?}
 use Rattle.lane.specs.Table.{headerWords, rowWords, laneWords, head, cellAt, cell, laneAt, putLane}
 use Rattle.lane.proofs.TableLaws.{frames, slot-of-lane}
-use Rattle.ready.specs.Header.{Shaped, issued, queueCount, slots}
-use Rattle.ready.specs.Queue.{queueColumn, queueOf, QueueNames}
-use Rattle.ready.specs.Registry.{freeOf}
+use Rattle.queues.specs.Header.{Shaped, issued, queueCount, slots}
+use Rattle.queues.specs.Queue.{queueColumn, queueOf, QueueNames}
+use Rattle.queues.specs.Registry.{freeOf}
 use Rattle.ready.specs.Ready.{wantedLane, wanted, queuedLane, enqueued, offered}
-use Rattle.ready.proofs.NamesLaws.{names-pushed-back}
-use Rattle.ready.proofs.RegistryLaws.{registry-frames}
-use Rattle.ready.proofs.QueueLaws.{queue-frames, queue-pushed-back, queue-has-room, shaped-pushed-back, shaped-putLane}
+use Rattle.queues.proofs.NamesLaws.{names-pushed-back}
+use Rattle.queues.proofs.RegistryLaws.{registry-frames}
+use Rattle.queues.proofs.QueueLaws.{queue-frames, queue-pushed-back, queue-has-room, shaped-pushed-back, shaped-putLane}
 
 -- ---- a slot whose lane may be queued
 

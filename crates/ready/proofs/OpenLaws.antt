@@ -13,14 +13,14 @@ use lib.Dec.{ltb, leb, eqb}
 use lib.ListN.{length}
 use Rattle.lane.specs.Table.{headerWords, HasRow, head, setCell, setHead, laneAt}
 use Rattle.lane.proofs.TableLaws.{frames, has-row}
-use Rattle.ready.specs.Header.{Shaped, issued, slots}
-use Rattle.ready.specs.Queue.{queueOf}
-use Rattle.ready.specs.Registry.{freeOf}
+use Rattle.queues.specs.Header.{Shaped, issued, slots}
+use Rattle.queues.specs.Queue.{queueOf}
+use Rattle.queues.specs.Registry.{freeOf}
 use Rattle.ready.specs.Bits.{bit}
 use Rattle.ready.specs.Ready.{pageColumn, groupColumn, pageWord, groupWord, pageBit, groupBit, nonZero, Linked, openedGroup, openedPage}
 use Rattle.ready.proofs.BitLaws.{bit-zero}
-use Rattle.ready.proofs.FrameLaws.{ready-frames}
-use Rattle.ready.proofs.QueueLaws.{header-in}
+use Rattle.queues.proofs.FrameLaws.{ready-frames}
+use Rattle.queues.proofs.QueueLaws.{header-in}
 
 -- the first slot of a group is of its first page
 first-page : (x : ℕ) → x % 4096 ≡ 0 → x / 64 % 64 ≡ 0

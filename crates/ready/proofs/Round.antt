@@ -8,8 +8,8 @@ use Prim.Native.Nat.{ℕ, zero, suc, _+_, _-_, _*_, _≤_, _<_}
 use native.Mathlib.Nat.{le-refl}
 use native.Mathlib.Omega.{arith}
 use borrow.Author.Tests.{eq-eqb, ne-eqb}
-use Rattle.ready.specs.Header.{Shaped, issued, groupCursor, setGroupCursor}
-use Rattle.ready.specs.Queue.{QueueNames}
+use Rattle.queues.specs.Header.{Shaped, issued, groupCursor, setGroupCursor}
+use Rattle.queues.specs.Queue.{QueueNames}
 use Rattle.ready.specs.Ready.{groupWord, Linked, collectedGroup, groupsOf, groupAt, collectedFrom, collectReady}
 use Rattle.ready.proofs.CollectLaws.{Kept, kept-self, kept-then, Keeps, keeps-group}
 

@@ -9,8 +9,8 @@ use native.Mathlib.Nat.{pos-of-ne-zero}
 use native.Mathlib.Omega.{arith}
 use lib.Bits.{bitAnd}
 use lib.Count.{trailingZeros}
-use Rattle.ready.specs.Header.{Shaped}
-use Rattle.ready.specs.Queue.{QueueNames}
+use Rattle.queues.specs.Header.{Shaped}
+use Rattle.queues.specs.Queue.{QueueNames}
 use Rattle.ready.specs.Bits.{bitsFrom}
 use Rattle.ready.proofs.BitLaws.{bits-next, bits-zero, clear-less, Each, both}
 use Rattle.ready.proofs.CollectLaws.{Kept, kept-self, kept-then}

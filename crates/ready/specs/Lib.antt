@@ -1,5 +1,2 @@
-pub mod Header
-pub mod Queue
-pub mod Registry
 pub mod Bits
 pub mod Ready

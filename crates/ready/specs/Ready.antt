@@ -7,8 +7,8 @@ use Prim.Native.Nat.{ℕ, zero, suc, _+_, _*_, _/_, _%_, _<_}
 use lib.Dec.{eqb, ltb}
 use Rattle.lane.specs.Table.{laneWords, cell, setCell, laneAt, putLane}
 use Rattle.lane.specs.declared.lane.Lane.{Lane}
-use Rattle.ready.specs.Header.{issued, groupCursor, setGroupCursor}
-use Rattle.ready.specs.Queue.{pushedBack}
+use Rattle.queues.specs.Header.{issued, groupCursor, setGroupCursor}
+use Rattle.queues.specs.Queue.{pushedBack}
 use Rattle.ready.specs.Bits.{bit, withBit, bitsFrom}
 use Rattle.ready.specs.declared.ready.Page.{Page}
 use Rattle.ready.specs.declared.ready.Group.{Group}

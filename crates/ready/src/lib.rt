@@ -1,5 +1,2 @@
-// What the receiver keeps beside its lanes, in the table store: the header, the queue, the free list and the ready marks.
-pub mod header;
-pub mod queue;
+// The ready marks of lanes, in pages and groups, and collecting them.
 pub mod ready;
-pub mod registry;

@@ -4,8 +4,8 @@ ghost use mathlib.Core.Bool.{true};
 ghost use Prim.Native.Nat.{_*_, _≤_, _<_};
 ghost use lib.ListN.{length};
 ghost use Rattle.lane.specs.Table.{HasRow};
-ghost use Rattle.ready.specs.Header.{Shaped, slots, queueCount, issued};
-ghost use Rattle.ready.specs.Queue.{QueueNames};
+ghost use Rattle.queues.specs.Header.{Shaped, slots, queueCount, issued};
+ghost use Rattle.queues.specs.Queue.{QueueNames};
 ghost use Rattle.ready.specs.Bits.{withBit};
 ghost use Rattle.ready.specs.Ready.{
   emptyPage,
@@ -33,10 +33,10 @@ ghost use Rattle.ready.specs.Ready.{
   collectReady,
   anyReady,
 };
-use crate::header::Header;
-use crate::queue;
 use lane::lane::Lane;
 use lane::table;
+use queues::header::Header;
+use queues::queue;
 
 // `word` with its bit `b` set.
 fn with_bit(word: u64, b: usize) -> u64

@@ -15,7 +15,7 @@ use Rattle.model.specs.Receive.{receiveOutcome, outputAfter}
 use Rattle.model.specs.Demand2.{HasRoom}
 use Rattle.model.specs.Rules.{outcome}
 use Rattle.lane.specs.Table.{laneAt}
-use Rattle.ready.specs.Queue.{queueOf}
+use Rattle.queues.specs.Queue.{queueOf}
 use Rattle.store.specs.View.{view}
 use Rattle.store.specs.Order.{StoreInOrder}
 use Rattle.bulk.specs.Drain.{tryRecvBatchInto, batchHands, batchInto}

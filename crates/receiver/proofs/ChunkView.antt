@@ -18,13 +18,13 @@ use Rattle.model.proofs.WholeChunk.{firstOf, given, ChunkFits, given-ordered}
 use Rattle.lane.specs.declared.consumer.Moved.{Moved}
 use Rattle.lane.specs.declared.lane.Lane.{Lane}
 use Rattle.lane.specs.declared.lane.Released.{Released}
-use Rattle.lane.specs.Ring.{ringOf, items}
+use Rattle.yring.specs.Ring.{ringOf, items}
 use Rattle.lane.specs.Lane.{headOn, charged, addBurst, endBurst, released, held, releaseAtBatch, endFullBurst, chunkLimit}
 use Rattle.lane.specs.Table.{laneAt}
 use Rattle.lane.proofs.OrderLaws.{chunk-within}
 use Rattle.lane.proofs.HeldLaws.{move-chunk-takes-first, refill-is}
-use Rattle.ready.specs.Header.{budget, capacity}
-use Rattle.ready.specs.Queue.{queueOf, frontSlot, poppedFront}
+use Rattle.queues.specs.Header.{budget, capacity}
+use Rattle.queues.specs.Queue.{queueOf, frontSlot, poppedFront}
 use Rattle.store.specs.View.{slotAt, view}
 use Rattle.store.specs.Order.{Stores, StoreInOrder}
 use Rattle.bulk.specs.Drain.{Fronts, fullBudget, chunkItems, chunkLane, gaveChunk, chunkGiven}

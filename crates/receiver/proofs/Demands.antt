@@ -15,10 +15,10 @@ use Rattle.model.specs.Words.{runsThatFit}
 use Rattle.model.specs.Demand1.{RefusalChangesNothing}
 use Rattle.model.specs.Demand2.{Demand2In}
 use Rattle.model.proofs.Words.{words-demand2, words-demand3, words-none-after-close, words-held-as-counted, words-hands-as-answered}
-use Rattle.lane.specs.Ring.{ringOf}
+use Rattle.yring.specs.Ring.{ringOf}
 use Rattle.lane.specs.Lane.{held}
 use Rattle.lane.specs.Table.{laneAt}
-use Rattle.ready.specs.Header.{issued, capacity}
+use Rattle.queues.specs.Header.{issued, capacity}
 use Rattle.store.specs.View.{flag, slotAt, view}
 use Rattle.store.specs.Order.{StoreInOrder}
 use Rattle.receiver.specs.Runs.{theStores}

@@ -11,8 +11,8 @@ use Rattle.model.specs.Receive.{takeUpTo}
 use Rattle.model.proofs.WholeChunk.{firstOf, given, ChunkFits, onto, take-up-to-none, take-up-to-chunk}
 use Rattle.lane.specs.declared.lane.Lane.{Lane}
 use Rattle.lane.specs.Lane.{chunkLimit}
-use Rattle.ready.specs.Header.{budget, capacity}
-use Rattle.ready.specs.Queue.{queueOf, frontSlot, poppedFront}
+use Rattle.queues.specs.Header.{budget, capacity}
+use Rattle.queues.specs.Queue.{queueOf, frontSlot, poppedFront}
 use Rattle.bulk.specs.declared.drain.Front.{Front}
 use Rattle.bulk.specs.declared.drain.Front.the-variants as Front
 use Rattle.store.specs.View.{view}

@@ -13,12 +13,12 @@ use Rattle.lane.specs.declared.lane.Refill.{Refill}
 use Rattle.lane.specs.declared.lane.Refill.the-variants as Refill
 use Rattle.lane.specs.declared.lane.LanePoll.{LanePoll}
 use Rattle.lane.specs.declared.lane.LanePoll.the-variants as LanePoll
-use Rattle.lane.specs.Ring.{ringOf}
+use Rattle.yring.specs.Ring.{ringOf}
 use Rattle.lane.specs.Lane.{reload, closeFast, settleEmpty, readyOrIdle, refill, poll}
 use Rattle.lane.specs.Order.{InOrder, refilledLane, polledLane}
 use Rattle.lane.specs.Table.{laneAt}
 use Rattle.lane.proofs.OrderLaws.{refill-keeps, poll-keeps}
-use Rattle.ready.specs.Header.{issued, capacity}
+use Rattle.queues.specs.Header.{issued, capacity}
 use Rattle.store.specs.Order.{Stores}
 use Rattle.store.proofs.LaneFields.{Emptied, RefillKept, PollKept, refill-kept, poll-kept}
 use Rattle.store.proofs.LaneView.{FoundIdle, settled-idle, poll-idle}

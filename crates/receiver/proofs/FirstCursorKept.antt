@@ -20,14 +20,14 @@ use Rattle.lane.specs.declared.lane.Refill.the-variants as Refill
 use Rattle.lane.specs.declared.lane.LanePoll.{LanePoll}
 use Rattle.lane.specs.declared.lane.LanePoll.the-variants as LanePoll
 use Rattle.lane.specs.declared.lane.EmptyLane.{EmptyLane}
-use Rattle.lane.specs.Ring.{ringOf}
+use Rattle.yring.specs.Ring.{ringOf}
 use Rattle.lane.specs.Lane.{reloadIsEmpty, refill, popTargeted, poll, endFullBurst}
 use Rattle.lane.specs.Table.{setHead, laneAt, putLane}
 use Rattle.lane.proofs.OrderLaws.{cond-holds}
-use Rattle.ready.specs.Header.{issued, queueCount, budget, capacity, firstCursor, channel, fastSlot, livingCount}
-use Rattle.ready.specs.Queue.{frontSlot, rotated}
+use Rattle.queues.specs.Header.{issued, queueCount, budget, capacity, firstCursor, channel, fastSlot, livingCount}
+use Rattle.queues.specs.Queue.{frontSlot, rotated}
 use Rattle.ready.specs.Ready.{collectReady}
-use Rattle.ready.proofs.QueueLaws.{head-rotated}
+use Rattle.queues.proofs.QueueLaws.{head-rotated}
 use Rattle.store.specs.Order.{StoreInOrder}
 use Rattle.sender.specs.Sender.{registerSender}
 use Rattle.opening.specs.FirstCursor.{StartsAt}

@@ -17,13 +17,13 @@ use Rattle.lane.specs.Lane.{newLane}
 use Rattle.lane.specs.Table.{setHead, setCell, laneAt, putLane}
 use Rattle.lane.proofs.OrderLaws.{cond-holds}
 use Rattle.lane.proofs.TableLaws.{head-putLane, head-setCell, other-head-kept}
-use Rattle.ready.specs.Header.{issued, freeCount, firstCursor, groupCursor, laneCount, livingCount}
+use Rattle.queues.specs.Header.{issued, freeCount, firstCursor, groupCursor, laneCount, livingCount}
 use Rattle.ready.specs.Bits.{bitsFrom}
-use Rattle.ready.specs.Queue.{pushedBack, removed}
-use Rattle.ready.specs.Registry.{freed, reissued}
+use Rattle.queues.specs.Queue.{pushedBack, removed}
+use Rattle.queues.specs.Registry.{freed, reissued}
 use Rattle.ready.specs.Ready.{pageColumn, groupColumn, pageWord, groupWord, enqueued, wanted, offered, collectedPage, collectedGroup, groupAt, groupsOf, collectedFrom, collectReady, openedPage}
-use Rattle.ready.proofs.QueueLaws.{head-pushed-back, head-removed}
-use Rattle.ready.proofs.RegistryLaws.{head-freed, head-reissued}
+use Rattle.queues.proofs.QueueLaws.{head-pushed-back, head-removed}
+use Rattle.queues.proofs.RegistryLaws.{head-freed, head-reissued}
 use Rattle.store.specs.declared.refusal.Verdict.{Verdict}
 use Rattle.store.specs.Words.{Words, unlessRefused}
 use Rattle.store.specs.Registry.{retired, retireLane}

@@ -11,13 +11,13 @@ use Rattle.model.specs.State.{State}
 use Rattle.model.specs.Changes.{withQueue, withBudget, put, withRing, popped}
 use Rattle.model.proofs.OrderKept as kept
 use Rattle.lane.specs.declared.lane.Lane.{Lane}
-use Rattle.lane.specs.Ring.{ringOf}
+use Rattle.yring.specs.Ring.{ringOf}
 use Rattle.lane.specs.Lane.{held}
 use Rattle.lane.specs.Order.{InOrder}
 use Rattle.lane.specs.Table.{laneAt, putLane, setHead}
-use Rattle.ready.specs.Header.{budget, capacity, fastSlot, laneCount, livingCount}
-use Rattle.ready.specs.Queue.{queueOf, rotated}
-use Rattle.ready.proofs.QueueLaws.{queue-putLane, shaped-putLane}
+use Rattle.queues.specs.Header.{budget, capacity, fastSlot, laneCount, livingCount}
+use Rattle.queues.specs.Queue.{queueOf, rotated}
+use Rattle.queues.proofs.QueueLaws.{queue-putLane, shaped-putLane}
 use Rattle.store.specs.View.{view}
 use Rattle.store.specs.Order.{Stores, StoreInOrder}
 use Rattle.turns.specs.Turn.{rotatedIf}

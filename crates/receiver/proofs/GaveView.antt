@@ -16,14 +16,14 @@ use Rattle.model.proofs.OrderKept as kept
 use Rattle.lane.specs.declared.lane.Lane.{Lane}
 use Rattle.lane.specs.declared.lane.LanePoll.{LanePoll}
 use Rattle.lane.specs.declared.lane.LanePoll.the-variants as LanePoll
-use Rattle.lane.specs.Ring.{ringOf}
+use Rattle.yring.specs.Ring.{ringOf}
 use Rattle.lane.specs.Lane.{held, poll}
 use Rattle.lane.specs.Order.{InOrder, polledLane}
 use Rattle.lane.specs.Table.{laneAt}
 use Rattle.lane.proofs.OrderLaws.{poll-keeps}
 use Rattle.lane.proofs.HeldLaws.{poll-takes-first}
-use Rattle.ready.specs.Header.{issued, budget, capacity}
-use Rattle.ready.specs.Queue.{queueOf}
+use Rattle.queues.specs.Header.{issued, budget, capacity}
+use Rattle.queues.specs.Queue.{queueOf}
 use Rattle.store.specs.View.{slotAt, view}
 use Rattle.store.specs.Order.{Stores, StoreInOrder}
 use Rattle.turns.specs.Turn.{lessOne, gaveFront}

@@ -16,9 +16,9 @@ use Rattle.model.proofs.OrderKept as kept
 use Rattle.lane.specs.declared.lane.EmptyLane.{EmptyLane}
 use Rattle.lane.specs.Table.{putLane, setHead}
 use Rattle.lane.proofs.TableLaws.{frames}
-use Rattle.ready.specs.Header.{slots, queueCount, freeCount, budget, fastSlot, laneCount, livingCount}
-use Rattle.ready.specs.Queue.{queueOf, poppedFront}
-use Rattle.ready.proofs.QueueLaws.{queue-frames, length-queue, queue-putLane, shaped-putLane}
+use Rattle.queues.specs.Header.{slots, queueCount, freeCount, budget, fastSlot, laneCount, livingCount}
+use Rattle.queues.specs.Queue.{queueOf, poppedFront}
+use Rattle.queues.proofs.QueueLaws.{queue-frames, length-queue, queue-putLane, shaped-putLane}
 use Rattle.store.specs.View.{view}
 use Rattle.store.specs.Order.{StoreInOrder}
 use Rattle.turns.specs.Turn.{leftFront, budgetMet}

@@ -15,16 +15,16 @@ use Rattle.lane.specs.declared.lane.Lane.{Lane}
 use Rattle.lane.specs.declared.lane.EmptyLane.{EmptyLane}
 use Rattle.lane.specs.declared.lane.Refill.{Refill}
 use Rattle.lane.specs.declared.lane.Refill.the-variants as Refill
-use Rattle.lane.specs.Ring.{ringOf, itemAt}
+use Rattle.yring.specs.Ring.{ringOf, itemAt}
 use Rattle.lane.specs.Order.{Counts, Filled}
 use Rattle.lane.specs.Lane.{headOn, held, refill}
 use Rattle.lane.specs.Table.{laneAt}
 use Rattle.lane.proofs.OrderLaws.{refill-fills}
 use Rattle.lane.proofs.HeldLaws.{first-held, reload-holds, refill-is}
-use Rattle.ready.specs.Header.{issued, queueCount, capacity}
-use Rattle.ready.specs.Queue.{queueOf, frontSlot}
+use Rattle.queues.specs.Header.{issued, queueCount, capacity}
+use Rattle.queues.specs.Queue.{queueOf, frontSlot}
 use Rattle.ready.specs.Ready.{collectReady}
-use Rattle.ready.proofs.QueueLaws.{length-queue, front-is}
+use Rattle.queues.proofs.QueueLaws.{length-queue, front-is}
 use Rattle.bulk.specs.declared.drain.Front.{Front}
 use Rattle.bulk.specs.declared.drain.Front.the-variants as Front
 use Rattle.bulk.specs.declared.drain.Look.{Look}

@@ -19,12 +19,12 @@ use Rattle.model.proofs.Moves.{nothing-taken-gives-none}
 use Rattle.model.proofs.OrderKept.{retire-empty-paused-ordered}
 use Rattle.lane.specs.declared.lane.Lane.{Lane}
 use Rattle.lane.specs.Lane.{held, closeFast, prefetch, reload, reloadIsEmpty, refill, readyOrIdle}
-use Rattle.lane.specs.Ring.{ringOf}
+use Rattle.yring.specs.Ring.{ringOf}
 use Rattle.lane.specs.Table.{laneAt}
 use Rattle.lane.proofs.OrderLaws.{cond-holds, refill-fills}
 use Rattle.lane.proofs.HeldLaws.{reload-holds, pop-targeted-takes-first}
-use Rattle.ready.specs.Header.{issued, slots, budget, capacity, fastSlot, freeCount, laneCount, livingCount}
-use Rattle.ready.specs.Queue.{queueOf}
+use Rattle.queues.specs.Header.{issued, slots, budget, capacity, fastSlot, freeCount, laneCount, livingCount}
+use Rattle.queues.specs.Queue.{queueOf}
 use Rattle.store.specs.View.{flag, slotAt, view}
 use Rattle.store.specs.Order.{Stores, StoreInOrder}
 use Rattle.store.specs.Registry.{retired, retireLane}

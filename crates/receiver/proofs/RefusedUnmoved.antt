@@ -19,13 +19,13 @@ use Rattle.model.specs.declared.Answer.the-variants.{Items, Empty, Disconnected
 use Rattle.model.specs.Receive.{written}
 use Rattle.model.specs.Runs.{accepted}
 use Rattle.model.proofs.Counting.{no}
-use Rattle.lane.specs.Cursor.{distance}
+use Rattle.yring.specs.Cursor.{distance}
 use Rattle.lane.specs.declared.lane.Refill.{Refill}
 use Rattle.lane.specs.declared.lane.Refill.the-variants as Refill
-use Rattle.lane.specs.Ring.{push}
+use Rattle.yring.specs.Ring.{push}
 use Rattle.lane.specs.Lane.{sent, pushAndFlush, refill}
 use Rattle.lane.specs.Table.{laneAt}
-use Rattle.ready.specs.Header.{capacity, channel, laneCount, livingCount}
+use Rattle.queues.specs.Header.{capacity, channel, laneCount, livingCount}
 use Rattle.store.specs.declared.refusal.Verdict.{Verdict}
 use Rattle.store.specs.declared.refusal.Verdict.the-variants.{Pass, Refuse}
 use Rattle.turns.specs.declared.turn.Took.{Took}

@@ -8,7 +8,7 @@ use Rattle.model.specs.State.{Slot, keyOf}
 use Rattle.lane.specs.declared.lane.Lane.{Lane}
 use Rattle.lane.specs.Table.{laneAt}
 use Rattle.lane.proofs.TableLaws.{slot-of-lane}
-use Rattle.ready.specs.Header.{issued}
+use Rattle.queues.specs.Header.{issued}
 use Rattle.store.specs.View.{slotAt, view}
 use Rattle.store.specs.Order.{Flags}
 use Rattle.store.proofs.ViewLaws.{slot-in}

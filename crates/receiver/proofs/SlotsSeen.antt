@@ -12,7 +12,7 @@ use Rattle.model.specs.State.{Slot, vacant}
 use Rattle.model.specs.Disconnected as rules
 use Rattle.model.proofs.Counting.{no}
 use Rattle.lane.specs.Table.{laneAt}
-use Rattle.ready.specs.Header.{issued}
+use Rattle.queues.specs.Header.{issued}
 use Rattle.store.specs.View.{flag, slotAt, view}
 use Rattle.store.specs.Order.{StoreInOrder}
 use Rattle.store.proofs.ViewLaws.{slot-in, slot-out}

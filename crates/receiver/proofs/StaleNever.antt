@@ -20,8 +20,8 @@ use Rattle.model.specs.State.{Slot, State}
 use Rattle.model.specs.Rules.{outcome}
 use Rattle.model.proofs.Counting.{same-self}
 use Rattle.lane.specs.Table.{laneAt}
-use Rattle.ready.specs.Header.{issued, queueCount}
-use Rattle.ready.specs.Queue.{queueOf, frontSlot}
+use Rattle.queues.specs.Header.{issued, queueCount}
+use Rattle.queues.specs.Queue.{queueOf, frontSlot}
 use Rattle.store.specs.View.{flag, slotAt, view}
 use Rattle.store.specs.Order.{StoreInOrder}
 use Rattle.store.specs.Words.{Words}

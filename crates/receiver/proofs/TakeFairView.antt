@@ -16,17 +16,17 @@ use Rattle.model.proofs.Counting.{no}
 use Rattle.lane.specs.declared.lane.Lane.{Lane}
 use Rattle.lane.specs.declared.lane.Popped.{Popped}
 use Rattle.lane.specs.declared.lane.Popped.the-variants as Popped
-use Rattle.lane.specs.Ring.{ringOf}
+use Rattle.yring.specs.Ring.{ringOf}
 use Rattle.lane.specs.Lane.{held, popFair}
 use Rattle.lane.specs.Order.{Counts, InOrder, poppedLane}
 use Rattle.lane.specs.Table.{laneAt, setHead}
 use Rattle.lane.proofs.OrderLaws.{cond-holds, pop-fair-keeps}
 use Rattle.lane.proofs.HeldLaws.{pop-fair-takes-first}
 use Rattle.lane.proofs.TableLaws.{frames}
-use Rattle.ready.specs.Header.{issued, queueCount, budget, capacity}
-use Rattle.ready.specs.Queue.{queueOf, frontSlot, poppedFront}
+use Rattle.queues.specs.Header.{issued, queueCount, budget, capacity}
+use Rattle.queues.specs.Queue.{queueOf, frontSlot, poppedFront}
 use Rattle.ready.specs.Ready.{collectReady}
-use Rattle.ready.proofs.QueueLaws.{header-in, length-queue, queue-front}
+use Rattle.queues.proofs.QueueLaws.{header-in, length-queue, queue-front}
 use Rattle.turns.specs.declared.turn.Took.the-variants as Took
 use Rattle.store.specs.View.{view}
 use Rattle.store.specs.Order.{Stores, StoreInOrder}

@@ -14,10 +14,10 @@ use Rattle.model.specs.Changes.{withBudget}
 use Rattle.model.specs.Ready as marks
 use Rattle.model.specs.Turn as rules
 use Rattle.lane.specs.Table.{setHead}
-use Rattle.ready.specs.Header.{queueCount, budget}
-use Rattle.ready.specs.Queue.{queueOf}
+use Rattle.queues.specs.Header.{queueCount, budget}
+use Rattle.queues.specs.Queue.{queueOf}
 use Rattle.ready.specs.Ready.{collectReady}
-use Rattle.ready.proofs.QueueLaws.{length-queue}
+use Rattle.queues.proofs.QueueLaws.{length-queue}
 use Rattle.turns.specs.declared.turn.Took.{Took}
 use Rattle.turns.specs.declared.turn.Took.the-variants as Took
 use Rattle.store.specs.View.{view}

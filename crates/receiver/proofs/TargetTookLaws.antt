@@ -15,17 +15,17 @@ use Rattle.model.specs.Turn as turns
 use Rattle.model.specs.Receive as rules
 use Rattle.lane.specs.declared.lane.Lane.{Lane}
 use Rattle.lane.specs.declared.lane.Refill.the-variants as Refill
-use Rattle.lane.specs.Ring.{ringOf}
+use Rattle.yring.specs.Ring.{ringOf}
 use Rattle.lane.specs.Lane.{held, refill, readyOrIdle, targeted, popTargeted}
 use Rattle.lane.specs.Order.{InOrder, Filled}
 use Rattle.lane.specs.Table.{laneAt, putLane}
 use Rattle.lane.proofs.OrderLaws.{pop-targeted-keeps}
 use Rattle.lane.proofs.HeldLaws.{reload-holds, pop-targeted-takes-first}
 use Rattle.lane.proofs.TableLaws.{frames}
-use Rattle.ready.specs.Header.{Shaped, issued, slots, queueCount, budget, capacity, fastSlot, laneCount, livingCount}
-use Rattle.ready.specs.Queue.{queueOf, pushedBack}
+use Rattle.queues.specs.Header.{Shaped, issued, slots, queueCount, budget, capacity, fastSlot, laneCount, livingCount}
+use Rattle.queues.specs.Queue.{queueOf, pushedBack}
 use Rattle.ready.specs.Ready.{pageBit}
-use Rattle.ready.proofs.QueueLaws.{shaped-putLane, length-queue}
+use Rattle.queues.proofs.QueueLaws.{shaped-putLane, length-queue}
 use Rattle.store.specs.View.{flag, slotOf, slotAt, view}
 use Rattle.store.specs.Order.{Flags, Stores, StoreInOrder}
 use Rattle.store.specs.Signal.{markedIfIdle}

@@ -7,7 +7,7 @@ use Prim.Native.Nat.{ℕ}
 use Rattle.model.specs.declared.Refusal.the-variants.{ReceiverClosed}
 use Rattle.model.specs.Turn as rules-turn
 use Rattle.model.specs.Receive as rules
-use Rattle.ready.specs.Header.{channel}
+use Rattle.queues.specs.Header.{channel}
 use Rattle.store.specs.View.{view}
 use Rattle.store.specs.Order.{StoreInOrder}
 use Rattle.store.specs.Refusal.{receiverVerdict}

@@ -22,12 +22,12 @@ use Rattle.lane.specs.declared.lane.Lane.{Lane}
 use Rattle.lane.specs.declared.lane.EmptyLane.{EmptyLane}
 use Rattle.lane.specs.declared.lane.Refill.the-variants as Refill
 use Rattle.lane.specs.Lane.{settleEmpty, refill, readyOrIdle, popTargeted}
-use Rattle.lane.specs.Ring.{ringOf}
+use Rattle.yring.specs.Ring.{ringOf}
 use Rattle.lane.specs.Table.{laneAt, putLane}
 use Rattle.lane.proofs.TableLaws.{frames}
-use Rattle.ready.specs.Header.{issued, slots, freeCount, budget, capacity, channel, fastSlot, laneCount, livingCount}
-use Rattle.ready.specs.Queue.{queueOf, removed}
-use Rattle.ready.proofs.QueueLaws.{queue-frames, shaped-putLane}
+use Rattle.queues.specs.Header.{issued, slots, freeCount, budget, capacity, channel, fastSlot, laneCount, livingCount}
+use Rattle.queues.specs.Queue.{queueOf, removed}
+use Rattle.queues.proofs.QueueLaws.{queue-frames, shaped-putLane}
 use Rattle.store.specs.View.{slotAt, view}
 use Rattle.store.specs.Order.{Stores, StoreInOrder}
 use Rattle.store.specs.Refusal.{idVerdict}

@@ -9,7 +9,7 @@ use Rattle.model.specs.declared.Refusal.the-variants.{ReceiverClosed}
 use Rattle.model.specs.Turn.{Took as RulesTook}
 use Rattle.model.specs.Turn as rules-turn
 use Rattle.model.specs.Receive as rules
-use Rattle.ready.specs.Header.{channel}
+use Rattle.queues.specs.Header.{channel}
 use Rattle.turns.specs.declared.turn.Took.{Took}
 use Rattle.turns.specs.declared.turn.Took.the-variants as Took
 use Rattle.store.specs.View.{view}

@@ -16,15 +16,15 @@ use Rattle.lane.specs.declared.lane.LanePoll.{LanePoll}
 use Rattle.lane.specs.declared.lane.LanePoll.the-variants as LanePoll
 use Rattle.lane.specs.declared.lane.Refill.{Refill}
 use Rattle.lane.specs.declared.lane.Refill.the-variants as Refill
-use Rattle.lane.specs.Ring.{ringOf}
+use Rattle.yring.specs.Ring.{ringOf}
 use Rattle.lane.specs.Lane.{refill}
 use Rattle.lane.specs.Table.{HasRow, setHead, laneAt, putLane}
 use Rattle.lane.proofs.OrderLaws.{cond-holds}
 use Rattle.lane.proofs.TableLaws.{frames, slot-of-lane, lane-own, other-lane-kept, has-row}
-use Rattle.ready.specs.Header.{queueCount, budget, capacity, laneCount}
-use Rattle.ready.specs.Queue.{frontSlot, poppedFront, rotated}
-use Rattle.ready.proofs.QueueLaws.{queue-frames}
-use Rattle.ready.proofs.RegistryLaws.{registry-frames}
+use Rattle.queues.specs.Header.{queueCount, budget, capacity, laneCount}
+use Rattle.queues.specs.Queue.{frontSlot, poppedFront, rotated}
+use Rattle.queues.proofs.QueueLaws.{queue-frames}
+use Rattle.queues.proofs.RegistryLaws.{registry-frames}
 use Rattle.store.specs.Registry.{retired, retireLane}
 use Rattle.store.proofs.RetireFrames.{freed-unless-last-is}
 use Rattle.store.proofs.LaneFields.{Fixed, Flagged, Emptied, PollKept, poll-kept, RefillKept, refill-kept}

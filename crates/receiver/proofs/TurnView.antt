@@ -17,12 +17,12 @@ use Rattle.lane.specs.declared.lane.Lane.{Lane}
 use Rattle.lane.specs.declared.lane.EmptyLane.{EmptyLane}
 use Rattle.lane.specs.declared.lane.LanePoll.{LanePoll}
 use Rattle.lane.specs.declared.lane.LanePoll.the-variants as LanePoll
-use Rattle.lane.specs.Ring.{ringOf}
+use Rattle.yring.specs.Ring.{ringOf}
 use Rattle.lane.specs.Lane.{held, poll}
 use Rattle.lane.specs.Table.{laneAt}
-use Rattle.ready.specs.Header.{queueCount, capacity}
-use Rattle.ready.specs.Queue.{queueOf}
-use Rattle.ready.proofs.QueueLaws.{length-queue, front-is}
+use Rattle.queues.specs.Header.{queueCount, capacity}
+use Rattle.queues.specs.Queue.{queueOf}
+use Rattle.queues.proofs.QueueLaws.{length-queue, front-is}
 use Rattle.turns.specs.declared.turn.Took.{Took}
 use Rattle.turns.specs.declared.turn.Took.the-variants as Took
 use Rattle.turns.specs.declared.turn.Turn.{Turn}

@@ -11,19 +11,19 @@ use lib.ListN.{length, take, drop}
 use Rattle.model.specs.State.{Slot, keyOf}
 use Rattle.model.specs.Turn as rules
 use Rattle.model.proofs.FrontItem.{take-one-front}
-use Rattle.lane.specs.declared.ring.Ring.{Ring}
+use Rattle.yring.specs.declared.ring.Ring.{Ring}
 use Rattle.lane.specs.declared.lane.Lane.{Lane}
 use Rattle.lane.specs.declared.lane.Popped.{Popped}
 use Rattle.lane.specs.declared.lane.Popped.the-variants as Popped
-use Rattle.lane.specs.Ring.{ringOf, itemAt}
+use Rattle.yring.specs.Ring.{ringOf, itemAt}
 use Rattle.lane.specs.Lane.{held, windowPop, popFast, grantFast}
 use Rattle.lane.specs.Order.{InOrder, poppedLane}
 use Rattle.lane.specs.Table.{laneAt, setHead}
 use Rattle.lane.proofs.OrderLaws.{cond-holds, pop-fast-keeps, grant-fast-keeps}
 use Rattle.lane.proofs.HeldLaws.{pop-fast-takes-first}
-use Rattle.ready.specs.Header.{issued, queueCount, budget, capacity, fastSlot, laneCount, livingCount}
-use Rattle.ready.specs.Queue.{queueOf, frontSlot, poppedFront}
-use Rattle.ready.proofs.QueueLaws.{queue-front}
+use Rattle.queues.specs.Header.{issued, queueCount, budget, capacity, fastSlot, laneCount, livingCount}
+use Rattle.queues.specs.Queue.{queueOf, frontSlot, poppedFront}
+use Rattle.queues.proofs.QueueLaws.{queue-front}
 use Rattle.turns.specs.declared.turn.Took.{Took}
 use Rattle.turns.specs.declared.turn.Took.the-variants as Took
 use Rattle.store.specs.View.{slotAt, view}

@@ -16,13 +16,13 @@ use Rattle.model.specs.Order.{Ordered}
 use Rattle.model.specs.Turn as rules
 use Rattle.model.proofs.OrderKept as kept
 use Rattle.lane.specs.declared.lane.Lane.{Lane}
-use Rattle.lane.specs.Ring.{ringOf}
+use Rattle.yring.specs.Ring.{ringOf}
 use Rattle.lane.specs.Lane.{held}
 use Rattle.lane.specs.Order.{InOrder}
 use Rattle.lane.specs.Table.{laneAt, putLane, setHead}
-use Rattle.ready.specs.Header.{budget, capacity, fastSlot, laneCount, livingCount}
-use Rattle.ready.specs.Queue.{queueOf}
-use Rattle.ready.proofs.QueueLaws.{shaped-putLane}
+use Rattle.queues.specs.Header.{budget, capacity, fastSlot, laneCount, livingCount}
+use Rattle.queues.specs.Queue.{queueOf}
+use Rattle.queues.proofs.QueueLaws.{shaped-putLane}
 use Rattle.store.specs.View.{slotAt, view}
 use Rattle.store.specs.Order.{Stores, StoreInOrder}
 use Rattle.receives.specs.Receive.{windowTook}

@@ -15,10 +15,10 @@ use Rattle.model.specs.declared.Answer.{Answer}
 use Rattle.model.specs.declared.Answer.the-variants.{Done, Empty, Disconnected}
 use Rattle.model.specs.Runs.{accepted, after}
 use Rattle.model.specs.Stretch.{looks}
-use Rattle.lane.specs.Ring.{ringOf}
+use Rattle.yring.specs.Ring.{ringOf}
 use Rattle.lane.specs.Lane.{held}
 use Rattle.lane.specs.Table.{laneAt}
-use Rattle.ready.specs.Header.{issued, alive, capacity, channel}
+use Rattle.queues.specs.Header.{issued, alive, capacity, channel}
 use Rattle.store.specs.Order.{StoreInOrder}
 use Rattle.opening.specs.Opening.{openStore}
 use Rattle.receives.specs.Target.{tryRecvFrom}

@@ -18,7 +18,7 @@ use Rattle.model.specs.Runs.{after}
 use Rattle.model.specs.Events.{Event, budgetSet, callEvents, anyMarked, collects, findsNoneMarked, takesItem, takesItemOf, countEvents, lanesOfItems}
 use Rattle.model.specs.Budget.{itemsSinceSet, isTargeted}
 use Rattle.model.specs.OneTurn.{endsTurnOf}
-use Rattle.ready.specs.Header.{budget}
+use Rattle.queues.specs.Header.{budget}
 use Rattle.ready.specs.Ready.{collectReady}
 use Rattle.store.specs.View.{view}
 use Rattle.store.specs.Order.{StoreInOrder}

@@ -6,17 +6,17 @@ use Prim.Native.Nat.{ℕ, _≤_, _<_}
 use native.Mathlib.Omega.{arith}
 use lib.ListN.{length}
 use borrow.Author.Tests.{eq-eqb, ne-eqb, lt-ltb, le-ltb}
-use Rattle.lane.specs.declared.ring.Ring.{Ring}
+use Rattle.yring.specs.declared.ring.Ring.{Ring}
 use Rattle.lane.specs.declared.consumer.Taken.{Taken}
 use Rattle.lane.specs.declared.lane.Lane.{Lane}
 use Rattle.lane.specs.declared.lane.Popped.{Popped}
 use Rattle.lane.specs.declared.lane.Popped.the-variants as Popped
-use Rattle.lane.specs.Ring.{Within, ringOf}
+use Rattle.yring.specs.Ring.{Within, ringOf}
 use Rattle.lane.specs.Lane.{windowTaken, fairWindow, fairTaken, popFast, popFair}
 use Rattle.lane.specs.Table.{laneAt}
 use Rattle.lane.proofs.WindowLaws.{pop-fast-none, pop-fast-some, pop-fair-none, pop-fair-some}
-use Rattle.ready.specs.Header.{Shaped, issued, slots, queueCount, budget, capacity, fastSlot}
-use Rattle.ready.specs.Queue.{frontSlot}
+use Rattle.queues.specs.Header.{Shaped, issued, slots, queueCount, budget, capacity, fastSlot}
+use Rattle.queues.specs.Queue.{frontSlot}
 use Rattle.turns.specs.declared.turn.Took.{Took}
 use Rattle.turns.specs.declared.turn.Took.the-variants as Took
 use Rattle.turns.specs.Drained.{Rests}

@@ -10,21 +10,21 @@ use lib.Dec.{eqb, ltb}
 use lib.ListN.{length}
 use Rattle.model.specs.State.{registeredLanes}
 use Rattle.model.specs.declared.LaneKey.{LaneKey}
-use Rattle.lane.specs.declared.ring.Ring.{Ring}
+use Rattle.yring.specs.declared.ring.Ring.{Ring}
 use Rattle.lane.specs.declared.lane.Lane.{Lane}
 use Rattle.lane.specs.declared.lane.Popped.{Popped}
 use Rattle.lane.specs.declared.lane.Popped.the-variants as Popped
 use Rattle.lane.specs.declared.lane.LanePoll.{LanePoll}
 use Rattle.lane.specs.declared.lane.LanePoll.the-variants as LanePoll
-use Rattle.lane.specs.Ring.{ringOf}
+use Rattle.yring.specs.Ring.{ringOf}
 use Rattle.lane.specs.Order.{InOrder, poppedLane}
 use Rattle.lane.specs.Lane.{popFast, grantFast, openFor, closeFast, reload, popFair}
 use Rattle.lane.specs.Table.{laneAt, setHead}
 use Rattle.lane.proofs.OrderLaws.{cond-holds, closed-reload-keeps, window-for-fits}
 use Rattle.lane.proofs.TableLaws.{frames, slot-of-lane}
-use Rattle.ready.specs.Header.{Shaped, issued, slots, queueCount, budget, capacity, fastSlot}
-use Rattle.ready.proofs.QueueLaws.{header-in, shaped-setHead}
-use Rattle.ready.specs.Queue.{frontSlot}
+use Rattle.queues.specs.Header.{Shaped, issued, slots, queueCount, budget, capacity, fastSlot}
+use Rattle.queues.proofs.QueueLaws.{header-in, shaped-setHead}
+use Rattle.queues.specs.Queue.{frontSlot}
 use Rattle.ready.specs.Ready.{collectReady}
 use Rattle.store.specs.View.{flag, slotAt, view}
 use Rattle.store.specs.Order.{StoreInOrder}

@@ -10,15 +10,15 @@ use Rattle.lane.specs.declared.lane.Lane.{Lane}
 use Rattle.lane.specs.declared.lane.EmptyLane.{EmptyLane}
 use Rattle.lane.specs.declared.lane.Refill.{Refill}
 use Rattle.lane.specs.declared.lane.Refill.the-variants as Refill
-use Rattle.lane.specs.Ring.{ringOf, Within}
+use Rattle.yring.specs.Ring.{ringOf, Within}
 use Rattle.lane.specs.Order.{InOrder, Filled, Refundable}
 use Rattle.lane.specs.Lane.{refill, popTargeted}
 use Rattle.lane.specs.Table.{laneAt, putLane}
 use Rattle.lane.proofs.OrderLaws.{refundable, refill-fills}
 use Rattle.lane.proofs.TableLaws.{slot-of-lane}
-use Rattle.ready.specs.Header.{Shaped, issued, slots, queueCount, freeCount, capacity, laneCount}
-use Rattle.ready.specs.Queue.{removed}
-use Rattle.ready.proofs.QueueLaws.{queue-has-room}
+use Rattle.queues.specs.Header.{Shaped, issued, slots, queueCount, freeCount, capacity, laneCount}
+use Rattle.queues.specs.Queue.{removed}
+use Rattle.queues.proofs.QueueLaws.{queue-has-room}
 use Rattle.store.specs.Order.{StoreInOrder}
 use Rattle.turns.specs.Turn.{Turning, retiredIf}
 use Rattle.receives.specs.Target.{targetSettled, targetTook, takeFrom}

@@ -10,11 +10,11 @@ use Rattle.model.specs.declared.Answer.the-variants.{Item}
 use Rattle.lane.specs.declared.lane.Lane.{Lane}
 use Rattle.lane.specs.declared.lane.Popped.{Popped}
 use Rattle.lane.specs.declared.lane.Popped.the-variants as Popped
-use Rattle.lane.specs.Ring.{ringOf}
+use Rattle.yring.specs.Ring.{ringOf}
 use Rattle.lane.specs.Lane.{popFast, grantFast, popFair}
 use Rattle.lane.specs.Table.{laneAt, putLane, setHead}
-use Rattle.ready.specs.Header.{issued, queueCount, budget, capacity, channel, fastSlot}
-use Rattle.ready.specs.Queue.{frontSlot}
+use Rattle.queues.specs.Header.{issued, queueCount, budget, capacity, channel, fastSlot}
+use Rattle.queues.specs.Queue.{frontSlot}
 use Rattle.ready.specs.Ready.{collectReady}
 use Rattle.turns.specs.declared.turn.Took.{Took}
 use Rattle.turns.specs.declared.turn.Took.the-variants as Took

@@ -11,11 +11,11 @@ use Rattle.lane.specs.declared.lane.Lane.{Lane}
 use Rattle.lane.specs.declared.lane.EmptyLane.{EmptyLane}
 use Rattle.lane.specs.declared.lane.Refill.{Refill}
 use Rattle.lane.specs.declared.lane.Refill.the-variants as Refill
-use Rattle.lane.specs.Ring.{ringOf}
+use Rattle.yring.specs.Ring.{ringOf}
 use Rattle.lane.specs.Lane.{refill, popTargeted}
 use Rattle.lane.specs.Table.{laneAt, putLane}
-use Rattle.ready.specs.Header.{capacity, channel}
-use Rattle.ready.specs.Queue.{pushedBack, removed}
+use Rattle.queues.specs.Header.{capacity, channel}
+use Rattle.queues.specs.Queue.{pushedBack, removed}
 use Rattle.store.specs.Refusal.{idVerdict}
 use Rattle.store.specs.Words.{Words, unlessRefused}
 use Rattle.store.specs.Signal.{markedIfIdle}

@@ -3,7 +3,7 @@ ghost use mathlib.Core.Path.{_≡_};
 ghost use Prim.Native.Nat.{_<_};
 ghost use Rattle.lane.specs.Order.{poppedLane};
 ghost use Rattle.lane.specs.declared.lane.Popped.the-variants as Popped;
-ghost use Rattle.ready.specs.Header.{Shaped, slots, budget, channel};
+ghost use Rattle.queues.specs.Header.{Shaped, slots, budget, channel};
 ghost use Rattle.store.specs.Order.{StoreInOrder};
 ghost use Rattle.turns.specs.Turn.{Turning, Ringed};
 ghost use Rattle.turns.specs.Drained.{Rests};
@@ -25,17 +25,17 @@ ghost use Rattle.receives.specs.Receive.{
 };
 use lane::lane::Lane;
 use lane::lane::Popped;
-use lane::ring::Ring;
 use model::Answer;
 use model::LaneId;
-use ready::header::Header;
-use ready::queue;
+use queues::header::Header;
+use queues::queue;
 use ready::ready as marks;
 use store::refusal;
 use store::refusal::Verdict;
 use turns::drained;
 use turns::turn;
 use turns::turn::Took;
+use yring::ring::Ring;
 
 // An item of a window: its lane goes back, and the budget is charged.
 fn took_of_window(t: &mut [u64], item: u64, l: Lane) -> Took

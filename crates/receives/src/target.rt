@@ -2,22 +2,22 @@
 ghost use mathlib.Core.Path.{_≡_};
 ghost use Prim.Native.Nat.{_<_};
 ghost use Rattle.lane.specs.Table.{laneAt};
-ghost use Rattle.ready.specs.Header.{Shaped, issued, slots, queueCount, freeCount, laneCount};
+ghost use Rattle.queues.specs.Header.{Shaped, issued, slots, queueCount, freeCount, laneCount};
 ghost use Rattle.store.specs.Order.{StoreInOrder};
 ghost use Rattle.receives.specs.Target.{targetSettled, targetQueued, targetKept, takeFrom, tryRecvFrom};
 use control::lane_control;
 use lane::lane::EmptyLane;
 use lane::lane::Lane;
 use lane::lane::Refill;
-use lane::ring::Ring;
 use model::Answer;
 use model::LaneId;
-use ready::header::Header;
-use ready::queue;
+use queues::header::Header;
+use queues::queue;
 use store::refusal;
 use store::refusal::Verdict;
 use store::signal;
 use turns::turn;
+use yring::ring::Ring;
 
 fn settle_target(t: &mut [u64], found: EmptyLane) -> Answer
     requires { ⌜ Shaped (now t) × (found .lane .key .slot < slots (now t)) × (freeCount (now t) < slots (now t)) × (0 < laneCount (now t)) ⌝ }

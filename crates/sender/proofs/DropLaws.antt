@@ -19,9 +19,9 @@ use Rattle.model.specs.Rules.{outcome}
 use Rattle.lane.specs.declared.lane.Lane.{Lane}
 use Rattle.lane.specs.Table.{laneAt, putLane}
 use Rattle.lane.proofs.TableLaws.{frames, slot-of-lane}
-use Rattle.ready.specs.Header.{issued, budget, fastSlot, laneCount, livingCount}
-use Rattle.ready.specs.Queue.{queueOf}
-use Rattle.ready.proofs.QueueLaws.{shaped-putLane}
+use Rattle.queues.specs.Header.{issued, budget, fastSlot, laneCount, livingCount}
+use Rattle.queues.specs.Queue.{queueOf}
+use Rattle.queues.proofs.QueueLaws.{shaped-putLane}
 use Rattle.store.specs.View.{slotAt, view}
 use Rattle.store.specs.Order.{Stores, StoreInOrder}
 use Rattle.store.specs.Refusal.{senderVerdict}

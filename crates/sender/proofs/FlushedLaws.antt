@@ -9,17 +9,17 @@ use Rattle.model.specs.declared.Refusal.the-variants as Refusal
 use Rattle.model.specs.declared.Answer.{Answer}
 use Rattle.model.specs.declared.Answer.the-variants.{Taken, Refused}
 use Rattle.lane.specs.declared.lane.Lane.{Lane}
-use Rattle.lane.specs.declared.ring.Push.{Push}
-use Rattle.lane.specs.declared.ring.Push.the-variants.{Pushed, Full}
-use Rattle.lane.specs.declared.ring.Ring.{Ring}
+use Rattle.yring.specs.declared.ring.Push.{Push}
+use Rattle.yring.specs.declared.ring.Push.the-variants.{Pushed, Full}
+use Rattle.yring.specs.declared.ring.Ring.{Ring}
 use Rattle.lane.specs.declared.consumer.Sent.{Sent}
 use Rattle.lane.specs.declared.consumer.Sent.the-variants as Sent
-use Rattle.lane.specs.Ring.{ringOf, pushCursor, putItem}
+use Rattle.yring.specs.Ring.{ringOf, pushCursor, putItem}
 use Rattle.lane.specs.Lane.{pushAndFlush, sentBy, flushed}
 use Rattle.lane.specs.Order.{sentLane}
 use Rattle.lane.specs.Table.{laneAt, putLane}
 use Rattle.lane.proofs.FlushLaws.{flush-taken, flush-full}
-use Rattle.ready.specs.Header.{capacity}
+use Rattle.queues.specs.Header.{capacity}
 use Rattle.sender.specs.Sender.{takenSignaled, sendSignaled, sendUnsignaled, pushed}
 
 module _ (ring : Ring) (l m : Lane) (s : Sent) (e : s ≡ flushed ring l) where

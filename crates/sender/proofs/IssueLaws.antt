@@ -18,19 +18,19 @@ use Rattle.model.specs.Changes.{withIssued, put}
 use Rattle.model.proofs.Counting.{Same, equal, other, same?}
 use Rattle.model.proofs.Words.{state-path}
 use Rattle.lane.specs.declared.lane.Lane.{Lane}
-use Rattle.lane.specs.Ring.{ringOf}
+use Rattle.yring.specs.Ring.{ringOf}
 use Rattle.lane.specs.Lane.{held}
 use Rattle.lane.specs.Order.{InOrder}
 use Rattle.lane.specs.Table.{HasRow, headerWords, head, setHead, setCell, laneAt, putLane}
 use Rattle.lane.proofs.TableLaws.{frames, has-row, lane-own, other-lane-kept}
-use Rattle.ready.specs.Header.{Shaped, issued, slots, budget, capacity, fastSlot, laneCount, livingCount}
-use Rattle.ready.specs.Queue.{queueOf}
-use Rattle.ready.specs.Registry.{freeOf}
+use Rattle.queues.specs.Header.{Shaped, issued, slots, budget, capacity, fastSlot, laneCount, livingCount}
+use Rattle.queues.specs.Queue.{queueOf}
+use Rattle.queues.specs.Registry.{freeOf}
 use Rattle.ready.specs.Bits.{bit}
 use Rattle.ready.specs.Ready.{pageColumn, groupColumn, pageWord, groupWord, pageBit, groupBit, nonZero, Linked, openedGroup, openedPage}
 use Rattle.ready.proofs.BitLaws.{bit-zero}
-use Rattle.ready.proofs.QueueLaws.{queue-frames, header-in}
-use Rattle.ready.proofs.RegistryLaws.{registry-frames}
+use Rattle.queues.proofs.QueueLaws.{queue-frames, header-in}
+use Rattle.queues.proofs.RegistryLaws.{registry-frames}
 use Rattle.store.specs.View.{flag, slotOf, slotAt, view}
 use Rattle.store.specs.Order.{Flags, Fast, MarkWords, Stores}
 use Rattle.store.proofs.ViewLaws.{row-in, view-put-lane, put-put}

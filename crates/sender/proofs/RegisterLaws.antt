@@ -26,19 +26,19 @@ use Rattle.model.specs.Rules.{outcome}
 use Rattle.model.proofs.Counting.{no as clash}
 use Rattle.model.proofs.OrderKept.{first-own}
 use Rattle.lane.specs.declared.lane.Lane.{Lane}
-use Rattle.lane.specs.declared.ring.Ring.{Ring}
-use Rattle.lane.specs.Ring.{ringOf, items}
+use Rattle.yring.specs.declared.ring.Ring.{Ring}
+use Rattle.yring.specs.Ring.{ringOf, items}
 use Rattle.lane.specs.Lane.{newLane, held}
 use Rattle.lane.specs.Table.{setHead, laneAt, putLane}
 use Rattle.lane.proofs.TableLaws.{frames}
-use Rattle.lane.proofs.CursorLaws.{distance-self}
+use Rattle.yring.proofs.CursorLaws.{distance-self}
 use Rattle.lane.proofs.OrderLaws.{new-lane-in-order}
-use Rattle.ready.specs.Header.{Shaped, issued, slots, budget, capacity, firstCursor, firstGeneration, fastSlot, freeCount, laneCount, livingCount}
-use Rattle.ready.specs.Queue.{queueOf}
-use Rattle.ready.specs.Registry.{freeOf, lastFreed, reissued}
+use Rattle.queues.specs.Header.{Shaped, issued, slots, budget, capacity, firstCursor, firstGeneration, fastSlot, freeCount, laneCount, livingCount}
+use Rattle.queues.specs.Queue.{queueOf}
+use Rattle.queues.specs.Registry.{freeOf, lastFreed, reissued}
 use Rattle.ready.specs.Ready.{pageBit}
-use Rattle.ready.proofs.QueueLaws.{shaped-putLane}
-use Rattle.ready.proofs.RegistryLaws.{registry-frames, length-free, free-reissued, shaped-reissued}
+use Rattle.queues.proofs.QueueLaws.{shaped-putLane}
+use Rattle.queues.proofs.RegistryLaws.{registry-frames, length-free, free-reissued, shaped-reissued}
 use Rattle.store.specs.declared.refusal.Verdict.the-variants.{Pass, Refuse}
 use Rattle.store.specs.View.{flag, slotOf, slotAt, view}
 use Rattle.store.specs.Order.{Flags, Stores, StoreInOrder}

@@ -24,21 +24,21 @@ use Rattle.model.specs.Outcome.{Outcome, says, unless}
 use Rattle.model.specs.Sender as rules-sender
 use Rattle.model.specs.Rules.{outcome}
 use Rattle.lane.specs.declared.lane.Lane.{Lane}
-use Rattle.lane.specs.declared.ring.Ring.{Ring}
+use Rattle.yring.specs.declared.ring.Ring.{Ring}
 use Rattle.lane.specs.declared.consumer.Sent.{Sent}
 use Rattle.lane.specs.declared.consumer.Sent.the-variants as Sent
-use Rattle.lane.specs.Cursor.{after, distance}
-use Rattle.lane.specs.Ring.{Within, ringOf, place, push}
+use Rattle.yring.specs.Cursor.{after, distance}
+use Rattle.yring.specs.Ring.{Within, ringOf, place, push}
 use Rattle.lane.specs.Lane.{withCursors, held, sent, pushAndFlush}
 use Rattle.lane.specs.Order.{InOrder, sentLane}
 use Rattle.lane.specs.Table.{laneAt, putLane}
 use Rattle.lane.proofs.TableLaws.{frames, slot-of-lane}
-use Rattle.lane.proofs.RingLaws.{length-items}
+use Rattle.yring.proofs.RingLaws.{length-items}
 use Rattle.lane.proofs.OrderLaws.{push-and-flush-keeps}
-use Rattle.ready.specs.Header.{issued, slots, budget, capacity, fastSlot, laneCount, livingCount}
-use Rattle.ready.specs.Queue.{queueOf}
+use Rattle.queues.specs.Header.{issued, slots, budget, capacity, fastSlot, laneCount, livingCount}
+use Rattle.queues.specs.Queue.{queueOf}
 use Rattle.ready.specs.Ready.{pageBit}
-use Rattle.ready.proofs.QueueLaws.{shaped-putLane}
+use Rattle.queues.proofs.QueueLaws.{shaped-putLane}
 use Rattle.store.specs.View.{slotOf, slotAt, view}
 use Rattle.store.specs.Order.{Stores, StoreInOrder}
 use Rattle.store.specs.Refusal.{sendVerdict}

@@ -16,8 +16,8 @@ use Rattle.model.specs.State.{registeredLanes, livingSenders}
 use Rattle.lane.specs.Table.{setHead}
 use Rattle.lane.proofs.OrderLaws.{cond-holds}
 use Rattle.lane.proofs.TableLaws.{frames}
-use Rattle.ready.specs.Header.{Shaped, issued, slots, freeCount, laneCount, livingCount}
-use Rattle.ready.specs.Registry.{lastFreed, reissued}
+use Rattle.queues.specs.Header.{Shaped, issued, slots, freeCount, laneCount, livingCount}
+use Rattle.queues.specs.Registry.{lastFreed, reissued}
 use Rattle.ready.specs.Ready.{openedPage}
 use Rattle.store.specs.declared.refusal.Verdict.{Verdict}
 use Rattle.store.specs.declared.refusal.Verdict.the-variants.{Pass, Refuse}

@@ -16,10 +16,10 @@ use Rattle.lane.specs.declared.lane.Lane.{Lane}
 use Rattle.lane.specs.declared.consumer.Sent.{Sent}
 use Rattle.lane.specs.declared.consumer.Sent.the-variants as Sent
 use Rattle.lane.specs.Lane.{newLane, pushAndFlush}
-use Rattle.lane.specs.Ring.{Within, ringOf}
+use Rattle.yring.specs.Ring.{Within, ringOf}
 use Rattle.lane.specs.Table.{laneAt, putLane, setHead}
-use Rattle.ready.specs.Header.{Shaped, issued, freeCount, slots, alive, capacity, firstCursor, firstGeneration, laneCount, livingCount}
-use Rattle.ready.specs.Registry.{lastFreed, reissued}
+use Rattle.queues.specs.Header.{Shaped, issued, freeCount, slots, alive, capacity, firstCursor, firstGeneration, laneCount, livingCount}
+use Rattle.queues.specs.Registry.{lastFreed, reissued}
 use Rattle.ready.specs.Ready.{openedPage}
 use Rattle.store.specs.declared.refusal.Verdict.{Verdict}
 use Rattle.store.specs.declared.refusal.Verdict.the-variants.{Pass, Refuse}

@@ -2,22 +2,22 @@
 ghost use mathlib.Core.Path.{_≡_};
 ghost use Prim.Native.Nat.{_<_};
 ghost use lib.ListN.{length};
-ghost use Rattle.ready.specs.Header.{Shaped, slots, livingCount};
+ghost use Rattle.queues.specs.Header.{Shaped, slots, livingCount};
 ghost use Rattle.store.specs.Order.{StoreInOrder};
 ghost use Rattle.store.specs.Signal.{markedIfIdle};
 ghost use Rattle.sender.specs.Sender.{withSender, takenSignaled, SendRoom, pushed, sendSignaled, sendUnsignaled, trySend, trySendUnsignaled, dropped, dropSender, unusedVerdict, olderVerdict, slotVerdict, registerVerdict, FreeIssued, SlotDue, RegisterRoom, dueKey, slotTaken, registeredWith, registerSender};
 use lane::consumer::Sent;
 use lane::lane::Lane;
-use lane::ring::Ring;
 use model::Answer;
 use model::LaneKey;
 use model::Refusal;
-use ready::header::Header;
+use queues::header::Header;
+use queues::registry;
 use ready::ready as marks;
-use ready::registry;
 use store::refusal;
 use store::refusal::Verdict;
 use store::signal;
+use yring::ring::Ring;
 
 fn with_sender(mut l: Lane, pending: u64, living: u64) -> Lane
     ensures { λ r. ⌜ r ≡ withSender pending living l ⌝ }

@@ -13,10 +13,10 @@ use Rattle.model.specs.Ready.{groupsRound}
 use Rattle.model.proofs.OrderKept.{first-own, front-registered, front-alone, budget-ordered, groups-round-exist, collect-each-ordered, collect-first-ordered}
 use Rattle.lane.specs.Table.{setHead, laneAt}
 use Rattle.lane.proofs.TableLaws.{frames}
-use Rattle.ready.specs.Header.{issued}
-use Rattle.ready.specs.Queue.{queueOf}
+use Rattle.queues.specs.Header.{issued}
+use Rattle.queues.specs.Queue.{queueOf}
 use Rattle.ready.specs.Ready.{collectReady}
-use Rattle.ready.proofs.QueueLaws.{queue-frames, header-in}
+use Rattle.queues.proofs.QueueLaws.{queue-frames, header-in}
 use Rattle.store.specs.View.{flag, slotAt, view}
 use Rattle.store.specs.Order.{Stores, StoreInOrder}
 use Rattle.store.proofs.ViewLaws.{slot-in, view-budget}

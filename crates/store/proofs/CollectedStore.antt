@@ -10,8 +10,8 @@ use Rattle.model.specs.State.{registeredLanes, livingSenders}
 use Rattle.lane.specs.declared.lane.Lane.{Lane}
 use Rattle.lane.specs.Order.{InOrder}
 use Rattle.lane.specs.Table.{headerWords, head, laneAt}
-use Rattle.ready.specs.Header.{issued, budget, capacity, fastSlot}
-use Rattle.ready.specs.Queue.{queueOf}
+use Rattle.queues.specs.Header.{issued, budget, capacity, fastSlot}
+use Rattle.queues.specs.Queue.{queueOf}
 use Rattle.ready.specs.Ready.{queuedLane, collectReady}
 use Rattle.store.specs.View.{flag, view}
 use Rattle.store.specs.Order.{Flags, Fast, Stores}

@@ -22,18 +22,18 @@ use Rattle.model.specs.Ready.{groupOf, groupsIn, marks, isReady, collectMarks, 
 use Rattle.model.proofs.Counting.{Same, equal, other, same?}
 use Rattle.model.proofs.Words.{state-path}
 use Rattle.lane.specs.declared.lane.Lane.{Lane}
-use Rattle.lane.specs.Ring.{ringOf}
+use Rattle.yring.specs.Ring.{ringOf}
 use Rattle.lane.specs.Lane.{held}
 use Rattle.lane.specs.Table.{headerWords, rowWords, head, cellAt, cell, setCell, laneAt}
-use Rattle.lane.proofs.ListLaws.{tab-ext}
+use Rattle.yring.proofs.ListLaws.{tab-ext}
 use Rattle.lane.proofs.TableLaws.{frames, has-row}
-use Rattle.ready.specs.Header.{Shaped, issued, slots, groupCursor, capacity, freeCount, setGroupCursor}
-use Rattle.ready.specs.Queue.{QueueNames, queueOf}
-use Rattle.ready.specs.Registry.{freeColumn, freeOf}
+use Rattle.queues.specs.Header.{Shaped, issued, slots, groupCursor, capacity, freeCount, setGroupCursor}
+use Rattle.queues.specs.Queue.{QueueNames, queueOf}
+use Rattle.queues.specs.Registry.{freeColumn, freeOf}
 use Rattle.ready.specs.Bits.{bit, bitsFrom}
 use Rattle.ready.specs.Ready.{pageColumn, groupColumn, pageWord, groupWord, pageBit, groupBit, nonZero, Linked, wantedLane, wanted, queuedLane, enqueued, offered, collectedPage, collectedGroup, groupsOf, groupAt, collectedFrom, collectReady}
 use Rattle.ready.proofs.BitLaws.{bits-next, bits-zero, bit-zero, tz-lt, tz-set}
-use Rattle.ready.proofs.QueueLaws.{queue-frames, header-in}
+use Rattle.queues.proofs.QueueLaws.{queue-frames, header-in}
 use Rattle.ready.proofs.OfferLaws.{Wants, wants, offered-case, shaped-offered, names-offered, other-enqueued}
 use Rattle.ready.proofs.CollectLaws.{kept-setCell, kept-page, kept-group, rest-page, group-taken, other-group-left, other-pages-left, pages-taken, linked-group, kept-cursor, linked-cursor}
 use Rattle.ready.proofs.CollectedQueue.{slotsOfPage, slotsOfPages}

@@ -12,10 +12,10 @@ use Rattle.model.specs.Lists as rules
 use Rattle.model.proofs.Counting.{equal, other, same?, same-self, count-append}
 use Rattle.lane.specs.Table.{headerWords, rowWords, head, cellAt, laneAt, putLane}
 use Rattle.lane.proofs.TableLaws.{frames}
-use Rattle.ready.specs.Header.{Shaped}
-use Rattle.ready.specs.Queue.{queueOf, QueueNames}
+use Rattle.queues.specs.Header.{Shaped}
+use Rattle.queues.specs.Queue.{queueOf, QueueNames}
 use Rattle.ready.specs.Ready.{queuedLane, enqueued}
-use Rattle.ready.proofs.QueueLaws.{queue-frames, shaped-pushed-back, shaped-putLane}
+use Rattle.queues.proofs.QueueLaws.{queue-frames, shaped-pushed-back, shaped-putLane}
 use Rattle.ready.proofs.OfferLaws.{Wants, wants-room, other-enqueued, queue-enqueued}
 use Rattle.ready.proofs.CollectLaws.{Kept}
 

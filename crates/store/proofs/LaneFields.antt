@@ -7,7 +7,7 @@ use Prim.Native.Nat.{ℕ, _+_}
 use lib.Dec.{eqb}
 use Rattle.model.specs.declared.LaneKey.{LaneKey}
 use Rattle.model.specs.State.{releaseBatch}
-use Rattle.lane.specs.declared.ring.Ring.{Ring}
+use Rattle.yring.specs.declared.ring.Ring.{Ring}
 use Rattle.lane.specs.declared.lane.Lane.{Lane}
 use Rattle.lane.specs.declared.lane.Released.{Released}
 use Rattle.lane.specs.declared.lane.EmptyLane.{EmptyLane}
@@ -17,7 +17,7 @@ use Rattle.lane.specs.declared.lane.Refill.{Refill}
 use Rattle.lane.specs.declared.lane.Refill.the-variants as Refill
 use Rattle.lane.specs.declared.lane.LanePoll.{LanePoll}
 use Rattle.lane.specs.declared.lane.LanePoll.the-variants as LanePoll
-use Rattle.lane.specs.Ring.{itemAt}
+use Rattle.yring.specs.Ring.{itemAt}
 use Rattle.lane.specs.Order.{poppedLane}
 use Rattle.lane.specs.Lane.{prefetch, reload, released, headOn, closeFast, openFor, grantFast, windowPop, popFast, releaseAtBatch, releaseAny, releasePending, emptied, settleEmpty, readyOrIdle, refill, charged, addBurst, endBurst, targeted, popTargeted, polled, pollItem, pollRefilled, poll, fairWindow, fairly, popFair, reloadIsEmpty}
 

@@ -10,7 +10,7 @@ use borrow.Author.Tests.{eqb-true, eqb-false, le-leb, lt-leb}
 use lib.Dec.{eqb, leb}
 use Rattle.model.specs.Lists.{if, either}
 use Rattle.model.specs.State.{releaseBatch}
-use Rattle.lane.specs.declared.ring.Ring.{Ring}
+use Rattle.yring.specs.declared.ring.Ring.{Ring}
 use Rattle.lane.specs.declared.lane.Lane.{Lane}
 use Rattle.lane.specs.declared.lane.Released.{Released}
 use Rattle.lane.specs.declared.lane.EmptyLane.{EmptyLane}
@@ -22,9 +22,9 @@ use Rattle.lane.specs.declared.lane.Popped.{Popped}
 use Rattle.lane.specs.declared.lane.Popped.the-variants as Popped
 use Rattle.lane.specs.Lane.{held, closeFast, prefetch, reload, openFor, grantFast, windowPop, popFast, headOn, charged, addBurst, endBurst, released, releaseAtBatch, targeted, popTargeted, polled, pollItem, pollRefilled, poll, readyOrIdle, refill, releaseAny, releasePending, emptied, settleEmpty, fairWindow, burstOfWindow, fairly, popFair}
 use Rattle.lane.specs.Order.{Counts, InOrder}
-use Rattle.lane.specs.Cursor.{distance}
-use Rattle.lane.specs.Ring.{itemAt, items}
-use Rattle.lane.proofs.CursorLaws.{distance-self}
+use Rattle.yring.specs.Cursor.{distance}
+use Rattle.yring.specs.Ring.{itemAt, items}
+use Rattle.yring.proofs.CursorLaws.{distance-self}
 use Rattle.lane.proofs.OrderLaws.{cond-holds, fair-window-keeps, found-empty}
 use Rattle.lane.proofs.HeldLaws.{reload-holds}
 

@@ -17,7 +17,7 @@ use Rattle.model.specs.declared.Answer.the-variants.{Refused}
 use Rattle.model.specs.State.{State, vacant, senderLives, hasLane, hasLaneId}
 use Rattle.model.specs.Outcome.{Outcome, unless}
 use Rattle.lane.specs.Table.{laneAt}
-use Rattle.ready.specs.Header.{issued, alive, channel}
+use Rattle.queues.specs.Header.{issued, alive, channel}
 use Rattle.store.specs.declared.refusal.Verdict.{Verdict}
 use Rattle.store.specs.declared.refusal.Verdict.the-variants.{Pass, Refuse}
 use Rattle.store.specs.View.{flag, slotAt, view}

@@ -9,10 +9,10 @@ use Rattle.lane.specs.declared.lane.Lane.{Lane}
 use Rattle.lane.specs.Table.{putLane, setHead}
 use Rattle.lane.proofs.OrderLaws.{cond-holds}
 use Rattle.lane.proofs.TableLaws.{frames}
-use Rattle.ready.specs.Header.{Shaped, freeCount, slots, laneCount}
-use Rattle.ready.specs.Registry.{freed}
-use Rattle.ready.proofs.QueueLaws.{shaped-putLane, shaped-setHead}
-use Rattle.ready.proofs.RegistryLaws.{length-freed}
+use Rattle.queues.specs.Header.{Shaped, freeCount, slots, laneCount}
+use Rattle.queues.specs.Registry.{freed}
+use Rattle.queues.proofs.QueueLaws.{shaped-putLane, shaped-setHead}
+use Rattle.queues.proofs.RegistryLaws.{length-freed}
 use Rattle.store.specs.Registry.{retired, freedUnlessLast, retireLane}
 
 module _ (t : List ℕ) (l : Lane) where

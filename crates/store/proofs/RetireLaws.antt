@@ -14,9 +14,9 @@ use Rattle.model.specs.Turn as rules
 use Rattle.lane.specs.declared.lane.Lane.{Lane}
 use Rattle.lane.specs.Table.{laneAt, putLane, setHead}
 use Rattle.lane.proofs.TableLaws.{slot-of-lane}
-use Rattle.ready.specs.Header.{Shaped, issued, slots, freeCount, laneCount}
-use Rattle.ready.specs.Registry.{freed}
-use Rattle.ready.proofs.QueueLaws.{shaped-putLane}
+use Rattle.queues.specs.Header.{Shaped, issued, slots, freeCount, laneCount}
+use Rattle.queues.specs.Registry.{freed}
+use Rattle.queues.proofs.QueueLaws.{shaped-putLane}
 use Rattle.store.specs.View.{flag, slotAt, view}
 use Rattle.store.specs.Registry.{retired, freedUnlessLast, retireLane}
 use Rattle.store.proofs.ViewLaws.{slot-in, view-put-flags, view-lane-count, view-freed}

@@ -9,7 +9,7 @@ use Rattle.lane.specs.declared.lane.Lane.{Lane}
 use Rattle.lane.specs.Table.{headerWords, head}
 use Rattle.lane.proofs.OrderLaws.{cond-holds}
 use Rattle.lane.proofs.TableLaws.{frames}
-use Rattle.ready.specs.Header.{Shaped}
+use Rattle.queues.specs.Header.{Shaped}
 use Rattle.ready.specs.Ready.{marked}
 use Rattle.ready.proofs.MarkLaws.{marked-case, head-marked}
 use Rattle.store.specs.Signal.{markedIfIdle}

@@ -11,7 +11,7 @@ use Rattle.model.specs.Lists.{either}
 use Rattle.model.specs.State.{Slot, State}
 use Rattle.model.specs.Changes.{put, withSignal}
 use Rattle.lane.specs.declared.lane.Lane.{Lane}
-use Rattle.ready.specs.Header.{Shaped, issued}
+use Rattle.queues.specs.Header.{Shaped, issued}
 use Rattle.ready.specs.Ready.{marked}
 use Rattle.store.specs.View.{flag, view}
 use Rattle.store.specs.Signal.{markedIfIdle}

@@ -16,12 +16,12 @@ use Rattle.model.proofs.Counting.{equal, other, same?}
 use Rattle.lane.specs.declared.lane.Lane.{Lane}
 use Rattle.lane.specs.Table.{HasRow, headerWords, setHead, laneAt, putLane}
 use Rattle.lane.proofs.TableLaws.{frames, lane-own, other-lane-kept, has-row}
-use Rattle.ready.specs.Header.{Shaped, issued, slots, budget, alive, capacity, firstCursor, fastSlot, laneCount, livingCount, freeCount, queueCount}
-use Rattle.ready.specs.Queue.{queueOf, pushedBack, poppedFront, rotated, removed}
-use Rattle.ready.specs.Registry.{freed, reissued}
+use Rattle.queues.specs.Header.{Shaped, issued, slots, budget, alive, capacity, firstCursor, fastSlot, laneCount, livingCount, freeCount, queueCount}
+use Rattle.queues.specs.Queue.{queueOf, pushedBack, poppedFront, rotated, removed}
+use Rattle.queues.specs.Registry.{freed, reissued}
 use Rattle.ready.specs.Ready.{pageWord, groupWord, Linked, marked}
-use Rattle.ready.proofs.QueueLaws.{queue-frames, header-in, length-queue, queue-pushed-back, queue-popped-front, queue-rotated, queue-removed, shaped-pushed-back, shaped-popped-front, shaped-rotated, shaped-removed, shaped-putLane}
-use Rattle.ready.proofs.RegistryLaws.{registry-frames, shaped-freed, shaped-reissued}
+use Rattle.queues.proofs.QueueLaws.{queue-frames, header-in, length-queue, queue-pushed-back, queue-popped-front, queue-rotated, queue-removed, shaped-pushed-back, shaped-popped-front, shaped-rotated, shaped-removed, shaped-putLane}
+use Rattle.queues.proofs.RegistryLaws.{registry-frames, shaped-freed, shaped-reissued}
 use Rattle.ready.proofs.MarkLaws.{marked-case, head-marked, lane-marked, queue-marked, page-marked, other-page-marked, linked-marked}
 use Rattle.store.specs.Order.{MarkWords, Stores}
 use Rattle.store.proofs.ViewLaws.{row-in, without-alike}

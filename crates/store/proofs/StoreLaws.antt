@@ -21,21 +21,21 @@ use Rattle.model.proofs.Counting.{equal, other, same?, no as clash}
 use Rattle.model.proofs.OrderKept.{first-own}
 use Rattle.model.proofs.InOrder.{call-keeps-order}
 use Rattle.lane.specs.declared.lane.Lane.{Lane}
-use Rattle.lane.specs.declared.ring.Ring.{Ring}
-use Rattle.lane.specs.Cursor.{distance}
-use Rattle.lane.specs.Ring.{ringOf, Within}
+use Rattle.yring.specs.declared.ring.Ring.{Ring}
+use Rattle.yring.specs.Cursor.{distance}
+use Rattle.yring.specs.Ring.{ringOf, Within}
 use Rattle.lane.specs.Lane.{held}
 use Rattle.lane.specs.Order.{InOrder, Counts}
 use Rattle.lane.specs.Table.{HasRow, laneAt}
-use Rattle.lane.proofs.CursorLaws.{some}
+use Rattle.yring.proofs.CursorLaws.{some}
 use Rattle.lane.proofs.CursorOrder.{held-adds, span-adds}
-use Rattle.lane.proofs.RingLaws.{length-items}
-use Rattle.ready.specs.Header.{issued, slots, budget, capacity, fastSlot, laneCount, livingCount, freeCount, queueCount}
-use Rattle.ready.specs.Queue.{QueueNames, queueOf}
-use Rattle.ready.specs.Registry.{freeOf, lastFreed, reissued}
-use Rattle.ready.proofs.Pigeonhole.{pigeonhole-less}
-use Rattle.ready.proofs.QueueLaws.{queue-has-room}
-use Rattle.ready.proofs.RegistryLaws.{length-free, free-reissued}
+use Rattle.yring.proofs.RingLaws.{length-items}
+use Rattle.queues.specs.Header.{issued, slots, budget, capacity, fastSlot, laneCount, livingCount, freeCount, queueCount}
+use Rattle.queues.specs.Queue.{QueueNames, queueOf}
+use Rattle.queues.specs.Registry.{freeOf, lastFreed, reissued}
+use Rattle.queues.proofs.Pigeonhole.{pigeonhole-less}
+use Rattle.queues.proofs.QueueLaws.{queue-has-room}
+use Rattle.queues.proofs.RegistryLaws.{length-free, free-reissued}
 use Rattle.store.specs.View.{flag, slotAt, view}
 use Rattle.store.specs.Order.{Flags, Fast, Stores, StoreInOrder}
 use Rattle.store.specs.Words.{Words}

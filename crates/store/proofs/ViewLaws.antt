@@ -17,21 +17,21 @@ use Rattle.model.proofs.Counting.{Same, equal, other, same?}
 use Rattle.model.proofs.Words.{state-path}
 use Rattle.model.specs.declared.LaneKey.{LaneKey}
 use Rattle.lane.specs.declared.lane.Lane.{Lane}
-use Rattle.lane.specs.Cursor.{distance}
-use Rattle.lane.specs.Ring.{ringOf, place, Within, push}
+use Rattle.yring.specs.Cursor.{distance}
+use Rattle.yring.specs.Ring.{ringOf, place, Within, push}
 use Rattle.lane.specs.Lane.{held, pushAndFlush, sent}
 use Rattle.lane.specs.Order.{InOrder, sentLane}
 use Rattle.lane.specs.Table.{HasRow, head, setHead, headerWords, laneAt, putLane}
 use Rattle.lane.proofs.TableLaws.{frames, lane-own, other-lane-kept, slot-of-lane, has-row}
-use Rattle.lane.proofs.RingLaws.{other-ring-kept}
+use Rattle.yring.proofs.RingLaws.{other-ring-kept}
 use Rattle.lane.proofs.HeldLaws.{held-by-ends, push-and-flush-appends}
-use Rattle.ready.specs.Header.{Shaped, issued, slots, budget, groupCursor, alive, capacity, channel, firstGeneration, freeCount, queueCount}
-use Rattle.ready.specs.Queue as words
-use Rattle.ready.specs.Queue.{queueOf, pushedBack, poppedFront, rotated, removed}
-use Rattle.ready.specs.Registry.{freeOf, freed, lastFreed, reissued}
+use Rattle.queues.specs.Header.{Shaped, issued, slots, budget, groupCursor, alive, capacity, channel, firstGeneration, freeCount, queueCount}
+use Rattle.queues.specs.Queue as words
+use Rattle.queues.specs.Queue.{queueOf, pushedBack, poppedFront, rotated, removed}
+use Rattle.queues.specs.Registry.{freeOf, freed, lastFreed, reissued}
 use Rattle.ready.specs.Ready.{pageBit, marked, queuedLane, enqueued}
-use Rattle.ready.proofs.QueueLaws.{queue-frames, header-in, queue-pushed-back, queue-popped-front, queue-rotated, queue-removed, shaped-putLane}
-use Rattle.ready.proofs.RegistryLaws.{registry-frames, length-free, free-freed, free-reissued}
+use Rattle.queues.proofs.QueueLaws.{queue-frames, header-in, queue-pushed-back, queue-popped-front, queue-rotated, queue-removed, shaped-putLane}
+use Rattle.queues.proofs.RegistryLaws.{registry-frames, length-free, free-freed, free-reissued}
 use Rattle.ready.proofs.MarkLaws.{head-marked, lane-marked, queue-marked, free-marked, own-bit-marked, other-bit-marked}
 use Rattle.store.specs.View.{flag, slotOf, slotAt, view}
 

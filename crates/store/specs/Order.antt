@@ -7,11 +7,11 @@ use lib.ListN.{length, take}
 use Rattle.model.specs.State.{registeredLanes, livingSenders}
 use Rattle.model.specs.Order.{Ordered}
 use Rattle.lane.specs.declared.lane.Lane.{Lane}
-use Rattle.lane.specs.Cursor.{Capacity}
+use Rattle.yring.specs.Cursor.{Capacity}
 use Rattle.lane.specs.Order.{InOrder}
 use Rattle.lane.specs.Table.{laneAt}
-use Rattle.ready.specs.Header.{Shaped, issued, slots, budget, alive, capacity, firstCursor, fastSlot, laneCount, livingCount}
-use Rattle.ready.specs.Queue.{QueueNames, queueOf}
+use Rattle.queues.specs.Header.{Shaped, issued, slots, budget, alive, capacity, firstCursor, fastSlot, laneCount, livingCount}
+use Rattle.queues.specs.Queue.{QueueNames, queueOf}
 use Rattle.ready.specs.Ready.{pageWord, groupWord, Linked}
 use Rattle.store.specs.View.{view}
 

@@ -9,7 +9,7 @@ use Rattle.model.specs.declared.LaneId.{LaneId}
 use Rattle.model.specs.declared.Refusal.the-variants.{ReceiverClosed, NoSuchSender, LaneClosed, NoSuchLane}
 use Rattle.lane.specs.declared.lane.Lane.{Lane}
 use Rattle.lane.specs.Table.{laneAt}
-use Rattle.ready.specs.Header.{issued, alive, channel}
+use Rattle.queues.specs.Header.{issued, alive, channel}
 use Rattle.store.specs.declared.refusal.Verdict.{Verdict}
 use Rattle.store.specs.declared.refusal.Verdict.the-variants.{Pass, Refuse}
 

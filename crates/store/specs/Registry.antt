@@ -6,8 +6,8 @@ use Prim.Native.Nat.{ℕ, _-_}
 use lib.Dec.{eqb}
 use Rattle.lane.specs.declared.lane.Lane.{Lane}
 use Rattle.lane.specs.Table.{putLane, setHead}
-use Rattle.ready.specs.Header.{laneCount}
-use Rattle.ready.specs.Registry.{freed}
+use Rattle.queues.specs.Header.{laneCount}
+use Rattle.queues.specs.Registry.{freed}
 
 -- a lane that is no longer registered
 abbrev pub retired : Lane → Lane

@@ -1,12 +1,12 @@
 // The refusals that several calls share, each test in document 01's order.
 ghost use mathlib.Core.Path.{_≡_};
-ghost use Rattle.ready.specs.Header.{Shaped};
+ghost use Rattle.queues.specs.Header.{Shaped};
 ghost use Rattle.store.specs.Refusal.{senderVerdict, closedVerdict, sendVerdict, receiverVerdict, laneVerdict, idVerdict};
 use lane::lane::Lane;
 use model::LaneId;
 use model::LaneKey;
 use model::Refusal;
-use ready::header::Header;
+use queues::header::Header;
 
 pub enum Verdict {
     Pass,

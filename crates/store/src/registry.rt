@@ -1,11 +1,11 @@
 // Retiring a lane: receiver/registry.rs, and `Registry::retire_lane` of src/mpsc.rs.
 ghost use mathlib.Core.Path.{_≡_};
 ghost use Prim.Native.Nat.{_<_};
-ghost use Rattle.ready.specs.Header.{Shaped, slots, freeCount, laneCount};
+ghost use Rattle.queues.specs.Header.{Shaped, slots, freeCount, laneCount};
 ghost use Rattle.store.specs.Registry.{retired, freedUnlessLast, retireLane};
 use lane::lane::Lane;
-use ready::header::Header;
-use ready::registry;
+use queues::header::Header;
+use queues::registry;
 
 fn retired(mut l: Lane) -> Lane
     ensures { λ r. ⌜ r ≡ retired l ⌝ }

@@ -1,7 +1,7 @@
 // A lane's signal: `mark_ready` of src/mpsc.rs, where it was idle.
 ghost use mathlib.Core.Path.{_≡_};
 ghost use Prim.Native.Nat.{_<_};
-ghost use Rattle.ready.specs.Header.{Shaped, slots};
+ghost use Rattle.queues.specs.Header.{Shaped, slots};
 ghost use Rattle.store.specs.Signal.{markedIfIdle};
 use lane::lane::Lane;
 use ready::ready as marks;

@@ -10,17 +10,17 @@ use lib.Dec.{eqb, ltb, leb}
 use Rattle.model.specs.Lists.{count}
 use Rattle.model.proofs.Counting.{equal, other, same?, count-append}
 use Rattle.lane.specs.declared.lane.Lane.{Lane}
-use Rattle.lane.specs.Lists.{tab}
+use Rattle.yring.specs.Lists.{tab}
 use Rattle.lane.specs.Order.{InOrder}
 use Rattle.lane.specs.Table.{headerWords, rowWords, laneWords, head, cell, setCell, laneAt}
 use Rattle.lane.proofs.OrderLaws.{cond-holds}
 use Rattle.lane.proofs.TableLaws.{frames}
-use Rattle.ready.specs.Header.{Shaped, issued, groupCursor, freeCount, capacity, setGroupCursor}
-use Rattle.ready.specs.Queue.{queueColumn, queueOf, QueueNames}
-use Rattle.ready.specs.Registry.{freeColumn, freeOf}
+use Rattle.queues.specs.Header.{Shaped, issued, groupCursor, freeCount, capacity, setGroupCursor}
+use Rattle.queues.specs.Queue.{queueColumn, queueOf, QueueNames}
+use Rattle.queues.specs.Registry.{freeColumn, freeOf}
 use Rattle.ready.specs.Bits.{bitsFrom}
 use Rattle.ready.specs.Ready.{pageColumn, groupColumn, pageWord, groupWord, Linked, queuedLane, enqueued, offered, collectedPage, collectedGroup, groupsOf, groupAt, collectedFrom, collectReady}
-use Rattle.ready.proofs.QueueLaws.{queue-frames}
+use Rattle.queues.proofs.QueueLaws.{queue-frames}
 use Rattle.ready.proofs.OfferLaws.{Wants, wants, Rest, rest-offered, offered-case, queue-enqueued}
 use Rattle.ready.proofs.CollectLaws.{Kept, kept-self, kept-then, kept-setCell, kept-offered, kept-page, kept-group, linked-group, kept-cursor, linked-cursor}
 use Rattle.turns.specs.Turn.{Turning}

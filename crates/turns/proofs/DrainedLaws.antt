@@ -17,9 +17,9 @@ use Rattle.lane.specs.Lane.{reloadIsEmpty}
 use Rattle.lane.specs.Table.{laneAt}
 use Rattle.lane.proofs.OrderLaws.{cond-holds, refundable}
 use Rattle.lane.proofs.TableLaws.{slot-of-lane}
-use Rattle.ready.specs.Header.{Shaped, issued, slots, freeCount, laneCount, livingCount, capacity}
-use Rattle.ready.specs.Queue.{queueOf}
-use Rattle.ready.proofs.QueueLaws.{length-queue}
+use Rattle.queues.specs.Header.{Shaped, issued, slots, freeCount, laneCount, livingCount, capacity}
+use Rattle.queues.specs.Queue.{queueOf}
+use Rattle.queues.proofs.QueueLaws.{length-queue}
 use Rattle.store.specs.Registry.{retireLane}
 use Rattle.walk.specs.Batch.{forSlots}
 use Rattle.turns.specs.Turn.{retiredIf}

@@ -16,18 +16,18 @@ use Rattle.lane.specs.declared.lane.Lane.{Lane}
 use Rattle.lane.specs.declared.lane.EmptyLane.{EmptyLane}
 use Rattle.lane.specs.declared.lane.LanePoll.{LanePoll}
 use Rattle.lane.specs.declared.lane.LanePoll.the-variants as LanePoll
-use Rattle.lane.specs.Ring.{ringOf}
+use Rattle.yring.specs.Ring.{ringOf}
 use Rattle.lane.specs.Order.{InOrder, polledLane}
 use Rattle.lane.specs.Lane.{poll}
-use Rattle.lane.specs.declared.ring.Ring.{Ring}
+use Rattle.yring.specs.declared.ring.Ring.{Ring}
 use Rattle.lane.specs.Table.{headerWords, head, setHead, laneAt, putLane}
 use Rattle.lane.proofs.OrderLaws.{cond-holds, poll-keeps}
 use Rattle.lane.proofs.TableLaws.{frames, slot-of-lane}
-use Rattle.ready.specs.Header.{Shaped, issued, slots, queueCount, freeCount, budget, capacity, laneCount, fastSlot, livingCount}
-use Rattle.ready.specs.Queue.{queueOf, frontSlot, poppedFront, rotated}
-use Rattle.ready.specs.Registry.{freeOf, freed}
-use Rattle.ready.proofs.QueueLaws.{queue-frames, header-in}
-use Rattle.ready.proofs.RegistryLaws.{registry-frames, length-free, free-freed}
+use Rattle.queues.specs.Header.{Shaped, issued, slots, queueCount, freeCount, budget, capacity, laneCount, fastSlot, livingCount}
+use Rattle.queues.specs.Queue.{queueOf, frontSlot, poppedFront, rotated}
+use Rattle.queues.specs.Registry.{freeOf, freed}
+use Rattle.queues.proofs.QueueLaws.{queue-frames, header-in}
+use Rattle.queues.proofs.RegistryLaws.{registry-frames, length-free, free-freed}
 use Rattle.store.specs.View.{flag}
 use Rattle.store.specs.Registry.{retired, retireLane}
 use Rattle.turns.specs.declared.turn.Took.{Took}

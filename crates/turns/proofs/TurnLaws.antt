@@ -13,19 +13,19 @@ use lib.ListN.{length}
 use Rattle.model.specs.Lists.{count}
 use Rattle.model.proofs.Counting.{equal, other, same?, same-self}
 use Rattle.lane.specs.declared.lane.Lane.{Lane}
-use Rattle.lane.specs.Ring.{ringOf, Within}
+use Rattle.yring.specs.Ring.{ringOf, Within}
 use Rattle.lane.specs.Order.{InOrder}
 use Rattle.lane.specs.Table.{setHead, laneAt}
 use Rattle.lane.proofs.OrderLaws.{cond-holds}
 use Rattle.lane.proofs.TableLaws.{frames}
-use Rattle.ready.specs.Header.{Shaped, issued, slots, queueCount, freeCount, budget, capacity, laneCount}
-use Rattle.ready.specs.Queue.{QueueNames, queueOf, frontSlot, poppedFront}
-use Rattle.ready.specs.Registry.{freeOf}
+use Rattle.queues.specs.Header.{Shaped, issued, slots, queueCount, freeCount, budget, capacity, laneCount}
+use Rattle.queues.specs.Queue.{QueueNames, queueOf, frontSlot, poppedFront}
+use Rattle.queues.specs.Registry.{freeOf}
 use Rattle.ready.specs.Ready.{Linked}
-use Rattle.ready.proofs.Pigeonhole.{pigeonhole-less}
-use Rattle.ready.proofs.QueueLaws.{queue-frames, queue-front, shaped-setHead}
-use Rattle.ready.proofs.NamesLaws.{names-same}
-use Rattle.ready.proofs.RegistryLaws.{registry-frames, length-free}
+use Rattle.queues.proofs.Pigeonhole.{pigeonhole-less}
+use Rattle.queues.proofs.QueueLaws.{queue-frames, queue-front, shaped-setHead}
+use Rattle.queues.proofs.NamesLaws.{names-same}
+use Rattle.queues.proofs.RegistryLaws.{registry-frames, length-free}
 use Rattle.store.specs.View.{flag}
 use Rattle.turns.specs.Turn.{registeredIn, Turning, Ringed, budgetMet}
 use Rattle.store.proofs.CountLaws.{one, passing-same, passing-but, passing-some}

@@ -9,7 +9,7 @@ use Rattle.model.specs.declared.Answer.{Answer}
 use Rattle.model.specs.declared.Answer.the-variants.{Empty, Disconnected}
 use Rattle.lane.specs.Lane.{reloadIsEmpty}
 use Rattle.lane.specs.Table.{laneAt}
-use Rattle.ready.specs.Header.{issued, queueCount, laneCount, livingCount}
+use Rattle.queues.specs.Header.{issued, queueCount, laneCount, livingCount}
 use Rattle.turns.specs.declared.turn.Took.{Took}
 use Rattle.turns.specs.declared.turn.Took.the-variants as Took
 use Rattle.walk.specs.Batch.{forSlots}

@@ -11,14 +11,14 @@ use Rattle.lane.specs.declared.lane.Lane.{Lane}
 use Rattle.lane.specs.declared.lane.EmptyLane.{EmptyLane}
 use Rattle.lane.specs.declared.lane.LanePoll.{LanePoll}
 use Rattle.lane.specs.declared.lane.LanePoll.the-variants as LanePoll
-use Rattle.lane.specs.Cursor.{Capacity}
+use Rattle.yring.specs.Cursor.{Capacity}
 use Rattle.lane.specs.Order.{InOrder}
-use Rattle.lane.specs.Ring.{ringOf}
+use Rattle.yring.specs.Ring.{ringOf}
 use Rattle.lane.specs.Lane.{poll}
 use Rattle.lane.specs.Table.{laneAt, putLane, setHead}
-use Rattle.ready.specs.Header.{Shaped, issued, slots, queueCount, budget, capacity, laneCount}
-use Rattle.ready.specs.Queue.{QueueNames, queueOf, frontSlot, poppedFront, rotated}
-use Rattle.ready.specs.Registry.{freeOf}
+use Rattle.queues.specs.Header.{Shaped, issued, slots, queueCount, budget, capacity, laneCount}
+use Rattle.queues.specs.Queue.{QueueNames, queueOf, frontSlot, poppedFront, rotated}
+use Rattle.queues.specs.Registry.{freeOf}
 use Rattle.ready.specs.Ready.{Linked}
 use Rattle.turns.specs.declared.turn.Took.{Took}
 use Rattle.turns.specs.declared.turn.Took.the-variants as Took

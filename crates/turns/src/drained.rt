@@ -1,12 +1,12 @@
 // A receive that took nothing: `is_drained` and `retire_empty_paused_lanes` of receiver/registry.rs.
 ghost use mathlib.Core.Path.{_≡_};
 ghost use Prim.Native.Nat.{_<_};
-ghost use Rattle.ready.specs.Header.{issued};
+ghost use Rattle.queues.specs.Header.{issued};
 ghost use Rattle.turns.specs.Drained.{Idle, retireEmptyPaused, retireEmptyPausedLanes, isDrained, nothingTaken};
 use crate::turn;
 use lane::lane::Lane;
 use model::Answer;
-use ready::header::Header;
+use queues::header::Header;
 
 // Retires a slot's lane if it is paused and empty: its sender is dropped, and no receive would find it.
 fn retire_empty_paused(t: &mut [u64], slot: u64)

@@ -2,16 +2,16 @@
 ghost use mathlib.Core.Path.{_≡_};
 ghost use Prim.Native.Nat.{_*_, _≤_, _<_};
 ghost use lib.ListN.{length};
-ghost use Rattle.ready.specs.Header.{Shaped, slots, queueCount, freeCount, laneCount, capacity};
+ghost use Rattle.queues.specs.Header.{Shaped, slots, queueCount, freeCount, laneCount, capacity};
 ghost use Rattle.turns.specs.Turn.{Turning, Ringed, retiredIf, leftFront, budgetMet, lessOne, rotatedIf, gaveFront, pollFront, turns};
 use lane::lane::EmptyLane;
 use lane::lane::Lane;
 use lane::lane::LanePoll;
-use lane::ring::Ring;
 use model::LaneKey;
-use ready::header::Header;
-use ready::queue;
+use queues::header::Header;
+use queues::queue;
 use store::registry;
+use yring::ring::Ring;
 
 // What a take hands out.
 pub enum Took {

@@ -9,9 +9,9 @@ use Rattle.model.specs.Lists.{count}
 use Rattle.model.proofs.Counting.{no}
 use Rattle.lane.specs.Table.{laneAt}
 use Rattle.lane.proofs.OrderLaws.{refundable}
-use Rattle.ready.specs.Header.{issued, capacity, queueCount, slots}
-use Rattle.ready.specs.Queue.{queueOf}
-use Rattle.ready.proofs.QueueLaws.{queue-has-room}
+use Rattle.queues.specs.Header.{issued, capacity, queueCount, slots}
+use Rattle.queues.specs.Queue.{queueOf}
+use Rattle.queues.proofs.QueueLaws.{queue-has-room}
 use Rattle.store.specs.View.{slotAt, view}
 use Rattle.store.specs.Order.{StoreInOrder}
 use Rattle.walk.specs.Batch.{AllRefundable}

@@ -10,12 +10,12 @@ use Rattle.model.specs.declared.Answer.the-variants.{Held}
 use Rattle.model.specs.Lists.{if, keep, from, total}
 use Rattle.model.specs.State.{Slot}
 use Rattle.model.specs.Control as rules
-use Rattle.lane.specs.Cursor.{distance}
+use Rattle.yring.specs.Cursor.{distance}
 use Rattle.lane.specs.Lane.{held}
-use Rattle.lane.specs.Ring.{ringOf}
+use Rattle.yring.specs.Ring.{ringOf}
 use Rattle.lane.specs.Table.{laneAt}
-use Rattle.lane.proofs.RingLaws.{length-items}
-use Rattle.ready.specs.Header.{issued, capacity}
+use Rattle.yring.proofs.RingLaws.{length-items}
+use Rattle.queues.specs.Header.{issued, capacity}
 use Rattle.store.specs.View.{flag, slotAt, view}
 use Rattle.store.specs.Order.{Stores, StoreInOrder}
 use Rattle.walk.specs.Batch.{heldIn, heldFrom, countHeld}

@@ -17,10 +17,10 @@ use Rattle.model.specs.Control as rules
 use Rattle.lane.specs.declared.lane.Lane.{Lane}
 use Rattle.lane.specs.Table.{laneAt}
 use Rattle.lane.proofs.TableLaws.{slot-of-lane}
-use Rattle.ready.specs.Header.{issued, slots, budget, fastSlot, laneCount, livingCount, queueCount}
-use Rattle.ready.specs.Queue.{queueOf}
+use Rattle.queues.specs.Header.{issued, slots, budget, fastSlot, laneCount, livingCount, queueCount}
+use Rattle.queues.specs.Queue.{queueOf}
 use Rattle.ready.specs.Ready.{queuedLane, enqueued}
-use Rattle.ready.proofs.QueueLaws.{length-queue}
+use Rattle.queues.proofs.QueueLaws.{length-queue}
 use Rattle.ready.proofs.OfferLaws.{Wants, wants-room, other-enqueued}
 use Rattle.store.specs.View.{flag, slotAt, view}
 use Rattle.store.specs.Order.{Stores, StoreInOrder}

@@ -9,7 +9,7 @@ use borrow.Author.Tests.{eqb-true, eqb-false}
 use lib.Dec.{eqb, ltb}
 use lib.ListN.{length}
 use Rattle.lane.specs.declared.lane.Lane.{Lane}
-use Rattle.lane.specs.Cursor.{distance}
+use Rattle.yring.specs.Cursor.{distance}
 use Rattle.lane.specs.declared.lane.Released.{Released}
 use Rattle.lane.specs.Lane.{closeFast, released, releaseAny, releasePending}
 use Rattle.lane.specs.Order.{Refundable}
@@ -19,10 +19,10 @@ use Rattle.lane.proofs.CursorOrder.{span-adds, held-adds}
 use Rattle.lane.proofs.OrderLaws.{cond-holds}
 use Rattle.lane.proofs.TableLaws.{frames, slot-of-lane, other-lane-kept}
 use Rattle.model.proofs.Counting.{no}
-use Rattle.ready.specs.Header.{Shaped, issued, capacity}
-use Rattle.ready.specs.Queue.{QueueNames}
+use Rattle.queues.specs.Header.{Shaped, issued, capacity}
+use Rattle.queues.specs.Queue.{QueueNames}
 use Rattle.ready.specs.Ready.{enqueued}
-use Rattle.ready.proofs.QueueLaws.{shaped-putLane}
+use Rattle.queues.proofs.QueueLaws.{shaped-putLane}
 use Rattle.ready.proofs.CollectLaws.{Kept, kept-self, kept-then}
 use Rattle.ready.proofs.OfferLaws.{Wants}
 use Rattle.store.specs.Order.{StoreInOrder}

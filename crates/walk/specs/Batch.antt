@@ -7,11 +7,11 @@ use Prim.Native.Nat.{ℕ, zero, suc, _+_, _<_}
 use lib.Dec.{eqb}
 use Rattle.model.specs.declared.Answer.the-variants.{Done, Held}
 use Rattle.lane.specs.declared.lane.Lane.{Lane}
-use Rattle.lane.specs.Cursor.{distance}
+use Rattle.yring.specs.Cursor.{distance}
 use Rattle.lane.specs.Lane.{releasePending}
 use Rattle.lane.specs.Order.{Refundable}
 use Rattle.lane.specs.Table.{laneAt, putLane}
-use Rattle.ready.specs.Header.{issued}
+use Rattle.queues.specs.Header.{issued}
 use Rattle.ready.specs.Ready.{enqueued}
 use Rattle.store.specs.Refusal.{receiverVerdict}
 use Rattle.store.specs.Words.{Words, unlessRefused}

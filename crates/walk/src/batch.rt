@@ -3,17 +3,17 @@ ghost use mathlib.Core.Path.{_≡_};
 ghost use Prim.Native.Nat.{_<_};
 ghost use Rattle.lane.specs.Order.{Refundable};
 ghost use Rattle.lane.specs.Table.{laneAt};
-ghost use Rattle.ready.specs.Header.{Shaped, slots, issued};
-ghost use Rattle.ready.specs.Queue.{QueueNames};
+ghost use Rattle.queues.specs.Header.{Shaped, slots, issued};
+ghost use Rattle.queues.specs.Queue.{QueueNames};
 ghost use Rattle.store.specs.Order.{StoreInOrder};
 ghost use Rattle.walk.specs.Batch.{AllRefundable, releaseSlot, releaseAll, releaseConsumed, mayQueue, pollSlot, pollAll, pollAllLanes, heldIn, countHeld};
 use lane::lane::Lane;
-use lane::ring;
 use model::Answer;
-use ready::header::Header;
+use queues::header::Header;
 use ready::ready as marks;
 use store::refusal;
 use store::refusal::Verdict;
+use yring::ring;
 
 // Gives back the credit of a slot's lane, where one is registered.
 fn release_slot(t: &mut [u64], slot: u64)

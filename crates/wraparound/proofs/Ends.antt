@@ -9,12 +9,12 @@ use borrow.Author.Tests.{eqb-true, eqb-false}
 use lib.Dec.{eqb}
 use lib.ListN.{set}
 use Rattle.model.specs.State.{releaseBatch}
-use Rattle.lane.specs.Cursor.{after, distance}
-use Rattle.lane.specs.Ring.{place, push}
+use Rattle.yring.specs.Cursor.{after, distance}
+use Rattle.yring.specs.Ring.{place, push}
 use Rattle.lane.specs.Lane.{pushAndFlush, sent, poll, pollRefilled, pollItem, polled, popTargeted, targeted, refill, readyOrIdle, reload, prefetch, closeFast, settleEmpty, emptied, settled, releasePending, releaseAny, released, releaseAtBatch, charged, headOn, addBurst, endBurst, endFullBurst, chunkLimit, chunkMoved, moveChunk, movedInto}
 use Rattle.lane.specs.Order.{Counts, InOrder, Filled, sentLane, polledLane, refilledLane}
-use Rattle.lane.specs.declared.ring.Ring.{Ring}
-use Rattle.lane.specs.declared.ring.Push.the-variants.{Pushed, Full}
+use Rattle.yring.specs.declared.ring.Ring.{Ring}
+use Rattle.yring.specs.declared.ring.Push.the-variants.{Pushed, Full}
 use Rattle.lane.specs.declared.lane.Lane.{Lane}
 use Rattle.lane.specs.declared.lane.Released.{Released}
 use Rattle.lane.specs.declared.lane.EmptyLane.{EmptyLane}
@@ -25,7 +25,7 @@ use Rattle.lane.specs.declared.lane.LanePoll.the-variants as LanePoll
 use Rattle.lane.specs.declared.consumer.Moved.{Moved}
 use Rattle.lane.specs.declared.consumer.Sent.{Sent}
 use Rattle.lane.specs.declared.consumer.Sent.the-variants as Sent
-use Rattle.lane.proofs.CursorLaws.{behind-after, ahead-after}
+use Rattle.yring.proofs.CursorLaws.{behind-after, ahead-after}
 use Rattle.lane.proofs.CursorOrder.{held-adds}
 use Rattle.lane.proofs.OrderLaws.{closed-reload-keeps, reload-window, refill-fills, push-and-flush-keeps, poll-keeps, refill-keeps, move-chunk-keeps, chunk-within, chunk-whole}
 

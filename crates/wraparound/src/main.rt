@@ -5,16 +5,16 @@ ghost use mathlib.Core.Path.{_≡_};
 ghost use mathlib.Core.Bool.{true};
 ghost use Prim.Native.Nat.{ℕ, _<_, _≤_};
 ghost use lib.ListN.{getD};
-ghost use Rattle.lane.specs.Cursor.{after, distance, Capacity};
-ghost use Rattle.lane.specs.Ring.{Within};
+ghost use Rattle.yring.specs.Cursor.{after, distance, Capacity};
+ghost use Rattle.yring.specs.Ring.{Within};
 ghost use Rattle.lane.specs.Order.{InOrder, Filled};
 use lane::consumer::Sent;
 use lane::lane::Lane;
 use lane::lane::LanePoll;
 use lane::lane::Refill;
-use lane::ring;
-use lane::ring::Ring;
 use model::LaneKey;
+use yring::ring;
+use yring::ring::Ring;
 
 // How far a lane has come: the next item to send, the next one due, and whether each item that came
 // out was the one due.

@@ -3,7 +3,7 @@
 use mathlib.Core.Path.{refl}
 use native.Mathlib.Omega.{arith}
 use Prim.Native.Nat.{ℕ, _^_, _≤_}
-use Rattle.lane.specs.Cursor.{Capacity}
+use Rattle.yring.specs.Cursor.{Capacity}
 use borrow.Author.Needs.{needs}
 use Rattle.wraparound.proofs.main.Statement.{statement}
 use Rattle.wraparound.proofs.main.Tie as tie

@@ -5,7 +5,7 @@ use Prim.Native.Nat.{ℕ, _-_, _<_, _≤_}
 use native.Mathlib.Omega.{arith}
 use borrow.Author.Count.{below-more}
 use lib.ListN.{getD}
-use Rattle.lane.specs.Cursor.{after}
+use Rattle.yring.specs.Cursor.{after}
 use borrow.Author.Needs.{needs}
 use Rattle.wraparound.proofs.numbered.Statement.{statement}
 use Rattle.wraparound.proofs.numbered.Tie as tie

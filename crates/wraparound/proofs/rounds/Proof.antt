@@ -3,7 +3,7 @@
 use mathlib.Core.Path.{_≡_}
 use native.Mathlib.Omega.{arith}
 use Rattle.lane.specs.Order.{InOrder}
-use Rattle.lane.proofs.CursorLaws.{some}
+use Rattle.yring.proofs.CursorLaws.{some}
 use Rattle.lane.proofs.OrderLaws.{new-lane-in-order}
 use borrow.Author.Needs.{needs}
 use Rattle.wraparound.proofs.rounds.Statement.{statement}

@@ -3,7 +3,7 @@
 use Rattle.bulk.proofs.LookLaws.{search-end, look-keeps, look-fewer, search-on}
 use Rattle.turns.specs.Turn.{Turning}
 use Rattle.bulk.specs.Drain.{runDown}
-use Rattle.ready.specs.Header.{queueCount}
+use Rattle.queues.specs.Header.{queueCount}
 use lib.ListN.{length}
 use native.Mathlib.Omega.{arith}
 use mathlib.Core.Path.{_≡_, refl, _∙_}

@@ -1,7 +1,7 @@
 -- `control::lane_control::close` meets its contract.
 -- Assumes nothing.
 use Rattle.control.specs.Control.{closed}
-use Rattle.ready.proofs.QueueLaws.{queue-frames, shaped-removed}
+use Rattle.queues.proofs.QueueLaws.{queue-frames, shaped-removed}
 use borrow.Author.Needs.{needs}
 use Rattle.control.proofs.lane_control.close.Statement.{statement}
 use Rattle.control.proofs.lane_control.close.Tie as tie

@@ -3,7 +3,7 @@
 use Rattle.control.proofs.ResumeCases.{resumed-paused}
 use Rattle.store.proofs.SignalFrames.{shaped-marked-if-idle, head-marked-if-idle}
 use Rattle.control.specs.Control.{resumed}
-use Rattle.ready.proofs.QueueLaws.{shaped-putLane}
+use Rattle.queues.proofs.QueueLaws.{shaped-putLane}
 use Rattle.lane.proofs.TableLaws.{frames}
 use borrow.Author.Tests.{ne-eqb}
 use native.Mathlib.Omega.{arith}

@@ -9,7 +9,7 @@ use lib.ListN.{length, length-set}
 use lib.Count.{trailing-le}
 use borrow.Author.Needs.{needs}
 use Rattle.ready.specs.declared.ready.Group.{Group}
-use Rattle.ready.specs.Header.{issued}
+use Rattle.queues.specs.Header.{issued}
 use Rattle.ready.specs.Bits.{bitsFrom}
 use Rattle.ready.specs.Ready.{groupColumn, putGroup, collectedPage, collectedGroup}
 use Rattle.ready.proofs.BitLaws.{clear-less}

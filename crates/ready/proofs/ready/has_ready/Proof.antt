@@ -4,7 +4,7 @@ use mathlib.Core.Path.{_≡_, refl, sym, ap, _∙_}
 use Prim.Native.Nat.{ℕ, _-_, _≤_}
 use native.Mathlib.Omega.{arith}
 use borrow.Author.Needs.{needs}
-use Rattle.ready.specs.Header.{issued}
+use Rattle.queues.specs.Header.{issued}
 use Rattle.ready.specs.Ready.{groupsOf, anyReady}
 use Rattle.ready.specs.declared.ready.Group.{Group}
 use Rattle.ready.proofs.NoneReady.{any-here, any-below, none-left, groups-fit}

@@ -4,7 +4,7 @@ use mathlib.Core.Path.{sym, ap, _∙_, subst}
 use Prim.Native.Nat.{_<_}
 use Rattle.lane.specs.Order.{poppedLane}
 use Rattle.lane.specs.declared.lane.Popped.{Popped}
-use Rattle.ready.specs.Header.{Shaped, slots}
+use Rattle.queues.specs.Header.{Shaped, slots}
 use Rattle.receives.specs.Receive.{openTook, Affords}
 use borrow.Author.Needs.{needs}
 use Rattle.receives.proofs.receiver.took_of_opened.Statement.{statement}

@@ -2,7 +2,7 @@
 -- Assumes nothing.
 use Rattle.receives.specs.Target.{targetQueued}
 use Rattle.store.proofs.SignalFrames.{shaped-marked-if-idle, head-marked-if-idle}
-use Rattle.ready.proofs.QueueLaws.{shaped-putLane}
+use Rattle.queues.proofs.QueueLaws.{shaped-putLane}
 use Rattle.lane.proofs.TableLaws.{frames}
 use native.Mathlib.Omega.{arith}
 use borrow.Author.Needs.{needs}

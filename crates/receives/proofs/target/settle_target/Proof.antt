@@ -1,7 +1,7 @@
 -- `receives::target::settle_target` meets its contract.
 -- Assumes nothing.
 use Rattle.receives.proofs.TargetLaws.{settled-dropped, settled-living}
-use Rattle.ready.proofs.QueueLaws.{queue-frames, shaped-putLane, shaped-removed}
+use Rattle.queues.proofs.QueueLaws.{queue-frames, shaped-putLane, shaped-removed}
 use Rattle.lane.proofs.TableLaws.{frames}
 use borrow.Author.Needs.{needs}
 use Rattle.receives.proofs.target.settle_target.Statement.{statement}

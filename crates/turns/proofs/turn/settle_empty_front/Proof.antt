@@ -1,7 +1,7 @@
 -- `turns::turn::settle_empty_front` meets its contract.
 -- Assumes nothing.
 use Rattle.turns.specs.Turn.{leftFront}
-use Rattle.ready.proofs.QueueLaws.{queue-frames, shaped-putLane, shaped-popped-front}
+use Rattle.queues.proofs.QueueLaws.{queue-frames, shaped-putLane, shaped-popped-front}
 use Rattle.lane.proofs.TableLaws.{frames}
 use borrow.Author.Needs.{needs}
 use Rattle.turns.proofs.turn.settle_empty_front.Statement.{statement}

@@ -2,7 +2,7 @@
 -- Assumes nothing.
 use Rattle.turns.proofs.FrontLaws.{turns-end, turn-keeps, turn-fewer, turns-on, keeps-ringed}
 use Rattle.turns.specs.Turn.{Turning, Ringed, turns}
-use Rattle.ready.specs.Header.{queueCount}
+use Rattle.queues.specs.Header.{queueCount}
 use lib.ListN.{length}
 use native.Mathlib.Omega.{arith}
 use mathlib.Core.Path.{_≡_, refl, _∙_}

@@ -1,7 +1,8 @@
 -- `lane::lane::Lane::grant_fast` meets its contract.
 -- Assumes nothing.
 use Rattle.lane.specs.Order.{InOrder}
-use Rattle.lane.proofs.OrderLaws.{refundable, closed-reload-keeps, window-for-fits, batch-most}
+use Rattle.lane.proofs.OrderLaws.{refundable, closed-reload-keeps, window-for-fits}
+use Rattle.yring.proofs.ReleaseLaws.{batch-most}
 use Rattle.lane.specs.Lane.{grantFast, openFor}
 use native.Mathlib.Omega.{arith}
 use borrow.Author.Needs.{needs}

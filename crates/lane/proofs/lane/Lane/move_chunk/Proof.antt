@@ -1,6 +1,7 @@
 -- `lane::lane::Lane::move_chunk` meets its contract.
 -- Assumes nothing.
-use Rattle.lane.proofs.OrderLaws.{chunk-whole, chunk-within, chunk-moved, batch-most}
+use Rattle.lane.proofs.OrderLaws.{chunk-whole, chunk-within, chunk-moved}
+use Rattle.yring.proofs.ReleaseLaws.{batch-most}
 use Rattle.lane.specs.Lane.{moveChunk, chunkMoved}
 use mathlib.Core.Path.{_≡_, _∙_, ap, sym}
 use native.Mathlib.Omega.{arith}

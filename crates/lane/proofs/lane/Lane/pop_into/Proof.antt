@@ -1,6 +1,6 @@
 -- `lane::lane::Lane::pop_into` meets its contract.
 -- Assumes nothing.
-use Rattle.lane.specs.Ring.{popInto}
+use Rattle.yring.specs.Ring.{popInto}
 use Rattle.lane.specs.Lane.{movedInto}
 use Prim.Native.Nat.{ℕ}
 use mathlib.Core.List.{List}

@@ -5,9 +5,9 @@ use Prim.Native.Nat.{_+_, _-_, _≤_}
 use mathlib.Core.Path.{_≡_, _∙_, refl, ap}
 use lib.ListN.{length, length-set, take}
 use lib.Seq.{take-all}
-use Rattle.lane.specs.Lists.{scatter}
+use Rattle.yring.specs.Lists.{scatter}
 use Rattle.lane.specs.Table.{laneWords, cellAt, putLane}
-use Rattle.lane.proofs.ListLaws.{scatter-step}
+use Rattle.yring.proofs.ListLaws.{scatter-step}
 use borrow.Author.Needs.{needs}
 use Rattle.lane.proofs.lane.Lane.store.Statement.{statement}
 use Rattle.lane.proofs.lane.Lane.store.Tie as tie

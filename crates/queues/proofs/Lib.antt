@@ -1,0 +1,7 @@
+pub mod Pigeonhole
+pub mod QueueLaws
+pub mod Sift
+pub mod NamesLaws
+pub mod RegistryLaws
+pub mod HeaderLaws
+pub mod FrameLaws

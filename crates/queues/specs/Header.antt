@@ -1,0 +1,117 @@
+-- The header's words: the channel's own state, at the start of the table store.
+-- Assumes nothing.
+use mathlib.Core.List.{List, [], _∷_}
+use Prim.Native.Nat.{ℕ, _≤_, _<_}
+use lib.ListN.{length}
+use Rattle.model.specs.declared.Opening.{Opening}
+use Rattle.lane.specs.Table.{cellAt, head, setHead}
+use Rattle.yring.specs.Lists.{scatter}
+use Rattle.queues.specs.declared.header.Header.{Header}
+
+-- slots 0 to issued - 1 have been issued
+abbrev pub issued : List ℕ → ℕ
+issued t = head t 0
+
+-- the queue's front place and its length; the number of free slots; S
+abbrev pub queueFront : List ℕ → ℕ
+queueFront t = head t 1
+
+abbrev pub queueCount : List ℕ → ℕ
+queueCount t = head t 2
+
+abbrev pub freeCount : List ℕ → ℕ
+freeCount t = head t 3
+
+abbrev pub slots : List ℕ → ℕ
+slots t = head t 4
+
+abbrev pub budget : List ℕ → ℕ
+budget t = head t 5
+
+abbrev pub groupCursor : List ℕ → ℕ
+groupCursor t = head t 6
+
+-- 1 while the receiver is open
+abbrev pub alive : List ℕ → ℕ
+alive t = head t 7
+
+abbrev pub capacity : List ℕ → ℕ
+capacity t = head t 8
+
+abbrev pub channel : List ℕ → ℕ
+channel t = head t 9
+
+abbrev pub firstCursor : List ℕ → ℕ
+firstCursor t = head t 10
+
+abbrev pub firstGeneration : List ℕ → ℕ
+firstGeneration t = head t 11
+
+abbrev pub fastSlot : List ℕ → ℕ
+fastSlot t = head t 12
+
+-- registered lanes, and living senders
+abbrev pub laneCount : List ℕ → ℕ
+laneCount t = head t 13
+
+abbrev pub livingCount : List ℕ → ℕ
+livingCount t = head t 14
+
+abbrev pub setQueueFront : List ℕ → ℕ → List ℕ
+setQueueFront t v = setHead t 1 v
+
+abbrev pub setQueueCount : List ℕ → ℕ → List ℕ
+setQueueCount t v = setHead t 2 v
+
+abbrev pub setFreeCount : List ℕ → ℕ → List ℕ
+setFreeCount t v = setHead t 3 v
+
+abbrev pub setGroupCursor : List ℕ → ℕ → List ℕ
+setGroupCursor t v = setHead t 6 v
+
+-- what the queue, the free list and the marks ask of the header; over numbers
+pub record Shape (issued front count free slots cursor long : ℕ) : Type 0 where
+  -- "issued slots are at most S"
+  pub issued-most : issued ≤ slots
+  pub front-in : front < slots
+  pub count-most : count ≤ slots
+  pub free-most : free ≤ slots
+  -- "slots S (1 to 8,192)"
+  pub slots-most : slots ≤ 8192
+  -- "the group cursor is at most the groups that exist", of which there are at most two
+  pub cursor-most : cursor ≤ 2
+  -- "Stores have at least the lengths that the opening asked for."
+  pub room : cellAt 0 slots ≤ long
+
+abbrev pub Shaped : List ℕ → Type 0
+Shaped t = Shape (issued t) (queueFront t) (queueCount t) (freeCount t) (slots t) (groupCursor t) (length t)
+
+-- "No sender yet; poll budget 64; group cursor 0"; `fast_slot` is "0 at opening"
+abbrev pub openedHeader : Opening → ℕ → Header
+openedHeader o C =
+    record {
+      issued = 0;
+      front = 0;
+      queued = 0;
+      free = 0;
+      slots = o .slots;
+      budget = 64;
+      group = 0;
+      alive = 1;
+      capacity = C;
+      channel = o .channel;
+      cursor = o .cursor;
+      generation = o .generation;
+      fast = 0;
+      lanes = 0;
+      living = 0;
+    }
+
+abbrev pub headerList : Header → List ℕ
+headerList h =
+    h .issued ∷ h .front ∷ h .queued ∷ h .free ∷ h .slots ∷ h .budget ∷ h .group ∷ h .alive ∷ h .capacity ∷ h .channel
+    ∷ h .cursor ∷ h .generation ∷ h .fast ∷ h .lanes ∷ h .living ∷ []
+
+-- the table with these words at its start
+unfoldable pub putHeader : List ℕ → Header → List ℕ
+putHeader t h = scatter t (λ i. i) (headerList h)

@@ -1,0 +1,5 @@
+pub mod ListLaws
+pub mod EveryEntry
+pub mod CursorLaws
+pub mod ReleaseLaws
+pub mod RingLaws

@@ -1,0 +1,4 @@
+pub mod Lists
+pub mod Cursor
+pub mod Ring
+pub mod Release

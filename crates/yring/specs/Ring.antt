@@ -1,0 +1,56 @@
+-- A lane's ring: which word of the ring store a cursor names, and what push, pop and pop_into do.
+-- Assumes nothing.
+use mathlib.Core.Bool.{cond}
+use mathlib.Core.List.{List}
+use Prim.Native.Nat.{ℕ, _+_, _*_, _%_, _≤_}
+use lib.Dec.{eqb}
+use lib.ListN.{getD, set}
+use Rattle.yring.specs.Lists.{tab, written}
+use Rattle.yring.specs.Cursor.{after, distance, Capacity}
+use Rattle.yring.specs.declared.ring.Ring.{Ring}
+use Rattle.yring.specs.declared.ring.Push.{Push}
+use Rattle.yring.specs.declared.ring.Push.the-variants.{Pushed, Full}
+
+-- the ring of a slot: "a ring store of at least S × C u64 words", C of them for each slot
+abbrev pub ringOf : ℕ → ℕ → Ring
+ringOf slot C = record { base = slot * C; capacity = C }
+
+-- the ring lies within a store of so many words
+pub record Within (ring : Ring) (words : ℕ) : Type 0 where
+  pub power : Capacity (ring .capacity)
+  pub fits : ring .base + ring .capacity ≤ words
+
+-- "place = cursor mod C"
+abbrev pub place : Ring → ℕ → ℕ
+place ring cursor = ring .base + cursor % ring .capacity
+
+-- the item at a cursor
+abbrev pub itemAt : Ring → List ℕ → ℕ → ℕ
+itemAt ring store cursor = getD store (place ring cursor) 0
+
+-- the n items from a cursor on
+unfoldable pub items : Ring → List ℕ → ℕ → ℕ → List ℕ
+items ring store head n = tab n (λ i. itemAt ring store (after head i))
+
+-- "push refuses exactly if the cursor's wrapped distance from the released head is C; flush publishes everything pushed"
+unfoldable pub push : Ring → List ℕ → ℕ → ℕ → ℕ → Push × List ℕ
+push ring store cursor released item =
+    cond (eqb (distance cursor released) (ring .capacity))
+    (Full, store)
+    (Pushed (after cursor 1), set store (place ring cursor) item)
+
+-- what a push answers, before the item's word is stored
+unfoldable pub pushCursor : Ring → ℕ → ℕ → Push
+pushCursor ring cursor released = cond (eqb (distance cursor released) (ring .capacity)) Full (Pushed (after cursor 1))
+
+-- an item's word stored at a cursor
+abbrev pub putItem : Ring → List ℕ → ℕ → ℕ → List ℕ
+putItem ring store cursor item = set store (place ring cursor) item
+
+-- the head after n items, and the output with them from place `at` on
+unfoldable pub popInto : Ring → List ℕ → ℕ → ℕ → List ℕ → ℕ → ℕ × List ℕ
+popInto ring store head n out at = (after head n, written out at (items ring store head n))
+
+-- the n words of a list from a place on
+unfoldable pub run : List ℕ → ℕ → ℕ → List ℕ
+run l from n = tab n (λ i. getD l (from + i) 0)

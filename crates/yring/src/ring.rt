@@ -1,0 +1,116 @@
+// A ring of items in a lent store: yring/src/ring.rs, serially, with u64 cursors that wrap.
+ghost use mathlib.Core.Path.{_≡_};
+ghost use Prim.Native.Nat.{_+_, _*_, _^_, _≤_, _<_};
+ghost use lib.ListN.{length};
+ghost use Rattle.yring.specs.Lists.{tab, written};
+ghost use Rattle.yring.specs.Cursor.{after, distance, Capacity};
+ghost use Rattle.yring.specs.Ring.{Within, ringOf, place, itemAt, run, pushCursor, putItem, popInto};
+
+// Where a lane's ring lies in the ring store.
+pub struct Ring {
+    pub base: u64,
+    pub capacity: u64,
+}
+
+pub enum Push {
+    Pushed { cursor: u64 },
+    Full,
+}
+
+// How far `to` stands after `from`.
+pub fn distance(to: u64, from: u64) -> u64
+    ensures { λ r. ⌜ r ≡ distance to from ⌝ }
+{
+    std::num::wrapping_sub_u64(to, from)
+}
+
+// The cursor `n` further.
+pub fn after(cursor: u64, n: u64) -> u64
+    ensures { λ r. ⌜ r ≡ after cursor n ⌝ }
+{
+    std::num::wrapping_add_u64(cursor, n)
+}
+
+impl Ring {
+    // The ring of a slot.
+    pub fn new(slot: u64, capacity: u64) -> Self
+        requires { ⌜ (slot < 8192) × (capacity ≤ 65536) ⌝ }
+        ensures { λ r. ⌜ r ≡ ringOf slot capacity ⌝ }
+    {
+        Ring {
+            base: slot * capacity,
+            capacity: capacity,
+        }
+    }
+
+    // Where a cursor's item stands. The capacity is a power of two, so the mask is the remainder.
+    fn index(self, cursor: u64) -> usize
+        requires { ⌜ Capacity (self .capacity) × (self .base + self .capacity < 2 ^ 64) ⌝ }
+        ensures { λ r. ⌜ (r ≡ place self cursor) × (r < self .base + self .capacity) ⌝ }
+    {
+        (self.base + (cursor & (self.capacity - 1))) as usize
+    }
+
+    // The cursor after a push, unless the ring is full. The item's word is `put` once the cursor is
+    // stored: the compiler then sees which words of the lane did not change.
+    pub fn push(self, cursor: u64, released: u64) -> Push
+        ensures { λ r. ⌜ r ≡ pushCursor self cursor released ⌝ }
+    {
+        if distance(cursor, released) == self.capacity {
+            return Push::Full;
+        }
+        Push::Pushed {
+            cursor: after(cursor, 1),
+        }
+    }
+
+    // Stores an item at a cursor.
+    pub fn put(self, store: &mut [u64], cursor: u64, item: u64)
+        requires { ⌜ Within self (length (now store)) ⌝ }
+        ensures { λ _. ⌜ now (store .exit) ≡ putItem self (now (store .entry)) cursor item ⌝ }
+    {
+        let at = self.index(cursor);
+        store[at] = item;
+    }
+
+    // The item at a cursor.
+    pub fn item_at(self, store: &[u64], cursor: u64) -> u64
+        requires { ⌜ Within self (length (now store)) ⌝ }
+        ensures { λ r. ⌜ r ≡ itemAt self (now (store .entry)) cursor ⌝ }
+    {
+        let at = self.index(cursor);
+        store[at]
+    }
+
+    // Moves the `count` items from the head on to the output: up to the ring's end, then from its start.
+    pub fn pop_into(self, store: &[u64], head: u64, count: u64, out: &mut [u64], at: usize) -> u64
+        requires { ⌜ Within self (length (now store)) × (count ≤ self .capacity) × (at + count ≤ length (now out)) ⌝ }
+        ensures { λ r. ⌜ (r, now (out .exit)) ≡ popInto self (now (store .entry)) head count (now (out .entry)) at ⌝ }
+    {
+        let next = after(head, count);
+        let n = count as usize;
+        let start = self.index(head);
+        let base = self.base as usize;
+        let end = base + self.capacity as usize;
+        if n <= end - start {
+            move_slots(store, start, n, out, at);
+            return next;
+        }
+        let first = end - start;
+        move_slots(store, start, first, out, at);
+        move_slots(store, base, n - first, out, at + first);
+        next
+    }
+}
+
+// Moves `len` words that stand together.
+fn move_slots(src: &[u64], start: usize, len: usize, out: &mut [u64], at: usize)
+    requires { ⌜ (start + len ≤ length (now src)) × (at + len ≤ length (now out)) ⌝ }
+    ensures { λ _. ⌜ now (out .exit) ≡ written (now (out .entry)) at (run (now (src .entry)) start len) ⌝ }
+{
+    let mut i = 0;
+    while i < len {
+        out[at + i] = src[start + i];
+        i += 1;
+    }
+}
