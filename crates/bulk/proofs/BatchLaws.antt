@@ -26,10 +26,9 @@ use Rattle.store.specs.View.{flag}
 use Rattle.store.specs.declared.refusal.Verdict.{Verdict}
 use Rattle.store.specs.declared.refusal.Verdict.the-variants.{Pass, Refuse}
 use Rattle.store.specs.Refusal.{receiverVerdict, andThen}
-use Rattle.store.specs.Words.{unlessRefused}
+use Rattle.store.specs.Words.{unlessRefused, withRings}
 use Rattle.turns.specs.Turn.{Turning}
 use Rattle.turns.specs.Drained.{Idle}
-use Rattle.receives.specs.Receive.{withRings}
 use Rattle.walk.specs.Batch.{forSlots, AllRefundable, releaseSlot, releaseAll}
 use Rattle.bulk.specs.Drain.{drained, drainInto, roomVerdict, batchVerdict, answerItems, RestsAt, batchAnswer, tryRecvBatchInto, handedBy, batchHands, batchInto}
 use Rattle.store.proofs.CountLaws.{one}

@@ -23,14 +23,14 @@ use Rattle.bulk.specs.declared.drain.Front.the-variants as Front
 use Rattle.bulk.specs.declared.drain.Look.{Look}
 use Rattle.bulk.specs.declared.drain.Look.the-variants as Look
 use Rattle.turns.specs.Turn.{Turning, frontLane, leftFront}
-use Rattle.receives.specs.Receive.{collectedIfDue}
+use Rattle.turns.specs.Due.{collectedIfDue}
 use Rattle.turns.specs.Drained.{Idle}
 use Rattle.bulk.specs.Drain.{lookBy, lookFront, afterLook, runDownWithin, runDown, elseFront, refreshActive, Reached}
 use Rattle.store.proofs.LaneFields.{Emptied, RefillKept, refill-kept}
 use Rattle.turns.proofs.TurnLaws.{slot-below, some-lane, free-room, front-issued, front-registered, front-ordered, turning-met}
 use Rattle.turns.proofs.FrontLaws.{Keeps, keeps-self, keeps-then, left-slot, turning-left, head-left, length-left, count-left, head-met, length-met}
 use Rattle.turns.proofs.CollectKeeps.{collect-keeps}
-use Rattle.receives.proofs.ReceiveLaws.{due-keeps}
+use Rattle.turns.proofs.DueLaws.{due-keeps}
 
 -- ---- one look
 

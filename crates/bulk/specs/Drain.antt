@@ -27,10 +27,10 @@ use Rattle.bulk.specs.declared.drain.Front.the-variants as Front
 use Rattle.bulk.specs.declared.drain.Look.{Look}
 use Rattle.bulk.specs.declared.drain.Look.the-variants as Look
 use Rattle.store.specs.Refusal.{receiverVerdict, andThen}
-use Rattle.store.specs.Words.{Words, unlessRefused}
+use Rattle.store.specs.Words.{Words, unlessRefused, withRings}
 use Rattle.turns.specs.Turn.{Turning, frontLane, leftFront, budgetMet, rotatedIf}
 use Rattle.turns.specs.Drained.{Idle, nothingTaken}
-use Rattle.receives.specs.Receive.{collectedIfDue, withRings}
+use Rattle.turns.specs.Due.{collectedIfDue}
 use Rattle.walk.specs.Batch.{releaseAll}
 
 -- ---- the lane whose turn it is

@@ -27,10 +27,10 @@ use model::Refusal;
 use queues::header::Header;
 use queues::queue;
 use ready::ready as marks;
-use receives::receiver;
 use store::refusal;
 use store::refusal::Verdict;
 use turns::drained;
+use turns::due;
 use turns::turn;
 use walk::batch;
 use yring::num;
@@ -89,7 +89,7 @@ fn refresh_active(t: &mut [u64]) -> Front
     requires { ⌜ Turning (now t) ⌝ }
     ensures { λ a. ⌜ (a, now (t .exit)) ≡ refreshActive (now (t .entry)) ⌝ }
 {
-    receiver::collect_if_due(t);
+    due::collect_if_due(t);
     match run_down(t) {
         Front::Ready { lane } => Front::Ready { lane: lane },
         Front::None => {

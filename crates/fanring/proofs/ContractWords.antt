@@ -14,7 +14,7 @@ use Rattle.control.specs.Control.{pause, resume, closeLane, closeReceiver}
 use Rattle.walk.specs.Batch.{releaseConsumed, pollAllLanes, countHeld}
 use Rattle.control.specs.Calls.{controlWords}
 use Rattle.receives.specs.Receive.{tryRecv, tryRecvFair}
-use Rattle.receives.specs.Target.{tryRecvFrom}
+use Rattle.targeted.specs.Target.{tryRecvFrom}
 use Rattle.receiver.specs.Runs.{receiveWords, callWords}
 use Rattle.fanring.specs.Checked.{checked}
 use Rattle.fanring.specs.Runs.{checkedWords}

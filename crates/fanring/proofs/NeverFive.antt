@@ -40,7 +40,7 @@ use Rattle.walk.specs.Batch.{releaseConsumed, pollAllLanes, countHeld}
 use Rattle.control.specs.Calls.{controlWords}
 use Rattle.receives.specs.Receive.{tryRecv, tryRecvFair}
 use Rattle.bulk.specs.Drain.{roomVerdict, batchVerdict, tryRecvBatchInto}
-use Rattle.receives.specs.Target.{tryRecvFrom}
+use Rattle.targeted.specs.Target.{tryRecvFrom}
 use Rattle.receiver.specs.Runs.{receiveWords, callWords}
 use Rattle.receiver.proofs.RefusedUnmoved.{answer-one-accepted, take-from-accepted, batch-accepted}
 

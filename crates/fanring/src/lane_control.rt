@@ -1,7 +1,7 @@
 // The calls on one lane: src/mpsc/receiver/lane_control.rs.
 ghost use mathlib.Core.Path.{_≡_};
 ghost use Rattle.control.specs.Control.{pause, resume, closeLane};
-ghost use Rattle.receives.specs.Target.{tryRecvFrom};
+ghost use Rattle.targeted.specs.Target.{tryRecvFrom};
 ghost use Rattle.fanring.specs.Checked.{checked};
 use model::Answer;
 use model::LaneId;
@@ -16,7 +16,7 @@ pub fn try_recv_from(t: &mut [u64], r: &[u64], id: LaneId) -> Answer
             why: Refusal::StoreNotInOrder,
         };
     }
-    receives::target::try_recv_from(t, r, id)
+    targeted::target::try_recv_from(t, r, id)
 }
 
 // Takes a lane out of all receives but targeted ones.

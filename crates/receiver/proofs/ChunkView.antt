@@ -33,7 +33,7 @@ use Rattle.store.proofs.LaneView.{looked-counts}
 use Rattle.receiver.proofs.SameFlags.{key-by}
 use Rattle.store.proofs.BetweenTurns.{FrontLane, front-lane}
 use Rattle.turns.proofs.TurnLaws.{queue-is}
-use Rattle.receives.proofs.ReceiveLaws.{ringed-of}
+use Rattle.turns.proofs.DueLaws.{ringed-of}
 use Rattle.receiver.proofs.FrontBack.{Back, back-view, back-stores}
 use Rattle.bulk.proofs.ChunkLaws.{chunkEnd, chunk-filled, chunk-flags, chunk-slot, chunk-ring, moved-is, end-ordered, end-flags}
 use Rattle.bulk.proofs.DrainLaws.{length-chunk, chunkHanded}

@@ -23,7 +23,7 @@ use Rattle.store.specs.View.{view}
 use Rattle.store.specs.Order.{StoreInOrder}
 use Rattle.store.specs.Refusal.{laneVerdict}
 use Rattle.store.proofs.RefusalLaws.{firstOf, lane-verdict, lane-passes}
-use Rattle.receives.specs.Target.{tryRecvFrom}
+use Rattle.targeted.specs.Target.{tryRecvFrom}
 use Rattle.receiver.specs.Runs.{receiveWords, callWords, theStores}
 use Rattle.receiver.specs.DisconnectedOnWords.{answerOf, tableAfter, ringsAfter, NoSenderLives, Looks, Drained, DisconnectedExactly, EmptyOnesRetired, RetiresEmptyPaused, SameLane, EmptyWithPausedItems, PausedWithItems, OnlyPausedItemsLeft, LaneDrained, TargetedDisconnectedExactly}
 use Rattle.receiver.proofs.SlotsSeen.{flag-is-one, flag-is-zero, one-seen, zero-seen, registered-is, living-is, paused-is, generation-is, ring-is, registered-issued, unregistered-seen, key-by, senders-seen, lanes-seen, seen-senders, seen-lanes}

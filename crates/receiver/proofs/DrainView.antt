@@ -18,7 +18,7 @@ use Rattle.bulk.specs.declared.drain.Front.the-variants as Front
 use Rattle.store.specs.View.{view}
 use Rattle.store.specs.Order.{StoreInOrder}
 use Rattle.bulk.specs.Drain.{refreshActive, Reached, fullBudget, chunkSize, chunkGiven, Drained, chunkThen, drainedWithin, drained}
-use Rattle.receives.proofs.ReceiveLaws.{turning-of}
+use Rattle.turns.proofs.DueLaws.{turning-of}
 use Rattle.bulk.proofs.LookLaws.{refresh-searched}
 use Rattle.receiver.proofs.LookView.{ReachedAs, none-queued, refresh-alike}
 use Rattle.bulk.proofs.ChunkLaws.{chunk-least, chunk-some, chunk-filled}

@@ -44,8 +44,9 @@ use Rattle.bulk.specs.declared.drain.Look.{Look}
 use Rattle.bulk.specs.declared.drain.Look.the-variants as Look
 use Rattle.turns.specs.Turn.{frontLane, retiredIf, leftFront, budgetMet, rotatedIf, turnBy, pollFront, after as afterTurn, turnsWithin, turns}
 use Rattle.turns.specs.Drained.{retireEmptyPaused, retireEmptyPausedLanes, emptyOrDrained, nothingTaken}
-use Rattle.receives.specs.Receive.{elseTake, windowTook, fastTook, takeFast, openTook, takeWindow, collectedIfDue, pollLoop, refillTake, takeOne, takeLone, takeFair, answerOne, tryRecv, tryRecvFair}
-use Rattle.receives.specs.Target.{targetSettled, targetQueued, targetKept, targetTook, takeFrom, tryRecvFrom}
+use Rattle.receives.specs.Receive.{elseTake, windowTook, fastTook, takeFast, openTook, takeWindow, pollLoop, refillTake, takeOne, takeLone, takeFair, answerOne, tryRecv, tryRecvFair}
+use Rattle.turns.specs.Due.{collectedIfDue}
+use Rattle.targeted.specs.Target.{targetSettled, targetQueued, targetKept, targetTook, takeFrom, tryRecvFrom}
 use Rattle.bulk.specs.Drain.{lookBy, lookFront, afterLook, runDownWithin, runDown, elseFront, refreshActive, fullBudget, chunkSize, chunkLane, gaveChunk, chunkGiven, Drained, chunkThen, drainedWithin, drained, answerItems, batchAnswer, tryRecvBatchInto}
 use Rattle.receiver.specs.Runs.{receiveWords, callWords, theStores}
 use Rattle.receiver.specs.Demands.{StaysInOrder}

@@ -19,7 +19,7 @@ use Rattle.receiver.specs.Hands.{handsOf}
 use Rattle.store.specs.Order.{StoreInOrder}
 use Rattle.store.specs.View.{view}
 use Rattle.store.specs.Words.{Words}
-use Rattle.receives.specs.Target.{tryRecvFrom}
+use Rattle.targeted.specs.Target.{tryRecvFrom}
 use Rattle.store.proofs.RefusalLaws.{seen}
 use Rattle.receiver.proofs.TryRecvFromLaws.{try-recv-from-alike}
 

@@ -31,14 +31,14 @@ use Rattle.bulk.specs.declared.drain.Look.{Look}
 use Rattle.store.specs.View.{slotAt, view}
 use Rattle.store.specs.Order.{Stores, StoreInOrder}
 use Rattle.turns.specs.Turn.{leftFront, budgetMet}
-use Rattle.receives.specs.Receive.{collectedIfDue}
+use Rattle.turns.specs.Due.{collectedIfDue}
 use Rattle.bulk.specs.Drain.{lookBy, lookFront, afterLook, runDownWithin, runDown, elseFront, refreshActive, Reached}
 use Rattle.store.proofs.ViewLaws.{slot-in}
 use Rattle.store.proofs.StoreLaws.{issued-ring-in}
 use Rattle.store.proofs.CollectedView.{view-collect-all}
 use Rattle.store.proofs.BetweenTurns.{FrontLane, front-lane, collected-in-order}
 use Rattle.turns.proofs.TurnLaws.{queue-is}
-use Rattle.receives.proofs.ReceiveLaws.{turning-of}
+use Rattle.turns.proofs.DueLaws.{turning-of}
 use Rattle.receiver.proofs.EmptyLaneLaws.{Empties, empties-by-refill}
 use Rattle.receiver.proofs.TurnView.{none-held, left-ordered, view-left, left-rest}
 use Rattle.receiver.proofs.TakeOneView.{due, due-in-order, due-view}

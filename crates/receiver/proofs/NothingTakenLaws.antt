@@ -31,7 +31,7 @@ use Rattle.store.specs.Registry.{retired, retireLane}
 use Rattle.walk.specs.Batch.{forSlots}
 use Rattle.turns.specs.Turn.{retiredIf}
 use Rattle.turns.specs.Drained.{retireEmptyPaused, retireEmptyPausedLanes, emptyOrDrained, nothingTaken}
-use Rattle.receives.specs.Receive.{withRings}
+use Rattle.store.specs.Words.{withRings}
 use Rattle.store.proofs.ViewLaws.{slot-in}
 use Rattle.store.proofs.RefusalLaws.{seen}
 use Rattle.store.proofs.StepLaws.{Step, step-start}

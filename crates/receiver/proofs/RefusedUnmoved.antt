@@ -30,15 +30,15 @@ use Rattle.store.specs.declared.refusal.Verdict.{Verdict}
 use Rattle.store.specs.declared.refusal.Verdict.the-variants.{Pass, Refuse}
 use Rattle.turns.specs.declared.turn.Took.{Took}
 use Rattle.turns.specs.declared.turn.Took.the-variants as Took
-use Rattle.store.specs.Words.{Words, unlessRefused}
+use Rattle.store.specs.Words.{Words, unlessRefused, withRings}
 use Rattle.opening.specs.Opening.{openSized, openStore}
 use Rattle.sender.specs.Sender.{pushed, sendSignaled, takenSignaled, sendUnsignaled, registerSender, trySend, trySendUnsignaled, dropSender, senderWords}
 use Rattle.control.specs.Control.{pause, resume, closeLane, closeReceiver}
 use Rattle.walk.specs.Batch.{releaseConsumed, pollAllLanes, countHeld}
 use Rattle.turns.specs.Drained.{retireEmptyPausedLanes, emptyOrDrained, nothingTaken}
-use Rattle.receives.specs.Receive.{takeOne, takeFair, answerOne, withRings, tryRecv, tryRecvFair}
+use Rattle.receives.specs.Receive.{takeOne, takeFair, answerOne, tryRecv, tryRecvFair}
 use Rattle.bulk.specs.Drain.{drained, batchVerdict, answerItems, batchAnswer, tryRecvBatchInto, handedBy, batchHands, batchInto}
-use Rattle.receives.specs.Target.{targetSettled, targetTook, takeFrom, tryRecvFrom}
+use Rattle.targeted.specs.Target.{targetSettled, targetTook, takeFrom, tryRecvFrom}
 use Rattle.receiver.specs.Runs.{}
 use Rattle.control.specs.Calls.{controlWords}
 use Rattle.store.proofs.RefusalLaws.{unless-refused-case}

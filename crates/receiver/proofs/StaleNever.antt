@@ -27,7 +27,7 @@ use Rattle.store.specs.Order.{StoreInOrder}
 use Rattle.store.specs.Words.{Words}
 use Rattle.turns.specs.Turn.{Turning, pollFront}
 use Rattle.bulk.specs.Drain.{lookFront}
-use Rattle.receives.specs.Target.{tryRecvFrom}
+use Rattle.targeted.specs.Target.{tryRecvFrom}
 use Rattle.store.proofs.ViewLaws.{slot-in}
 use Rattle.store.proofs.RefusalLaws.{seen}
 use Rattle.store.proofs.StoreLaws.{registered-seen}

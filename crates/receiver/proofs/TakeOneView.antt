@@ -24,11 +24,13 @@ use Rattle.store.specs.View.{view}
 use Rattle.store.specs.Order.{StoreInOrder}
 use Rattle.turns.specs.Turn.{turns}
 use Rattle.turns.specs.Drained.{Rests}
-use Rattle.receives.specs.Receive.{elseTake, takeFast, takeWindow, collectedIfDue, pollLoop, refillTake, takeOne}
+use Rattle.receives.specs.Receive.{elseTake, takeFast, takeWindow, pollLoop, refillTake, takeOne}
+use Rattle.turns.specs.Due.{collectedIfDue}
 use Rattle.store.proofs.ViewLaws.{view-budget}
 use Rattle.store.proofs.CollectedView.{view-collect-all, view-collect-group}
 use Rattle.store.proofs.BetweenTurns.{full-budget-in-order, collected-in-order}
-use Rattle.receives.proofs.ReceiveLaws.{turning-of, turns-rest, Unmoved, take-fast-unmoved, take-window-unmoved}
+use Rattle.receives.proofs.ReceiveLaws.{turns-rest, Unmoved, take-fast-unmoved, take-window-unmoved}
+use Rattle.turns.proofs.DueLaws.{turning-of}
 use Rattle.receiver.proofs.TurnView.{TookAs, turns-alike, rests-queue}
 use Rattle.receiver.proofs.WindowTakes.{TakesAs, take-fast-takes, take-window-takes}
 

@@ -31,7 +31,7 @@ use Rattle.store.specs.Order.{Flags, Stores, StoreInOrder}
 use Rattle.store.specs.Signal.{markedIfIdle}
 use Rattle.control.specs.Control.{withTurn}
 use Rattle.walk.specs.Batch.{mayQueue}
-use Rattle.receives.specs.Target.{targetQueued, targetKept}
+use Rattle.targeted.specs.Target.{targetQueued, targetKept}
 use Rattle.store.proofs.ViewLaws.{slot-in, view-put-lane, view-pushed-back, put-put, put-own}
 use Rattle.store.proofs.StepLaws.{Step, step-start, step-put-lane, step-pushed-back}
 use Rattle.store.proofs.StoreLaws.{stores-after, windows-kept, windows-pushed-back, issued-ring-in, room-in-queue}
@@ -41,7 +41,7 @@ use Rattle.store.proofs.BackLaws.{back-own, back-other}
 use Rattle.receiver.proofs.SameFlags.{flags-by, slot-by}
 use Rattle.store.proofs.LaneFields.{Flagged, flagged, flagged-reload, flagged-targeted}
 use Rattle.store.proofs.LaneView.{looked, looked-counts, pop-targeted-counts, unreleasedAfter, unreleasedSeen, burstSeen}
-use Rattle.receives.proofs.TargetLaws.{target-filled}
+use Rattle.targeted.proofs.TargetLaws.{target-filled}
 use Rattle.walk.proofs.PollAllLaws.{may-queue-alike}
 use Rattle.receiver.proofs.EmptyLaneLaws.{slot-path}
 

@@ -26,8 +26,7 @@ use Rattle.store.specs.declared.refusal.Verdict.the-variants.{Pass, Refuse}
 use Rattle.store.specs.View.{view}
 use Rattle.store.specs.Order.{StoreInOrder}
 use Rattle.store.specs.Refusal.{andThen}
-use Rattle.store.specs.Words.{Words}
-use Rattle.receives.specs.Receive.{withRings}
+use Rattle.store.specs.Words.{Words, withRings}
 use Rattle.turns.specs.Drained.{nothingTaken}
 use Rattle.walk.specs.Batch.{releaseAll}
 use Rattle.bulk.specs.Drain.{Drained, drained, roomVerdict, batchVerdict, answerItems, batchAnswer, tryRecvBatchInto, handedBy, batchHands}

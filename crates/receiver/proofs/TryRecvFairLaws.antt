@@ -11,9 +11,9 @@ use Rattle.queues.specs.Header.{channel}
 use Rattle.store.specs.View.{view}
 use Rattle.store.specs.Order.{StoreInOrder}
 use Rattle.store.specs.Refusal.{receiverVerdict}
-use Rattle.store.specs.Words.{Words}
+use Rattle.store.specs.Words.{Words, withRings}
 use Rattle.receiver.specs.Hands.{handsOf}
-use Rattle.receives.specs.Receive.{takeFair, answerOne, withRings, tryRecvFair}
+use Rattle.receives.specs.Receive.{takeFair, answerOne, tryRecvFair}
 use Rattle.store.proofs.RefusalLaws.{seen, receiver-verdict, refused-alike, unless-refused-case}
 use Rattle.receiver.proofs.HandsLaws.{try-recv-fair-answers, hands-by-answer}
 use Rattle.receiver.proofs.TakeFairView.{take-fair-alike}

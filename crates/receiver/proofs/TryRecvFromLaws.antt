@@ -32,8 +32,8 @@ use Rattle.store.specs.View.{slotAt, view}
 use Rattle.store.specs.Order.{Stores, StoreInOrder}
 use Rattle.store.specs.Refusal.{idVerdict}
 use Rattle.turns.specs.Turn.{retiredIf}
-use Rattle.receives.specs.Receive.{withRings}
-use Rattle.receives.specs.Target.{targetSettled, targetTook, takeFrom, tryRecvFrom}
+use Rattle.store.specs.Words.{withRings}
+use Rattle.targeted.specs.Target.{targetSettled, targetTook, takeFrom, tryRecvFrom}
 use Rattle.store.proofs.ViewLaws.{slot-in, view-removed}
 use Rattle.store.proofs.RefusalLaws.{seen, id-verdict, id-passes, refused-alike, unless-refused-case}
 use Rattle.store.proofs.StepLaws.{Step, step-start, step-put-lane, step-removed}

@@ -15,9 +15,9 @@ use Rattle.turns.specs.declared.turn.Took.the-variants as Took
 use Rattle.store.specs.View.{view}
 use Rattle.store.specs.Order.{StoreInOrder}
 use Rattle.store.specs.Refusal.{receiverVerdict}
-use Rattle.store.specs.Words.{Words}
+use Rattle.store.specs.Words.{Words, withRings}
 use Rattle.receiver.specs.Hands.{handsOf}
-use Rattle.receives.specs.Receive.{takeOne, answerOne, withRings, tryRecv}
+use Rattle.receives.specs.Receive.{takeOne, answerOne, tryRecv}
 use Rattle.store.proofs.RefusalLaws.{seen, receiver-verdict, refused-alike, unless-refused-case}
 use Rattle.receiver.proofs.NothingTakenLaws.{nothing-taken-alike, nothing-taken-keeps}
 use Rattle.receiver.proofs.HandsLaws.{try-recv-answers, hands-by-answer}

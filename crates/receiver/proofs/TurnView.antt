@@ -33,7 +33,8 @@ use Rattle.turns.specs.Drained.{Rests}
 use Rattle.store.proofs.ViewLaws.{slot-in}
 use Rattle.receiver.proofs.SameFlags.{key-by}
 use Rattle.store.proofs.BetweenTurns.{FrontLane, front-lane}
-use Rattle.receives.proofs.ReceiveLaws.{turning-of, turns-rest}
+use Rattle.receives.proofs.ReceiveLaws.{turns-rest}
+use Rattle.turns.proofs.DueLaws.{turning-of}
 use Rattle.receiver.proofs.EmptyLaneLaws.{Empties, empties-by-poll}
 use Rattle.receiver.proofs.LeftView.{left-view, left-in-order, left-queue, met-view, met-in-order}
 use Rattle.receiver.proofs.GaveView.{Gives, gives-by-poll, gave-first, gave-view, gave-in-order}

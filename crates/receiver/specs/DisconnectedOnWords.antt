@@ -21,7 +21,7 @@ use Rattle.lane.specs.Table.{laneAt}
 use Rattle.queues.specs.Header.{issued, alive, capacity, channel}
 use Rattle.store.specs.Order.{StoreInOrder}
 use Rattle.opening.specs.Opening.{openStore}
-use Rattle.receives.specs.Target.{tryRecvFrom}
+use Rattle.targeted.specs.Target.{tryRecvFrom}
 use Rattle.receiver.specs.Runs.{receiveWords, handsWords, theStores}
 use Rattle.receiver.specs.Demands.{runs}
 

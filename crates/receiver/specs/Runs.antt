@@ -14,7 +14,7 @@ use Rattle.opening.specs.Opening.{openStore}
 use Rattle.sender.specs.Sender.{senderWords}
 use Rattle.control.specs.Calls.{controlWords}
 use Rattle.receives.specs.Receive.{tryRecv, tryRecvFair}
-use Rattle.receives.specs.Target.{tryRecvFrom}
+use Rattle.targeted.specs.Target.{tryRecvFrom}
 use Rattle.bulk.specs.Drain.{tryRecvBatchInto, batchHands, batchInto}
 use Rattle.receiver.specs.Hands.{handsOf}
 

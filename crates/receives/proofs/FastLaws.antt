@@ -24,7 +24,8 @@ use Rattle.turns.specs.Turn.{Turning, frontLane}
 use Rattle.receives.specs.Receive.{elseTake, windowTook, fastTook, takeFast, FastOpen, openTook, refillTake, takeOne, takeLone}
 use Rattle.lane.proofs.TableLaws.{slot-of-lane}
 use Rattle.turns.proofs.TurnLaws.{slot-below, ring-in}
-use Rattle.receives.proofs.ReceiveLaws.{turning-of, ringed-of, fast-room, lone-room, take-fast-is, take-lone-is}
+use Rattle.receives.proofs.ReceiveLaws.{fast-room, lone-room, take-fast-is, take-lone-is}
+use Rattle.turns.proofs.DueLaws.{turning-of, ringed-of}
 
 -- ---- the plain receive
 

@@ -1,3 +1,2 @@
 pub mod ReceiveLaws
-pub mod TargetLaws
 pub mod FastLaws

@@ -34,7 +34,7 @@ use Rattle.turns.specs.declared.turn.Turn.{Turn}
 use Rattle.turns.specs.declared.turn.Turn.the-variants as Turn
 use Rattle.turns.specs.Turn.{registeredIn, Turning, Ringed, frontLane, turnBy, pollFront, after, turnsWithin, turns}
 use Rattle.turns.specs.Drained.{Idle, Rests}
-use Rattle.receives.specs.Receive.{elseTake, windowTook, fastTook, Affords, takeFast, openTook, takeWindow, collectedIfDue, pollLoop, refillTake, takeOne, takeLone, takeFair}
+use Rattle.receives.specs.Receive.{elseTake, windowTook, fastTook, Affords, takeFast, openTook, takeWindow, pollLoop, refillTake, takeOne, takeLone, takeFair}
 use Rattle.store.proofs.ViewLaws.{slot-in}
 use Rattle.store.proofs.CountLaws.{passing-same}
 use Rattle.store.proofs.StoreLaws.{free-slot}
@@ -42,35 +42,8 @@ use Rattle.store.proofs.LaneFields.{Flagged, flagged-pop-fast, flagged-grant, f
 use Rattle.turns.proofs.TurnLaws.{slot-below, front-issued, front-ordered, turning-budget}
 use Rattle.turns.proofs.FrontLaws.{Keeps, keeps-self, keeps-then, Turned, polledFront, poll-front-turned, turns-keep}
 use Rattle.turns.proofs.CollectKeeps.{collect-keeps}
-
--- ---- a store in order is ready for turns
-
-module _ (t r : List ℕ) (o : StoreInOrder t r) where
-  seen-registered : (x : ℕ) → x < issued t → view t r .slotOf x .registered ≡ flag (laneAt t x .registered)
-  unfolding slotAt
-  seen-registered x h = rw (slot-in t r x h)
-
-  pub turning-of : Turning t
-  unfolding view registeredIn registeredLanes
-  turning-of =
-      record {
-        shaped = o .stores .shaped;
-        power = o .stores .power;
-        names = o .stores .named;
-        linked = o .stores .linked;
-        lanes = o .stores .lanes;
-        queued-registered = λ x n.
-            eqb-true _ 1 (sym (seen-registered x (o .stores .named .issued-only x n)) ∙ o .ordered .each-slot x .queued-registered n);
-        free-once = λ x. o .ordered .each-slot x .free-once;
-        free-issued = λ x n. free-slot t r o x n .is-issued;
-        free-unregistered = λ x n e. free-slot t r o x n .unregistered e;
-        counted =
-            o .stores .lanes-counted
-            ∙ passing-same (λ x. view t r .slotOf x .registered) (λ x. flag (laneAt t x .registered)) 0 (issued t) (λ x a b. seen-registered x (omega arith));
-      }
-
-  pub ringed-of : Ringed t r
-  ringed-of = o .stores .rings-room
+use Rattle.turns.specs.Due.{collectedIfDue}
+use Rattle.turns.proofs.DueLaws.{turning-of, ringed-of, due-keeps}
 
 -- ---- windows
 
@@ -173,16 +146,6 @@ pub unmoved-is : (t u : List ℕ) (o : Took × List ℕ) → (Took.Nothing, u) �
 unmoved-is t u o e k = subst (Unmoved t) (sym e) k
 
 -- ---- what is kept, and where nothing is taken no lane is queued
-
-pub due-keeps : (t : List ℕ) → Turning t → Keeps t (collectedIfDue t)
-unfolding collectedIfDue
-due-keeps t k =
-    cond-holds (Keeps t) (eqb (budget t) 0) _ t
-    (λ e. cond-holds (Keeps t) (eqb (queueCount t) 0) t _ (λ f. keeps-self t k) (λ f. keeps-then (collect-keeps false t k) (budget-keeps (collectReady false t) (collect-keeps false t k .turning) 64)))
-    (λ e. keeps-self t k)
-  where
-    budget-keeps : (u : List ℕ) → Turning u → (v : ℕ) → Keeps u (setHead u 5 v)
-    budget-keeps u k v = record { turning = turning-budget u k v; long = simp frames; same-slots = simp frames; same-capacity = simp frames }
 
 pub fair-keeps : (t : List ℕ) → Turning t → Keeps t (setHead (collectReady true t) 5 64)
 fair-keeps t k =

@@ -1,2 +1,1 @@
 pub mod Receive
-pub mod Target

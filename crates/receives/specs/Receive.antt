@@ -20,8 +20,9 @@ use Rattle.turns.specs.declared.turn.Took.{Took}
 use Rattle.turns.specs.declared.turn.Took.the-variants as Took
 use Rattle.store.specs.Refusal.{receiverVerdict}
 use Rattle.store.specs.Order.{StoreInOrder}
-use Rattle.store.specs.Words.{Words, unlessRefused}
+use Rattle.store.specs.Words.{Words, unlessRefused, withRings}
 use Rattle.turns.specs.Turn.{frontLane, turns}
+use Rattle.turns.specs.Due.{collectedIfDue}
 use Rattle.turns.specs.Drained.{nothingTaken}
 
 -- a take that handed nothing out goes on with another
@@ -70,10 +71,6 @@ takeWindow t r =
     cond (eqb (queueCount t) 0) (Took.Nothing, t)
     (openTook t (popFast (ringOf (frontSlot t) (capacity t)) r (grantFast (capacity t) (budget t) (frontLane t))))
 
--- "else, budget 0 and queue non-empty, collect one group and set the budget to 64"
-unfoldable pub collectedIfDue : List ℕ → List ℕ
-collectedIfDue t = cond (eqb (budget t) 0) (cond (eqb (queueCount t) 0) t (setHead (collectReady false t) 5 64)) t
-
 -- "then the poll loop, which goes on until it has an item or nothing is queued and nothing is ready"
 unfoldable pub pollLoop : List ℕ → List ℕ → Took × List ℕ
 pollLoop t r = elseTake (turns t r false) (λ u. turns (collectReady true u) r false)
@@ -99,10 +96,6 @@ takeFair t r = elseTake (takeLone (setHead (collectReady true t) 5 64) r) (λ u.
 unfoldable pub answerOne : ℕ → Took × List ℕ → Answer × List ℕ
 answerOne channel (Took.Item item k, t) = (Item item (record { channel = channel; key = k }), t)
 answerOne channel (Took.Nothing, t) = nothingTaken t
-
--- an answer with the ring store beside it, which no receive changes
-abbrev pub withRings : List ℕ → Answer × List ℕ → Words
-withRings r o = (o .0, o .1, r)
 
 unfoldable pub tryRecv : List ℕ → List ℕ → Words
 tryRecv t r = unlessRefused (receiverVerdict t) t r (withRings r (answerOne (channel t) (takeOne t r)))

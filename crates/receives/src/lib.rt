@@ -1,3 +1,2 @@
-// The single receives on a store in order.
+// The plain and the fair receive on a store in order.
 pub mod receiver;
-pub mod target;

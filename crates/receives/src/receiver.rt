@@ -7,22 +7,7 @@ ghost use Rattle.queues.specs.Header.{Shaped, slots, budget, channel};
 ghost use Rattle.store.specs.Order.{StoreInOrder};
 ghost use Rattle.turns.specs.Turn.{Turning, Ringed};
 ghost use Rattle.turns.specs.Drained.{Rests};
-ghost use Rattle.receives.specs.Receive.{
-  windowTook,
-  Affords,
-  FastOpen,
-  openTook,
-  takeWindow,
-  collectedIfDue,
-  pollLoop,
-  refillTake,
-  takeOne,
-  takeLone,
-  takeFair,
-  answerOne,
-  tryRecv,
-  tryRecvFair,
-};
+ghost use Rattle.receives.specs.Receive.{windowTook, Affords, FastOpen, openTook, takeWindow, pollLoop, refillTake, takeOne, takeLone, takeFair, answerOne, tryRecv, tryRecvFair};
 use lane::lane::Lane;
 use lane::lane::Popped;
 use model::Answer;
@@ -33,6 +18,7 @@ use ready::ready as marks;
 use store::refusal;
 use store::refusal::Verdict;
 use turns::drained;
+use turns::due;
 use turns::turn;
 use turns::turn::Took;
 use yring::ring::Ring;
@@ -87,21 +73,6 @@ fn take_window(t: &mut [u64], r: &[u64]) -> Took
     took_of_opened(t, popped)
 }
 
-// A look for ready lanes is due when the budget is used up.
-pub fn collect_if_due(t: &mut [u64])
-    requires { ⌜ Turning (now t) ⌝ }
-    ensures { λ _. ⌜ now (t .exit) ≡ collectedIfDue (now (t .entry)) ⌝ }
-{
-    if t[Header::BUDGET] != 0 {
-        return;
-    }
-    if t[Header::QUEUED] == 0 {
-        return;
-    }
-    marks::collect_ready(t, false);
-    t[Header::BUDGET] = Header::POLL_BUDGET;
-}
-
 // Turns at the front, and once more after a look for ready lanes.
 fn poll_loop(t: &mut [u64], r: &[u64]) -> Took
     requires { ⌜ Turning (now t) × Ringed (now t) (now r) ⌝ }
@@ -123,7 +94,7 @@ fn try_recv_refill(t: &mut [u64], r: &[u64]) -> Took
     requires { ⌜ Turning (now t) × Ringed (now t) (now r) ⌝ }
     ensures { λ a. ⌜ (a, now (t .exit)) ≡ refillTake (now (t .entry)) (now (r .entry)) ⌝ }
 {
-    collect_if_due(t);
+    due::collect_if_due(t);
     match take_window(t, r) {
         Took::Item { item, key } => Took::Item {
             item: item,

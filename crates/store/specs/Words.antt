@@ -15,3 +15,7 @@ Words = Answer × List ℕ × List ℕ
 unfoldable pub unlessRefused : Verdict → List ℕ → List ℕ → Words → Words
 unlessRefused Pass t r w = w
 unlessRefused (Refuse why) t r w = (Refused why, t, r)
+
+-- an answer with the ring store beside it, which the call does not change
+abbrev pub withRings : List ℕ → Answer × List ℕ → Words
+withRings r o = (o .0, o .1, r)

@@ -2,3 +2,4 @@ pub mod TurnLaws
 pub mod FrontLaws
 pub mod CollectKeeps
 pub mod DrainedLaws
+pub mod DueLaws

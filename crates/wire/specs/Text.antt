@@ -10,8 +10,7 @@ use lib.Dec.{eqb}
 use lib.ListN.{length}
 use lib.Seq.{sets}
 use Rattle.model.specs.declared.Answer.{Answer}
-use Rattle.model.specs.Answers.{Word, Line, done, lane, taken, item, items, empty, disconnected, held, refused}
-use Rattle.model.specs.Answers.{line as lineOf}
+use Rattle.model.specs.Answers.{Word, Line, done, lane, taken, item, items, empty, disconnected, held, refused, line as lineOf}
 
 -- the codes of a quoted text
 abbrev pub codes : S.String → List ℕ

@@ -2,7 +2,7 @@
 -- Assumes nothing.
 use mathlib.Core.Bool.{true}
 use Rattle.turns.proofs.CollectKeeps.{collect-keeps}
-use Rattle.receives.proofs.ReceiveLaws.{due-keeps}
+use Rattle.turns.proofs.DueLaws.{due-keeps}
 use Rattle.bulk.proofs.LookLaws.{due-run-keeps, else-ready, else-none}
 use Rattle.bulk.specs.Drain.{refreshActive}
 use mathlib.Core.Path.{_∙_}

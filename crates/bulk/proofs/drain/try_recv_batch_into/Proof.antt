@@ -1,7 +1,7 @@
 -- `bulk::drain::try_recv_batch_into` meets its contract.
 -- Assumes nothing.
 use Rattle.bulk.proofs.BatchLaws.{batch-room, batch-refused, batch-done, batch-refunds, batch-rests}
-use Rattle.receives.proofs.ReceiveLaws.{turning-of, ringed-of}
+use Rattle.turns.proofs.DueLaws.{turning-of, ringed-of}
 use mathlib.Core.Path.{sym, _∙_}
 use borrow.Author.Needs.{needs}
 use Rattle.bulk.proofs.drain.try_recv_batch_into.Statement.{statement}

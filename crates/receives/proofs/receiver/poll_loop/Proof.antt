@@ -1,13 +1,12 @@
 -- `receives::receiver::poll_loop` meets its contract.
 -- Assumes nothing.
 use mathlib.Core.Bool.{true, false}
-use Rattle.turns.proofs.FrontLaws.{Keeps, keeps-then}
+use Rattle.turns.proofs.FrontLaws.{Keeps, keeps-then, keeps-ringed, turns-keep}
 use Rattle.turns.specs.declared.turn.Took.{Took}
 use Prim.Native.Nat.{ℕ}
 use mathlib.Core.List.{List}
 use Rattle.receives.specs.Receive.{pollLoop}
 use Rattle.turns.proofs.CollectKeeps.{collect-keeps}
-use Rattle.turns.proofs.FrontLaws.{keeps-ringed, turns-keep}
 use Rattle.receives.proofs.ReceiveLaws.{else-item, else-nothing}
 use mathlib.Core.Path.{sym, _∙_, subst}
 use borrow.Author.Needs.{needs}

@@ -1,6 +1,6 @@
 -- `receives::receiver::take_fair` meets its contract.
 -- Assumes nothing.
-use Rattle.receives.proofs.ReceiveLaws.{take-lone-long, fair-budget}
+use Rattle.receives.proofs.ReceiveLaws.{take-lone-long, fair-budget, else-item, else-nothing, take-lone-unmoved, unmoved-is, fair-keeps}
 use mathlib.Core.Bool.{true}
 use lib.ListN.{length}
 use Rattle.turns.specs.declared.turn.Took.{Took}
@@ -8,7 +8,6 @@ use Prim.Native.Nat.{ℕ}
 use mathlib.Core.List.{List}
 use Rattle.receives.specs.Receive.{takeFair}
 use Rattle.turns.proofs.FrontLaws.{keeps-ringed, turns-keep}
-use Rattle.receives.proofs.ReceiveLaws.{else-item, else-nothing, take-lone-unmoved, unmoved-is, fair-keeps}
 use mathlib.Core.Path.{ap, _∙_}
 use borrow.Author.Needs.{needs}
 use Rattle.receives.proofs.receiver.take_fair.Statement.{statement}

@@ -4,8 +4,8 @@ use mathlib.Core.Path.{sym, ap, _∙_}
 use mathlib.Core.List.{List}
 use Prim.Native.Nat.{ℕ}
 use Rattle.model.specs.declared.Answer.{Answer}
-use Rattle.store.specs.Words.{unlessRefused}
-use Rattle.receives.specs.Receive.{tryRecv, withRings}
+use Rattle.store.specs.Words.{unlessRefused, withRings}
+use Rattle.receives.specs.Receive.{tryRecv}
 use borrow.Author.Needs.{needs}
 use Rattle.receives.proofs.receiver.try_recv.Statement.{statement}
 use Rattle.receives.proofs.receiver.try_recv.Tie as tie

@@ -1,9 +1,10 @@
 -- `receives::receiver::try_recv_fair` meets its contract.
 -- Assumes nothing.
 use Rattle.model.specs.declared.Answer.{Answer}
-use Rattle.receives.proofs.ReceiveLaws.{turning-of, ringed-of, take-fair-rest}
-use Rattle.receives.specs.Receive.{tryRecvFair, answerOne, withRings}
-use Rattle.store.specs.Words.{unlessRefused}
+use Rattle.receives.proofs.ReceiveLaws.{take-fair-rest}
+use Rattle.turns.proofs.DueLaws.{turning-of, ringed-of}
+use Rattle.receives.specs.Receive.{tryRecvFair, answerOne}
+use Rattle.store.specs.Words.{withRings, unlessRefused}
 use Rattle.turns.specs.Drained.{Rests}
 use Prim.Native.Nat.{ℕ}
 use mathlib.Core.List.{List}

@@ -3,7 +3,8 @@
 use mathlib.Core.Path.{sym, ap, _∙_, subst}
 use Rattle.turns.specs.Drained.{Rests}
 use Rattle.receives.specs.Receive.{answerOne}
-use Rattle.receives.proofs.ReceiveLaws.{turning-of, ringed-of, refill-rest}
+use Rattle.receives.proofs.ReceiveLaws.{refill-rest}
+use Rattle.turns.proofs.DueLaws.{turning-of, ringed-of}
 use Rattle.receives.proofs.FastLaws.{unissued-refill, unregistered-refill, closed-refill}
 use borrow.Author.Needs.{needs}
 use Rattle.receives.proofs.receiver.try_recv_open.Statement.{statement}

@@ -2,7 +2,8 @@
 -- Assumes nothing.
 use Rattle.receives.specs.Receive.{refillTake}
 use Rattle.turns.proofs.FrontLaws.{keeps-ringed}
-use Rattle.receives.proofs.ReceiveLaws.{else-item, else-nothing, take-window-unmoved, unmoved-is, due-keeps}
+use Rattle.receives.proofs.ReceiveLaws.{else-item, else-nothing, take-window-unmoved, unmoved-is}
+use Rattle.turns.proofs.DueLaws.{due-keeps}
 use mathlib.Core.Path.{_∙_}
 use borrow.Author.Needs.{needs}
 use Rattle.receives.proofs.receiver.try_recv_refill.Statement.{statement}

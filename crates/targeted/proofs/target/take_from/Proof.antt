@@ -1,12 +1,12 @@
--- `receives::target::take_from` meets its contract.
+-- `targeted::target::take_from` meets its contract.
 -- Assumes nothing.
-use Rattle.receives.proofs.TargetLaws.{target-refunds, target-below, target-ring, settled-room, target-filled, kept-room, take-from-is, refilled-as}
-use Rattle.receives.specs.Target.{targetTook}
+use Rattle.targeted.proofs.TargetLaws.{target-refunds, target-below, target-ring, settled-room, target-filled, kept-room, take-from-is, refilled-as}
+use Rattle.targeted.specs.Target.{targetTook}
 use native.Mathlib.Omega.{arith}
 use mathlib.Core.Path.{sym, _∙_}
 use borrow.Author.Needs.{needs}
-use Rattle.receives.proofs.target.take_from.Statement.{statement}
-use Rattle.receives.proofs.target.take_from.Tie as tie
+use Rattle.targeted.proofs.target.take_from.Statement.{statement}
+use Rattle.targeted.proofs.target.take_from.Tie as tie
 
 slice-read-channel : tie.Need-slice-read-channel
 slice-read-channel c = search needs

@@ -4,7 +4,7 @@ ghost use Prim.Native.Nat.{_<_};
 ghost use Rattle.lane.specs.Table.{laneAt};
 ghost use Rattle.queues.specs.Header.{Shaped, issued, slots, queueCount, freeCount, laneCount};
 ghost use Rattle.store.specs.Order.{StoreInOrder};
-ghost use Rattle.receives.specs.Target.{targetSettled, targetQueued, targetKept, takeFrom, tryRecvFrom};
+ghost use Rattle.targeted.specs.Target.{targetSettled, targetQueued, targetKept, takeFrom, tryRecvFrom};
 use control::lane_control;
 use lane::lane::EmptyLane;
 use lane::lane::Lane;

@@ -1,10 +1,10 @@
--- `receives::receiver::collect_if_due` meets its contract.
+-- `turns::due::collect_if_due` meets its contract.
 -- Assumes nothing.
-use Rattle.receives.specs.Receive.{collectedIfDue}
+use Rattle.turns.specs.Due.{collectedIfDue}
 use borrow.Author.Tests.{eq-eqb, ne-eqb}
 use borrow.Author.Needs.{needs}
-use Rattle.receives.proofs.receiver.collect_if_due.Statement.{statement}
-use Rattle.receives.proofs.receiver.collect_if_due.Tie as tie
+use Rattle.turns.proofs.due.collect_if_due.Statement.{statement}
+use Rattle.turns.proofs.due.collect_if_due.Tie as tie
 
 slice-read-if1 : tie.Need-slice-read-if1
 slice-read-if1 c = search needs

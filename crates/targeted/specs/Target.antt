@@ -17,11 +17,10 @@ use Rattle.lane.specs.Table.{laneAt, putLane}
 use Rattle.queues.specs.Header.{capacity, channel}
 use Rattle.queues.specs.Queue.{pushedBack, removed}
 use Rattle.store.specs.Refusal.{idVerdict}
-use Rattle.store.specs.Words.{Words, unlessRefused}
+use Rattle.store.specs.Words.{Words, unlessRefused, withRings}
 use Rattle.store.specs.Signal.{markedIfIdle}
 use Rattle.control.specs.Control.{withTurn}
 use Rattle.turns.specs.Turn.{retiredIf}
-use Rattle.receives.specs.Receive.{withRings}
 
 -- A lane found empty settles and leaves the queue; with its sender dropped it retires and the answer is Disconnected.
 unfoldable pub targetSettled : List ℕ → EmptyLane → Answer × List ℕ

@@ -21,10 +21,10 @@ use Rattle.queues.specs.Queue.{removed}
 use Rattle.queues.proofs.QueueLaws.{queue-has-room}
 use Rattle.store.specs.Order.{StoreInOrder}
 use Rattle.turns.specs.Turn.{Turning, retiredIf}
-use Rattle.receives.specs.Target.{targetSettled, targetTook, takeFrom}
+use Rattle.targeted.specs.Target.{targetSettled, targetTook, takeFrom}
 use Rattle.store.proofs.LaneFields.{Fixed, Flagged, flagged, RefillKept, refill-kept, flagged-targeted}
 use Rattle.turns.proofs.TurnLaws.{slot-below, ring-in, some-lane, free-room}
-use Rattle.receives.proofs.ReceiveLaws.{turning-of, ringed-of}
+use Rattle.turns.proofs.DueLaws.{turning-of, ringed-of}
 use lib.ListN.{length}
 
 module _ (t r : List ℕ) (o : StoreInOrder t r) (x : ℕ) (h : x < issued t) (e : laneAt t x .registered ≡ 1) where

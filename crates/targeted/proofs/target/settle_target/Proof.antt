@@ -1,11 +1,11 @@
--- `receives::target::settle_target` meets its contract.
+-- `targeted::target::settle_target` meets its contract.
 -- Assumes nothing.
-use Rattle.receives.proofs.TargetLaws.{settled-dropped, settled-living}
+use Rattle.targeted.proofs.TargetLaws.{settled-dropped, settled-living}
 use Rattle.queues.proofs.QueueLaws.{queue-frames, shaped-putLane, shaped-removed}
 use Rattle.lane.proofs.TableLaws.{frames}
 use borrow.Author.Needs.{needs}
-use Rattle.receives.proofs.target.settle_target.Statement.{statement}
-use Rattle.receives.proofs.target.settle_target.Tie as tie
+use Rattle.targeted.proofs.target.settle_target.Statement.{statement}
+use Rattle.targeted.proofs.target.settle_target.Tie as tie
 
 store-requires : tie.Need-store-requires
 store-requires c κs = search needs

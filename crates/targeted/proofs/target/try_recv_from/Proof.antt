@@ -1,16 +1,15 @@
--- `receives::target::try_recv_from` meets its contract.
+-- `targeted::target::try_recv_from` meets its contract.
 -- Assumes nothing.
 use Rattle.store.proofs.RefusalLaws.{id-passes}
-use Rattle.receives.specs.Target.{tryRecvFrom}
-use Rattle.receives.specs.Receive.{withRings}
-use Rattle.store.specs.Words.{unlessRefused}
+use Rattle.targeted.specs.Target.{tryRecvFrom}
+use Rattle.store.specs.Words.{withRings, unlessRefused}
 use Rattle.model.specs.declared.Answer.{Answer}
 use Prim.Native.Nat.{ℕ}
 use mathlib.Core.List.{List}
 use mathlib.Core.Path.{sym, ap, _∙_}
 use borrow.Author.Needs.{needs}
-use Rattle.receives.proofs.target.try_recv_from.Statement.{statement}
-use Rattle.receives.proofs.target.try_recv_from.Tie as tie
+use Rattle.targeted.proofs.target.try_recv_from.Statement.{statement}
+use Rattle.targeted.proofs.target.try_recv_from.Tie as tie
 
 id-verdict-requires : tie.Need-id-verdict-requires
 id-verdict-requires c κs = search needs

@@ -1,10 +1,10 @@
--- `receives::target::keep_target` meets its contract.
+-- `targeted::target::keep_target` meets its contract.
 -- Assumes nothing.
-use Rattle.receives.specs.Target.{targetKept}
+use Rattle.targeted.specs.Target.{targetKept}
 use borrow.Author.Tests.{eq-eqb, ne-eqb}
 use borrow.Author.Needs.{needs}
-use Rattle.receives.proofs.target.keep_target.Statement.{statement}
-use Rattle.receives.proofs.target.keep_target.Tie as tie
+use Rattle.targeted.proofs.target.keep_target.Statement.{statement}
+use Rattle.targeted.proofs.target.keep_target.Tie as tie
 
 store-requires : tie.Need-store-requires
 store-requires c κs = search needs

@@ -1,13 +1,13 @@
--- `receives::target::queue_target` meets its contract.
+-- `targeted::target::queue_target` meets its contract.
 -- Assumes nothing.
-use Rattle.receives.specs.Target.{targetQueued}
+use Rattle.targeted.specs.Target.{targetQueued}
 use Rattle.store.proofs.SignalFrames.{shaped-marked-if-idle, head-marked-if-idle}
 use Rattle.queues.proofs.QueueLaws.{shaped-putLane}
 use Rattle.lane.proofs.TableLaws.{frames}
 use native.Mathlib.Omega.{arith}
 use borrow.Author.Needs.{needs}
-use Rattle.receives.proofs.target.queue_target.Statement.{statement}
-use Rattle.receives.proofs.target.queue_target.Tie as tie
+use Rattle.targeted.proofs.target.queue_target.Statement.{statement}
+use Rattle.targeted.proofs.target.queue_target.Tie as tie
 
 with-turn-requires : tie.Need-with-turn-requires
 with-turn-requires c κs = search needs

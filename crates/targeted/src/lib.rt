@@ -1,0 +1,2 @@
+// The receive from one lane, on a store in order.
+pub mod target;
