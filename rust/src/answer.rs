@@ -6,7 +6,7 @@ use crate::{LaneId, LaneKey};
 #[derive(Debug, Clone, Copy, PartialEq, Eq)]
 pub(crate) enum Answer {
     Done,
-    Lane(LaneKey),
+    Registered(LaneKey),
     /// Whether the lane's signal went from idle to pending.
     Taken(bool),
     Item(LaneId, u64),
@@ -26,7 +26,7 @@ impl Answer {
         let lane = LaneId { channel_id: words[1], key: key(words[2], words[3]) };
         match tag {
             0 => Self::Done,
-            1 => Self::Lane(key(words[0], words[1])),
+            1 => Self::Registered(key(words[0], words[1])),
             2 => Self::Taken(words[0] == 1),
             3 => Self::Item(lane, words[0]),
             4 => Self::Items(words[0]),

@@ -17,19 +17,19 @@ use crate::{LaneId, LaneKey, Opening, Stores};
 ///
 /// # Why the calls' premise holds
 ///
-/// The library has each call twice. An outer call tests first whether its stores are *in order*, document 01's list of
-/// what must hold of their words, which takes a walk over all slots. An inner call has this as its only premise, and
-/// no test. A `Channel` makes inner calls only. Their premise holds, since:
+/// The library has each call twice. A checked call tests first whether its stores are *in order*, document 01's list of
+/// what must hold of their words, which goes over every issued slot. An inner call has this as its only premise, and no
+/// test. After the opening, which has no premise, a `Channel` makes inner calls only. Their premise holds, since:
 ///
 /// - A `Channel` comes from an accepted opening and from nowhere else, and an accepted opening leaves stores in order,
 ///   whatever the words held (`open-in-order` in crates/opening/proofs/OpeningLaws.antt; `opens-in-order` in
 ///   crates/fanring/proofs/Demands.antt).
-/// - Every inner call, refused or not, leaves stores in order (`call-keeps` in crates/receiver/proofs/CallLaws.antt);
-///   and so does every list of calls from an accepted opening on (`stays-in-order` in
-///   crates/receiver/proofs/Demands.antt).
-/// - Nothing else writes to the words. The `Channel` owns both stores, the fields are private to the one module that
-///   calls the library, that module hands out no reference to them, and no function of this crate's face is `unsafe`.
-///   [`into_stores`](Self::into_stores) gives them back only as the channel ends.
+/// - Every inner call, refused or not, leaves the words that its definition gives (its contract, in crates/cfanring/src),
+///   and these are in order again (`call-keeps` in crates/receiver/proofs/CallLaws.antt); so they are after every list
+///   of calls from an accepted opening on (`stays-in-order` in crates/receiver/proofs/Demands.antt).
+/// - Nothing else writes to the words, and their number stays. The `Channel` owns both stores, the fields are private to
+///   the one module that calls the library, that module hands out no reference to them, and no function that this crate
+///   exports is `unsafe`. [`into_stores`](Self::into_stores) gives them back only as the channel ends.
 /// - A call that writes takes `&mut self`, so no two run at one time. A `Channel` may move to another thread, or stand
 ///   behind a lock.
 ///

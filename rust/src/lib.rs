@@ -45,8 +45,8 @@
 //!
 //! # Refusals
 //!
-//! Document 01 gives each refusal a number. Each variant of an error has one number, which its method `refusal`
-//! tells; `Empty` and `Disconnected` of a receive are results and have none. A call that is refused has changed nothing.
+//! Document 01 gives each refusal a number. Each variant of an error has one number, which the method `refusal` tells;
+//! `Empty` and `Disconnected` of a receive are results and have none. A call that is refused has changed nothing.
 //!
 //! | No. | When | Variant |
 //! |---|---|---|

@@ -59,7 +59,7 @@ impl StoresInOrder {
     pub(crate) fn try_recv_batch_into(&mut self, out: &mut [u64], limit: u64) -> Answer {
         let Stores { table, rings } = &mut self.stores;
         let mut words = [0; 4];
-        // SAFETY: the stores are in order; the slices are whole and apart, the output too, as it is lent by another owner.
+        // SAFETY: the stores are in order; the slices are whole and apart, the output too, which another owner lends.
         let tag = unsafe {
             fanring_inner_try_recv_batch_into(
                 table.as_mut_ptr(),

@@ -1,4 +1,4 @@
-//! The outer calls' own test of order, after each of many inner calls.
+//! The checked calls' own test of order, after each of many inner calls.
 
 use super::StoresInOrder;
 use crate::answer::Answer;
@@ -9,11 +9,11 @@ extern "C" {
 }
 
 impl StoresInOrder {
-    /// The outer call, which answers refusal 5 where stores are not in order.
+    /// The checked call, which answers refusal 5 where stores are not in order.
     fn checked_held(&self) -> Answer {
         let Stores { table, rings } = &self.stores;
         let mut words = [0; 4];
-        // SAFETY: the outer calls have no premise on what the stores hold. The slices are whole and apart.
+        // SAFETY: the checked calls have no premise on what the stores hold. The slices are whole and apart.
         let tag = unsafe { fanring_held(table.as_ptr(), table.len(), rings.as_ptr(), rings.len(), words.as_mut_ptr()) };
         Answer::read(tag, words)
     }
@@ -73,7 +73,7 @@ fn stores_stay_in_order() {
 }
 
 #[test]
-fn an_outer_call_refuses_words_not_in_order() {
+fn a_checked_call_refuses_words_not_in_order() {
     let Ok(mut stores) = StoresInOrder::open(&Opening::new(4, 1), Stores { table: vec![0; 536], rings: vec![0; 4] })
     else {
         panic!("the opening is refused")

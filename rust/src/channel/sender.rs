@@ -34,7 +34,7 @@ impl Channel {
     /// ```
     pub fn register_sender(&mut self, max_lanes: usize) -> Result<LaneKey, TryRegisterBoundedError> {
         match self.stores.register_sender(max_lanes as u64) {
-            Answer::Lane(key) => Ok(key),
+            Answer::Registered(key) => Ok(key),
             Answer::Refused(6) => Err(TryRegisterBoundedError::Disconnected),
             Answer::Refused(7) => Err(TryRegisterBoundedError::AtCapacity),
             Answer::Refused(8) => Err(TryRegisterBoundedError::NoFreeSlot),
