@@ -11,9 +11,7 @@ fn main() {
     println!("cargo:rerun-if-env-changed=FANRING_LIB");
     let place = place();
     let archive = if place.is_dir() { place.join(NAME) } else { place };
-    if !archive.is_file() {
-        complain(&archive);
-    }
+    let Ok(archive) = archive.canonicalize() else { complain(&archive) };
     let folder = archive.parent().unwrap_or(Path::new("."));
     let name = archive.file_name().expect("a file has a name");
     println!("cargo:rerun-if-changed={}", archive.display());
@@ -33,6 +31,6 @@ fn place() -> PathBuf {
 fn complain(archive: &Path) -> ! {
     eprintln!("proved-fanring: the proved library is not there: {}", archive.display());
     eprintln!("Run ./library in the root of the repository, which proves it and writes target/library/{NAME},");
-    eprintln!("or set FANRING_LIB to the archive or its folder.");
+    eprintln!("or set FANRING_LIB to the full path of the archive or of its folder.");
     process::exit(1);
 }
