@@ -1,0 +1,221 @@
+/* The bedside receiver: the MPSC receiver of fanring.rs, one call at a time, on two stores that the caller lends.
+
+   STORES. `table` and `rings` are arrays of words. To open a channel of S slots at capacity C the table needs at least 24 * S + 512 words and the ring store
+   at least S * C; table_len and rings_len are their lengths in words. Their words belong to the library from the opening on. There is no heap and no other state.
+
+   ANSWERS. Each call returns a tag (enum fanring_tag) and puts the answer's numbers into words[0] and on. Words that the answer does not use are as they were.
+   A refusal leaves every word of both stores and of the output as it was.
+
+   WHAT EVERY CALL RELIES ON. Each pointer is to as many words as its length says, `words` to four. `table`, `rings`, `out` and `words` do not overlap.
+   Nothing else uses them during the call: one call at a time on a pair of stores.
+
+   CHECKED CALLS (fanring_..) rely on nothing else: they take any stores and any numbers. All but fanring_open test both stores first, which goes over
+   every issued slot, and answer refused 5 if they are not in order.
+
+   INNER CALLS (fanring_inner_..) make no such test, and have a premise: the stores are in order. They are if they were opened by fanring_open, with these
+   lengths, and since then changed by these calls alone, checked or inner. With the premise broken, nothing is promised: not even that a call stays within the stores.
+
+   The contracts are in crates/cfanring/src, and are proved. For x86-64 Linux. */
+#ifndef FANRING_H
+#define FANRING_H
+
+#include <stddef.h>
+#include <stdint.h>
+
+#ifdef __cplusplus
+extern "C" {
+#endif
+
+/* What a call returns, and the words that it sets. */
+enum fanring_tag {
+    FANRING_DONE = 0,         /* no words */
+    FANRING_REGISTERED = 1,   /* a lane's key: slot, generation */
+    FANRING_TAKEN = 2,        /* woken: 1 or 0 */
+    FANRING_ITEM = 3,         /* item, channel, slot, generation */
+    FANRING_ITEMS = 4,        /* count; the items are in the output */
+    FANRING_EMPTY = 5,        /* no words */
+    FANRING_DISCONNECTED = 6, /* no words */
+    FANRING_HELD = 7,         /* count */
+    FANRING_REFUSED = 8       /* the refusal's number */
+};
+
+/* The refusals' numbers; the first that applies is given, in this order. */
+enum fanring_refusal {
+    FANRING_CAPACITY_OUT_OF_RANGE = 1, /* capacity 0 or above 65,536 */
+    FANRING_SLOTS_OUT_OF_RANGE = 2,    /* S 0 or above 8,192 */
+    FANRING_RING_STORE_SHORT = 3,      /* ring store short */
+    FANRING_TABLE_STORE_SHORT = 4,     /* table store short */
+    FANRING_STORE_NOT_IN_ORDER = 5,    /* store not in order; inner calls never answer it */
+    FANRING_RECEIVER_CLOSED = 6,       /* receiver closed */
+    FANRING_AT_CAPACITY = 7,           /* registered lanes are as many as the most-lanes number, or more */
+    FANRING_NO_FREE_SLOT = 8,          /* free list empty and slot S - 1 issued */
+    FANRING_OLDER_SENDER_LIVES = 9,    /* the slot due still has a living older sender */
+    FANRING_NO_SUCH_SENDER = 10,       /* no living sender has this key */
+    FANRING_LANE_CLOSED = 12,          /* lane closed, or the receiver */
+    FANRING_FULL = 11,                 /* ring full */
+    FANRING_OUTPUT_SHORT = 14,         /* output shorter than the limit */
+    FANRING_NO_SUCH_LANE = 13          /* no lane with this id */
+};
+
+/* ---- Checked calls: any stores, any numbers ---- */
+
+/* Opens a channel on two stores, whatever they hold: a capacity (1 to 65,536, rounded up to a power of two C), slots S (1 to 8,192), a channel id,
+   and the cursor and the generation to start with (any number; 0 in the original). No sender yet. Opening a used pair starts afresh. Answers
+   FANRING_DONE; or refused 1, 2, 3, 4. */
+uint64_t fanring_open(
+    uint64_t *table, size_t table_len, const uint64_t *rings, size_t rings_len,
+    uint64_t capacity, uint64_t slots, uint64_t channel, uint64_t cursor, uint64_t generation, uint64_t words[4]);
+
+/* Registers a sender with a lane of its own, if fewer than `most` lanes are registered. The slot freed last is issued first, with generation + 1;
+   else the next unused one. Answers FANRING_REGISTERED with the lane's key: words[0] slot, words[1] generation; or refused 5, 6, 7, 8, 9. */
+uint64_t fanring_register_sender(
+    uint64_t *table, size_t table_len, const uint64_t *rings, size_t rings_len, uint64_t most, uint64_t words[4]);
+
+/* Sends an item through the sender with this key. Answers FANRING_TAKEN with words[0] 1 if the lane's signal went from idle to pending, else 0; or
+   refused 5, 10, 12, 11. */
+uint64_t fanring_try_send(
+    uint64_t *table, size_t table_len, uint64_t *rings, size_t rings_len, uint64_t slot, uint64_t generation,
+    uint64_t item, uint64_t words[4]);
+
+/* Sends an item and marks nothing; see fanring_poll_all_lanes. Answers FANRING_TAKEN with words[0] 0; or refused 5, 10, 12, 11. */
+uint64_t fanring_try_send_unsignaled(
+    uint64_t *table, size_t table_len, uint64_t *rings, size_t rings_len, uint64_t slot, uint64_t generation,
+    uint64_t item, uint64_t words[4]);
+
+/* Drops the sender with this key: its lane is marked, and the living senders are one less. Answers FANRING_DONE; or refused 5, 10. */
+uint64_t fanring_drop_sender(
+    uint64_t *table, size_t table_len, const uint64_t *rings, size_t rings_len, uint64_t slot, uint64_t generation,
+    uint64_t words[4]);
+
+/* Receives one item (plain), in bursts of at most 64 of a lane. Answers FANRING_ITEM with words[0] item, words[1] channel, words[2] slot, words[3]
+   generation; FANRING_DISCONNECTED if there is no living sender and no registered lane; else FANRING_EMPTY; or refused 5, 6. */
+uint64_t fanring_try_recv(uint64_t *table, size_t table_len, const uint64_t *rings, size_t rings_len, uint64_t words[4]);
+
+/* Receives one item (fair): one of the front lane, which goes to the back. Answers as fanring_try_recv. */
+uint64_t fanring_try_recv_fair(uint64_t *table, size_t table_len, const uint64_t *rings, size_t rings_len, uint64_t words[4]);
+
+/* Receives one item of the lane with this id, paused or not (targeted). Answers FANRING_ITEM with the words of fanring_try_recv; FANRING_EMPTY;
+   FANRING_DISCONNECTED if the lane is empty and its sender dropped; or refused 5, 6, 13. */
+uint64_t fanring_try_recv_from(
+    uint64_t *table, size_t table_len, const uint64_t *rings, size_t rings_len,
+    uint64_t channel, uint64_t slot, uint64_t generation, uint64_t words[4]);
+
+/* Receives items into out[0], out[1], .. in order, until the limit, or until nothing is queued and nothing is ready; then every lane gives back its
+   credit. Answers FANRING_ITEMS with words[0] their count; FANRING_EMPTY or FANRING_DISCONNECTED if there was none, but 0 items if the limit is 0; or
+   refused 5, 6, 14. The rest of out is as it was. */
+uint64_t fanring_try_recv_batch_into(
+    uint64_t *table, size_t table_len, const uint64_t *rings, size_t rings_len, uint64_t *out, size_t out_len,
+    uint64_t limit, uint64_t words[4]);
+
+/* Takes the lane with this id out of all receives but targeted ones; its credit goes back. Answers FANRING_DONE; or refused 5, 6, 13. */
+uint64_t fanring_pause(
+    uint64_t *table, size_t table_len, const uint64_t *rings, size_t rings_len,
+    uint64_t channel, uint64_t slot, uint64_t generation, uint64_t words[4]);
+
+/* Brings a paused lane back; a lane that is not paused stays as it is. Answers FANRING_DONE; or refused 5, 6, 13. */
+uint64_t fanring_resume(
+    uint64_t *table, size_t table_len, const uint64_t *rings, size_t rings_len,
+    uint64_t channel, uint64_t slot, uint64_t generation, uint64_t words[4]);
+
+/* Retires the lane with this id, with the items that it holds: none of them is handed out. Answers FANRING_DONE; or refused 5, 6, 13. */
+uint64_t fanring_close_lane(
+    uint64_t *table, size_t table_len, const uint64_t *rings, size_t rings_len,
+    uint64_t channel, uint64_t slot, uint64_t generation, uint64_t words[4]);
+
+/* Every lane gives back the places of its items that were handed out. Answers FANRING_DONE; or refused 5, 6. */
+uint64_t fanring_release_consumed(uint64_t *table, size_t table_len, const uint64_t *rings, size_t rings_len, uint64_t words[4]);
+
+/* Queues every lane that is neither queued nor paused, so that items sent without a signal are found. Answers FANRING_DONE; or refused 5, 6. */
+uint64_t fanring_poll_all_lanes(uint64_t *table, size_t table_len, const uint64_t *rings, size_t rings_len, uint64_t words[4]);
+
+/* Closes the receiver: its lanes stay as they are, and their senders find it closed. Answers FANRING_DONE; or refused 5, 6. */
+uint64_t fanring_close_receiver(uint64_t *table, size_t table_len, const uint64_t *rings, size_t rings_len, uint64_t words[4]);
+
+/* Counts the items in rings of registered lanes, paused ones too, also where the receiver is closed. Answers FANRING_HELD with words[0] the count; or
+   refused 5. */
+uint64_t fanring_held(const uint64_t *table, size_t table_len, const uint64_t *rings, size_t rings_len, uint64_t words[4]);
+
+/* ---- Inner calls. Premise of each: the stores are in order, opened by fanring_open and since then changed by these calls alone ---- */
+
+/* Premise: the stores are in order. Registers a sender with a lane of its own, if fewer than `most` lanes are registered. The slot freed last is
+   issued first, with generation + 1; else the next unused one. Answers FANRING_REGISTERED with the lane's key: words[0] slot, words[1] generation; or
+   refused 6, 7, 8, 9. */
+uint64_t fanring_inner_register_sender(
+    uint64_t *table, size_t table_len, const uint64_t *rings, size_t rings_len, uint64_t most, uint64_t words[4]);
+
+/* Premise: the stores are in order. Sends an item through the sender with this key. Answers FANRING_TAKEN with words[0] 1 if the lane's signal went
+   from idle to pending, else 0; or refused 10, 12, 11. */
+uint64_t fanring_inner_try_send(
+    uint64_t *table, size_t table_len, uint64_t *rings, size_t rings_len, uint64_t slot, uint64_t generation,
+    uint64_t item, uint64_t words[4]);
+
+/* Premise: the stores are in order. Sends an item and marks nothing; see fanring_inner_poll_all_lanes. Answers FANRING_TAKEN with words[0] 0; or
+   refused 10, 12, 11. */
+uint64_t fanring_inner_try_send_unsignaled(
+    uint64_t *table, size_t table_len, uint64_t *rings, size_t rings_len, uint64_t slot, uint64_t generation,
+    uint64_t item, uint64_t words[4]);
+
+/* Premise: the stores are in order. Drops the sender with this key: its lane is marked, and the living senders are one less. Answers FANRING_DONE; or
+   refused 10. */
+uint64_t fanring_inner_drop_sender(
+    uint64_t *table, size_t table_len, const uint64_t *rings, size_t rings_len, uint64_t slot, uint64_t generation,
+    uint64_t words[4]);
+
+/* Premise: the stores are in order. Receives one item (plain), in bursts of at most 64 of a lane. Answers FANRING_ITEM with words[0] item, words[1]
+   channel, words[2] slot, words[3] generation; FANRING_DISCONNECTED if there is no living sender and no registered lane; else FANRING_EMPTY; or
+   refused 6. */
+uint64_t fanring_inner_try_recv(uint64_t *table, size_t table_len, const uint64_t *rings, size_t rings_len, uint64_t words[4]);
+
+/* Premise: the stores are in order. Receives one item (fair): one of the front lane, which goes to the back. Answers as fanring_inner_try_recv. */
+uint64_t fanring_inner_try_recv_fair(uint64_t *table, size_t table_len, const uint64_t *rings, size_t rings_len, uint64_t words[4]);
+
+/* Premise: the stores are in order. Receives one item of the lane with this id, paused or not (targeted). Answers FANRING_ITEM with the words of
+   fanring_inner_try_recv; FANRING_EMPTY; FANRING_DISCONNECTED if the lane is empty and its sender dropped; or refused 6, 13. */
+uint64_t fanring_inner_try_recv_from(
+    uint64_t *table, size_t table_len, const uint64_t *rings, size_t rings_len,
+    uint64_t channel, uint64_t slot, uint64_t generation, uint64_t words[4]);
+
+/* Premise: the stores are in order. Receives items into out[0], out[1], .. in order, until the limit, or until nothing is queued and nothing is
+   ready; then every lane gives back its credit. Answers FANRING_ITEMS with words[0] their count; FANRING_EMPTY or FANRING_DISCONNECTED if there was
+   none, but 0 items if the limit is 0; or refused 6, 14. The rest of out is as it was. */
+uint64_t fanring_inner_try_recv_batch_into(
+    uint64_t *table, size_t table_len, const uint64_t *rings, size_t rings_len, uint64_t *out, size_t out_len,
+    uint64_t limit, uint64_t words[4]);
+
+/* Premise: the stores are in order. Takes the lane with this id out of all receives but targeted ones; its credit goes back. Answers FANRING_DONE; or
+   refused 6, 13. */
+uint64_t fanring_inner_pause(
+    uint64_t *table, size_t table_len, const uint64_t *rings, size_t rings_len,
+    uint64_t channel, uint64_t slot, uint64_t generation, uint64_t words[4]);
+
+/* Premise: the stores are in order. Brings a paused lane back; a lane that is not paused stays as it is. Answers FANRING_DONE; or refused 6, 13. */
+uint64_t fanring_inner_resume(
+    uint64_t *table, size_t table_len, const uint64_t *rings, size_t rings_len,
+    uint64_t channel, uint64_t slot, uint64_t generation, uint64_t words[4]);
+
+/* Premise: the stores are in order. Retires the lane with this id, with the items that it holds: none of them is handed out. Answers FANRING_DONE; or
+   refused 6, 13. */
+uint64_t fanring_inner_close_lane(
+    uint64_t *table, size_t table_len, const uint64_t *rings, size_t rings_len,
+    uint64_t channel, uint64_t slot, uint64_t generation, uint64_t words[4]);
+
+/* Premise: the stores are in order. Every lane gives back the places of its items that were handed out. Answers FANRING_DONE; or refused 6. */
+uint64_t fanring_inner_release_consumed(uint64_t *table, size_t table_len, const uint64_t *rings, size_t rings_len, uint64_t words[4]);
+
+/* Premise: the stores are in order. Queues every lane that is neither queued nor paused, so that items sent without a signal are found. Answers
+   FANRING_DONE; or refused 6. */
+uint64_t fanring_inner_poll_all_lanes(uint64_t *table, size_t table_len, const uint64_t *rings, size_t rings_len, uint64_t words[4]);
+
+/* Premise: the stores are in order. Closes the receiver: its lanes stay as they are, and their senders find it closed. Answers FANRING_DONE; or
+   refused 6. */
+uint64_t fanring_inner_close_receiver(uint64_t *table, size_t table_len, const uint64_t *rings, size_t rings_len, uint64_t words[4]);
+
+/* Premise: the stores are in order. Counts the items in rings of registered lanes, paused ones too, also where the receiver is closed. Answers
+   FANRING_HELD with words[0] the count. */
+uint64_t fanring_inner_held(const uint64_t *table, size_t table_len, const uint64_t *rings, size_t rings_len, uint64_t words[4]);
+
+#ifdef __cplusplus
+}
+#endif
+
+#endif

@@ -1,0 +1,40 @@
+//! An answer of the library, read from its tag and words.
+
+use crate::{LaneId, LaneKey};
+
+/// An answer, as the library gives it.
+#[derive(Debug, Clone, Copy, PartialEq, Eq)]
+pub(crate) enum Answer {
+    Done,
+    Registered(LaneKey),
+    /// Whether the lane's signal went from idle to pending.
+    Taken(bool),
+    Item(LaneId, u64),
+    /// How many; they are in the output.
+    Items(u64),
+    Empty,
+    Disconnected,
+    Held(u64),
+    /// Document 01's number.
+    Refused(u64),
+}
+
+impl Answer {
+    #[inline]
+    pub(crate) fn read(tag: u64, words: [u64; 4]) -> Self {
+        let key = |slot, generation| LaneKey { slot, generation };
+        let lane = LaneId { channel_id: words[1], key: key(words[2], words[3]) };
+        match tag {
+            0 => Self::Done,
+            1 => Self::Registered(key(words[0], words[1])),
+            2 => Self::Taken(words[0] == 1),
+            3 => Self::Item(lane, words[0]),
+            4 => Self::Items(words[0]),
+            5 => Self::Empty,
+            6 => Self::Disconnected,
+            7 => Self::Held(words[0]),
+            8 => Self::Refused(words[0]),
+            _ => unreachable!("the tags are 0 to 8, not {tag}"),
+        }
+    }
+}

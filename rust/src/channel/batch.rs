@@ -1,0 +1,138 @@
+//! The batch, and the calls on all lanes.
+
+use super::receiver::not_received;
+use super::{never, Channel};
+use crate::answer::Answer;
+use crate::{ReceiverClosed, TryRecvError};
+
+impl Channel {
+    /// Append up to `limit` immediately available items to `output`, returning the number appended.
+    ///
+    /// Lanes have the same turns as with [`try_recv`](Self::try_recv). In the end every lane's places of items already
+    /// taken are released. A zero limit receives nothing, releases, and returns `Ok(0)` even if the channel is
+    /// disconnected.
+    ///
+    /// For the call the vector is made `limit` longer, and afterwards it is cut to what was appended: ask for no more
+    /// than there is memory for. [`try_recv_batch_into_slice`](Self::try_recv_batch_into_slice) needs no vector.
+    ///
+    /// # Errors
+    ///
+    /// [`Empty`](TryRecvError::Empty) and [`Disconnected`](TryRecvError::Disconnected) when `limit` is not zero and
+    /// nothing was received, [`ReceiverClosed`](TryRecvError::ReceiverClosed), and
+    /// [`OutputShort`](TryRecvError::OutputShort) when the vector cannot grow so far; then nothing was taken.
+    ///
+    /// ```
+    /// use proved_fanring::{channel, TryRecvError};
+    ///
+    /// let mut channel = channel(4, 1);
+    /// let key = channel.register_sender(1).unwrap();
+    /// let mut batch = Vec::with_capacity(4);
+    /// assert_eq!(channel.try_recv_batch_into(&mut batch, 4), Err(TryRecvError::Empty));
+    /// for item in 0..3 {
+    ///     channel.try_send(key, item).unwrap();
+    /// }
+    /// assert_eq!(channel.try_recv_batch_into(&mut batch, 2), Ok(2));
+    /// assert_eq!(channel.try_recv_batch_into(&mut batch, 2), Ok(1));
+    /// assert_eq!(batch, [0, 1, 2]);
+    /// channel.drop_sender(key).unwrap();
+    /// assert_eq!(channel.try_recv_batch_into(&mut batch, 1), Err(TryRecvError::Disconnected));
+    /// ```
+    pub fn try_recv_batch_into(&mut self, output: &mut Vec<u64>, limit: usize) -> Result<usize, TryRecvError> {
+        let before = output.len();
+        // The receiver may be closed as well, which goes first: then the call answers so, for any output.
+        if output.try_reserve(limit).is_err() {
+            return self.try_recv_batch_into_slice(&mut [], limit);
+        }
+        output.resize(before + limit, 0);
+        let result = self.try_recv_batch_into_slice(&mut output[before..], limit);
+        output.truncate(before + result.unwrap_or(0));
+        result
+    }
+
+    /// Receive up to `limit` immediately available items into the front of `output`, returning the number received.
+    ///
+    /// [`try_recv_batch_into`](Self::try_recv_batch_into) without a vector. Words of the output beyond those received
+    /// stay as they were.
+    ///
+    /// # Errors
+    ///
+    /// [`Empty`](TryRecvError::Empty) and [`Disconnected`](TryRecvError::Disconnected) when `limit` is not zero and
+    /// nothing was received, [`ReceiverClosed`](TryRecvError::ReceiverClosed), and
+    /// [`OutputShort`](TryRecvError::OutputShort) when `output` is shorter than `limit`.
+    ///
+    /// ```
+    /// use proved_fanring::{channel, TryRecvError};
+    ///
+    /// let mut channel = channel(4, 1);
+    /// let key = channel.register_sender(1).unwrap();
+    /// for item in 1..4 {
+    ///     channel.try_send(key, item).unwrap();
+    /// }
+    /// let mut output = [0; 5];
+    /// assert_eq!(channel.try_recv_batch_into_slice(&mut output, 6), Err(TryRecvError::OutputShort));
+    /// assert_eq!(channel.try_recv_batch_into_slice(&mut output, 5), Ok(3));
+    /// assert_eq!(output, [1, 2, 3, 0, 0]);
+    /// ```
+    pub fn try_recv_batch_into_slice(&mut self, output: &mut [u64], limit: usize) -> Result<usize, TryRecvError> {
+        match self.stores.try_recv_batch_into(output, limit as u64) {
+            Answer::Items(count) => Ok(count as usize),
+            answer => Err(not_received(answer)),
+        }
+    }
+
+    /// Release the places of all items that were taken, in all lanes, so that senders can use them again.
+    ///
+    /// # Errors
+    ///
+    /// [`ReceiverClosed`].
+    ///
+    /// ```
+    /// use proved_fanring::{channel, TrySendError};
+    ///
+    /// let mut channel = channel(4, 1);
+    /// let key = channel.register_sender(1).unwrap();
+    /// for item in 0..4 {
+    ///     channel.try_send(key, item).unwrap();
+    /// }
+    /// channel.try_recv().unwrap();
+    /// channel.try_recv().unwrap();
+    /// assert_eq!(channel.try_send(key, 4), Err(TrySendError::Full(4)));
+    /// channel.release_consumed().unwrap();
+    /// assert!(channel.try_send(key, 4).is_ok());
+    /// assert!(channel.try_send(key, 5).is_ok());
+    /// ```
+    pub fn release_consumed(&mut self) -> Result<(), ReceiverClosed> {
+        all_lanes(self.stores.release_consumed())
+    }
+
+    /// Have the receives that follow look at every lane that is not paused, for items sent with
+    /// [`try_send_unsignaled`](Self::try_send_unsignaled) too.
+    ///
+    /// Keeps the order of lanes in the rotation and adds each other lane once. Takes no item and resumes no lane.
+    ///
+    /// # Errors
+    ///
+    /// [`ReceiverClosed`].
+    ///
+    /// ```
+    /// let mut channel = proved_fanring::channel(4, 2);
+    /// let one = channel.register_sender(2).unwrap();
+    /// let other = channel.register_sender(2).unwrap();
+    /// channel.try_send_unsignaled(other, 21).unwrap();
+    /// channel.try_send_unsignaled(one, 11).unwrap();
+    /// channel.poll_all_lanes().unwrap();
+    /// assert_eq!(channel.try_recv(), Ok((channel.lane(one), 11)));
+    /// assert_eq!(channel.try_recv(), Ok((channel.lane(other), 21)));
+    /// ```
+    pub fn poll_all_lanes(&mut self) -> Result<(), ReceiverClosed> {
+        all_lanes(self.stores.poll_all_lanes())
+    }
+}
+
+fn all_lanes(answer: Answer) -> Result<(), ReceiverClosed> {
+    match answer {
+        Answer::Done => Ok(()),
+        Answer::Refused(6) => Err(ReceiverClosed),
+        answer => never(answer),
+    }
+}

@@ -1,0 +1,141 @@
+//! The sender calls, by lane key.
+
+use super::{never, Channel};
+use crate::answer::Answer;
+use crate::{LaneKey, NoSuchSender, TryRegisterBoundedError, TrySendError};
+
+impl Channel {
+    /// Register a sender, with a lane of its own, if fewer than `max_lanes` lanes are registered.
+    ///
+    /// Includes dropped senders whose lanes the receiver has not yet observed empty, whether or not items remain.
+    /// Closed lanes stop counting immediately. The slot freed last is issued first.
+    ///
+    /// # Errors
+    ///
+    /// [`Disconnected`](TryRegisterBoundedError::Disconnected) when the receiver is closed,
+    /// [`AtCapacity`](TryRegisterBoundedError::AtCapacity) when the limit is reached,
+    /// [`NoFreeSlot`](TryRegisterBoundedError::NoFreeSlot) when all slots are in use, and
+    /// [`OlderSenderLives`](TryRegisterBoundedError::OlderSenderLives) when the lane of the slot due was closed and its
+    /// sender is not dropped yet.
+    ///
+    /// ```
+    /// use proved_fanring::{channel, LaneKey, TryRegisterBoundedError};
+    ///
+    /// let mut channel = channel(4, 2);
+    /// let key = channel.register_sender(1).unwrap();
+    /// assert_eq!(channel.register_sender(1), Err(TryRegisterBoundedError::AtCapacity));
+    /// channel.register_sender(2).unwrap();
+    /// assert_eq!(channel.register_sender(3), Err(TryRegisterBoundedError::NoFreeSlot));
+    ///
+    /// channel.close_lane(&channel.lane(key)).unwrap();
+    /// assert_eq!(channel.register_sender(3), Err(TryRegisterBoundedError::OlderSenderLives));
+    /// channel.drop_sender(key).unwrap();
+    /// assert_eq!(channel.register_sender(3), Ok(LaneKey { slot: 0, generation: 1 }));
+    /// ```
+    pub fn register_sender(&mut self, max_lanes: usize) -> Result<LaneKey, TryRegisterBoundedError> {
+        match self.stores.register_sender(max_lanes as u64) {
+            Answer::Registered(key) => Ok(key),
+            Answer::Refused(6) => Err(TryRegisterBoundedError::Disconnected),
+            Answer::Refused(7) => Err(TryRegisterBoundedError::AtCapacity),
+            Answer::Refused(8) => Err(TryRegisterBoundedError::NoFreeSlot),
+            Answer::Refused(9) => Err(TryRegisterBoundedError::OlderSenderLives),
+            answer => never(answer),
+        }
+    }
+
+    /// Send one item.
+    ///
+    /// `Ok` says whether the lane's signal went from idle to pending, which is where fanring would wake a receiver that
+    /// sleeps.
+    ///
+    /// Places of items that were taken remain occupied until the receiver releases them: see
+    /// [`release_consumed`](Self::release_consumed).
+    ///
+    /// # Errors
+    ///
+    /// [`Full`](TrySendError::Full) when this sender's lane is full,
+    /// [`Disconnected`](TrySendError::Disconnected) when the receiver or this lane was closed, and
+    /// [`NoSuchSender`](TrySendError::NoSuchSender) when no living sender has this key. Each gives the item back.
+    ///
+    /// ```
+    /// use proved_fanring::{channel, TrySendError};
+    ///
+    /// let mut channel = channel(2, 1);
+    /// let key = channel.register_sender(1).unwrap();
+    /// assert_eq!(channel.try_send(key, 1), Ok(true));
+    /// assert_eq!(channel.try_send(key, 2), Ok(false));
+    /// assert_eq!(channel.try_send(key, 3), Err(TrySendError::Full(3)));
+    /// channel.close_lane(&channel.lane(key)).unwrap();
+    /// assert_eq!(channel.try_send(key, 3), Err(TrySendError::Disconnected(3)));
+    /// channel.drop_sender(key).unwrap();
+    /// assert_eq!(channel.try_send(key, 3), Err(TrySendError::NoSuchSender(3)));
+    /// ```
+    #[inline]
+    pub fn try_send(&mut self, key: LaneKey, item: u64) -> Result<bool, TrySendError> {
+        match self.stores.try_send(key, item) {
+            Answer::Taken(woken) => Ok(woken),
+            answer => Err(not_sent(answer, item)),
+        }
+    }
+
+    /// Send one item without marking this lane ready.
+    ///
+    /// A targeted receive finds it; other receives do once the lane is marked or queued, by
+    /// [`poll_all_lanes`](Self::poll_all_lanes) or by an ordinary send on the same lane.
+    ///
+    /// # Errors
+    ///
+    /// As [`try_send`](Self::try_send).
+    ///
+    /// ```
+    /// use proved_fanring::{channel, TryRecvError};
+    ///
+    /// let mut channel = channel(4, 1);
+    /// let key = channel.register_sender(1).unwrap();
+    /// channel.try_send_unsignaled(key, 5).unwrap();
+    /// assert_eq!(channel.try_recv(), Err(TryRecvError::Empty));
+    /// channel.poll_all_lanes().unwrap();
+    /// assert_eq!(channel.try_recv(), Ok((channel.lane(key), 5)));
+    /// ```
+    #[inline]
+    pub fn try_send_unsignaled(&mut self, key: LaneKey, item: u64) -> Result<(), TrySendError> {
+        match self.stores.try_send_unsignaled(key, item) {
+            Answer::Taken(_) => Ok(()),
+            answer => Err(not_sent(answer, item)),
+        }
+    }
+
+    /// Drop a sender. Its items stay; its lane retires when a receive finds it empty.
+    ///
+    /// # Errors
+    ///
+    /// [`NoSuchSender`] when no living sender has this key.
+    ///
+    /// ```
+    /// use proved_fanring::{channel, NoSuchSender, TryRecvError};
+    ///
+    /// let mut channel = channel(4, 1);
+    /// let key = channel.register_sender(1).unwrap();
+    /// channel.try_send(key, 5).unwrap();
+    /// assert_eq!(channel.drop_sender(key), Ok(()));
+    /// assert_eq!(channel.drop_sender(key), Err(NoSuchSender));
+    /// assert_eq!(channel.try_recv(), Ok((channel.lane(key), 5)));
+    /// assert_eq!(channel.try_recv(), Err(TryRecvError::Disconnected));
+    /// ```
+    pub fn drop_sender(&mut self, key: LaneKey) -> Result<(), NoSuchSender> {
+        match self.stores.drop_sender(key) {
+            Answer::Done => Ok(()),
+            Answer::Refused(10) => Err(NoSuchSender),
+            answer => never(answer),
+        }
+    }
+}
+
+fn not_sent(answer: Answer, item: u64) -> TrySendError {
+    match answer {
+        Answer::Refused(10) => TrySendError::NoSuchSender(item),
+        Answer::Refused(11) => TrySendError::Full(item),
+        Answer::Refused(12) => TrySendError::Disconnected(item),
+        answer => never(answer),
+    }
+}

@@ -1,0 +1,90 @@
+//! The MPSC channel of fanring, one call at a time, over the library of this repository that is proved in Rattle.
+//!
+//! A [`Channel`] has one bounded ring, a *lane*, for each sender, and one receiver that takes items out of the lanes
+//! by turns. An item is a `u64`. Names of types, methods and errors are fanring's. What differs in form: there are no
+//! threads, no waits and no handles that borrow. One value owns the channel, and senders are named by their
+//! [`LaneKey`].
+//!
+//! ```
+//! use proved_fanring::{channel, TryRecvError};
+//!
+//! // Rings of 4 items, at most 2 lanes.
+//! let mut channel = channel(4, 2);
+//! let left = channel.register_sender(usize::MAX)?;
+//! let right = channel.register_sender(usize::MAX)?;
+//! channel.try_send(left, 11)?;
+//! channel.try_send(left, 12)?;
+//! channel.try_send(right, 21)?;
+//!
+//! // Each lane in its turn, and each lane's items in the order they were sent.
+//! assert_eq!(channel.try_recv_fair()?, (channel.lane(left), 11));
+//! assert_eq!(channel.try_recv_fair()?, (channel.lane(right), 21));
+//! assert_eq!(channel.try_recv_fair()?, (channel.lane(left), 12));
+//! assert_eq!(channel.try_recv_fair(), Err(TryRecvError::Empty));
+//!
+//! channel.drop_sender(left)?;
+//! channel.drop_sender(right)?;
+//! assert_eq!(channel.try_recv_fair(), Err(TryRecvError::Disconnected));
+//! # Ok::<(), Box<dyn std::error::Error>>(())
+//! ```
+//!
+//! # What is proved, and what is not
+//!
+//! Every call of a [`Channel`] is one call of the library, with the numbers that it was given. Of those the
+//! repository proves, among other things, by the names in its docs/CLAIMS.md:
+//!
+//! - each call does what the rules of document 01, the customer's scope paper, say (`call-alike`, `calls-as-rules`);
+//! - a refusal changes nothing (`refusals-change-nothing`);
+//! - the items handed out of a lane that was never closed, and then those in its ring, are its accepted sends, in
+//!   order (`items-in-order`);
+//! - a lane that has an item, sent by [`Channel::try_send`], and is neither paused nor closed waits for a bounded
+//!   number of other lanes' items (`lanes-wait-bounded`).
+//!
+//! This crate itself is Rust and is not proved: it makes the two stores, passes numbers on, and reads the answer.
+//! That the calls' one premise holds is argued at [`Channel`].
+//!
+//! # Refusals
+//!
+//! Document 01 gives each refusal a number. Each variant of an error has one number, which the method `refusal` tells;
+//! `Empty` and `Disconnected` of a receive are results and have none. A call that is refused has changed nothing.
+//!
+//! | No. | When | Variant |
+//! |---|---|---|
+//! | 1 | capacity 0, or above 65,536 | [`ChannelError::ZeroCapacity`], [`ChannelError::CapacityTooLarge`] |
+//! | 2 | slots 0, or above 8,192 | [`ChannelError::SlotsOutOfRange`] |
+//! | 3 | ring store short | [`ChannelError::RingStoreShort`] |
+//! | 4 | table store short | [`ChannelError::TableStoreShort`] |
+//! | 5 | store not in order | none: a channel's stores are in order |
+//! | 6 | receiver closed | [`ReceiverClosed`]; [`TryRecvError::ReceiverClosed`], [`LaneControlError::ReceiverClosed`], [`TryRegisterBoundedError::Disconnected`] |
+//! | 7 | as many registered lanes as the caller allows, or more | [`TryRegisterBoundedError::AtCapacity`] |
+//! | 8 | no slot left | [`TryRegisterBoundedError::NoFreeSlot`] |
+//! | 9 | the slot due still has a living older sender | [`TryRegisterBoundedError::OlderSenderLives`] |
+//! | 10 | no living sender has this key | [`TrySendError::NoSuchSender`], [`NoSuchSender`] |
+//! | 11 | ring full | [`TrySendError::Full`] |
+//! | 12 | lane closed, or the receiver | [`TrySendError::Disconnected`] |
+//! | 13 | no lane with this id | [`LaneControlError::NoSuchLane`], [`TryRecvError::NoSuchLane`] |
+//! | 14 | output shorter than the limit | [`TryRecvError::OutputShort`] |
+//!
+//! Number 15 is of the replay program and not of a call.
+
+#![deny(missing_docs)]
+#![deny(unsafe_code)]
+#![deny(unsafe_op_in_unsafe_fn)]
+
+#[cfg(not(all(target_arch = "x86_64", target_os = "linux")))]
+compile_error!("the proved library is built for Linux on x86-64");
+
+mod answer;
+#[allow(unsafe_code)]
+mod calls;
+mod channel;
+mod error;
+mod lane;
+mod opening;
+
+pub use channel::Channel;
+pub use error::{
+    ChannelError, LaneControlError, NoSuchSender, ReceiverClosed, TryRecvError, TryRegisterBoundedError, TrySendError,
+};
+pub use lane::{LaneId, LaneKey};
+pub use opening::{channel, try_channel, Opening, Stores, MAX_CAPACITY_PER_SENDER, MAX_SLOTS};

@@ -1,0 +1,111 @@
+//! Document 01's checked examples, as far as answers show them.
+
+use proved_fanring::{channel, Channel, LaneKey, Opening, TryRecvError, TrySendError};
+
+/// A channel, and the keys of so many senders.
+fn with_senders(capacity: usize, senders: usize) -> (Channel, Vec<LaneKey>) {
+    let mut channel = channel(capacity, senders);
+    let keys = (0..senders).map(|_| channel.register_sender(senders).unwrap()).collect();
+    (channel, keys)
+}
+
+/// How many receives from a full lane it takes until a send is accepted.
+fn release_batch(capacity: usize) -> usize {
+    let (mut channel, keys) = with_senders(capacity, 1);
+    for item in 0..channel.capacity_per_sender() {
+        channel.try_send(keys[0], item as u64).unwrap();
+    }
+    for taken in 0.. {
+        match channel.try_send(keys[0], 5) {
+            Ok(_) => return taken,
+            Err(error) => assert_eq!(error, TrySendError::Full(5)),
+        }
+        assert_eq!(channel.try_recv(), Ok((channel.lane(keys[0]), taken as u64)));
+    }
+    unreachable!()
+}
+
+#[test]
+fn credit_goes_back_in_batches() {
+    for (capacity, rounded, batch) in
+        [(1, 1, 1), (2, 2, 2), (4, 4, 4), (64, 64, 64), (100, 128, 64), (256, 256, 128), (65_536, 65_536, 32_768)]
+    {
+        assert_eq!(channel(capacity, 1).capacity_per_sender(), rounded);
+        assert_eq!(release_batch(capacity), batch, "capacity {capacity}");
+    }
+}
+
+#[test]
+fn fair_takes_lanes_by_turns() {
+    let (mut channel, keys) = with_senders(4, 2);
+    for key in [keys[1], keys[0]] {
+        for item in 0..3 {
+            channel.try_send(key, item).unwrap();
+        }
+    }
+    for item in 0..3 {
+        for key in &keys {
+            assert_eq!(channel.try_recv_fair(), Ok((channel.lane(*key), item)));
+        }
+    }
+    assert_eq!(channel.try_recv_fair(), Err(TryRecvError::Empty));
+}
+
+#[test]
+fn plain_gives_64_of_a_lane_in_one_turn() {
+    let (mut channel, keys) = with_senders(128, 2);
+    for item in 0..70 {
+        channel.try_send(keys[0], item).unwrap();
+    }
+    channel.try_send(keys[1], 100).unwrap();
+    let items: Vec<u64> = (0..71).map(|_| channel.try_recv().unwrap().1).collect();
+    let expected: Vec<u64> = (0..64).chain([100]).chain(64..70).collect();
+    assert_eq!(items, expected);
+    assert_eq!(channel.try_recv(), Err(TryRecvError::Empty));
+}
+
+#[test]
+fn an_item_after_a_spent_budget_and_a_pause() {
+    let (mut channel, keys) = with_senders(64, 2);
+    for item in 0..64 {
+        channel.try_send(keys[0], item).unwrap();
+    }
+    for item in 0..64 {
+        assert_eq!(channel.try_recv(), Ok((channel.lane(keys[0]), item)));
+    }
+    channel.pause(&channel.lane(keys[0])).unwrap();
+    channel.try_send(keys[1], 100).unwrap();
+    assert_eq!(channel.try_recv(), Ok((channel.lane(keys[1]), 100)));
+}
+
+#[test]
+fn unsignaled_is_found_after_poll_all() {
+    let (mut channel, keys) = with_senders(4, 1);
+    channel.try_send_unsignaled(keys[0], 5).unwrap();
+    assert_eq!(channel.try_recv(), Err(TryRecvError::Empty));
+    channel.poll_all_lanes().unwrap();
+    assert_eq!(channel.try_recv(), Ok((channel.lane(keys[0]), 5)));
+}
+
+#[test]
+fn the_slot_freed_last_is_issued_first() {
+    let (mut channel, keys) = with_senders(4, 2);
+    for key in keys {
+        channel.drop_sender(key).unwrap();
+        let lane = channel.lane(key);
+        assert_eq!(channel.try_recv_from(&lane), Err(TryRecvError::Disconnected));
+    }
+    assert_eq!(channel.register_sender(2), Ok(LaneKey { slot: 1, generation: 1 }));
+    assert_eq!(channel.register_sender(2), Ok(LaneKey { slot: 0, generation: 1 }));
+}
+
+#[test]
+fn a_slot_at_the_last_generation_is_not_issued_again() {
+    let opening = Opening { first_generation: u64::MAX, ..Opening::new(4, 2) };
+    let mut channel = opening.open().unwrap();
+    let key = channel.register_sender(2).unwrap();
+    assert_eq!(key, LaneKey { slot: 0, generation: u64::MAX });
+    channel.drop_sender(key).unwrap();
+    assert_eq!(channel.try_recv(), Err(TryRecvError::Disconnected));
+    assert_eq!(channel.register_sender(2), Ok(LaneKey { slot: 1, generation: u64::MAX }));
+}

@@ -1,0 +1,281 @@
+//! Random calls against a small model: a queue of items for each lane.
+
+use std::collections::{BTreeMap, BTreeSet, VecDeque};
+
+use proved_fanring::{
+    Channel, LaneControlError, LaneKey, Opening, TryRecvError, TryRegisterBoundedError, TrySendError,
+};
+
+struct Random(u64);
+
+impl Random {
+    fn below(&mut self, bound: u64) -> u64 {
+        self.0 ^= self.0 << 13;
+        self.0 ^= self.0 >> 7;
+        self.0 ^= self.0 << 17;
+        (self.0 >> 11) % bound
+    }
+}
+
+/// A lane as the answers tell of it. A lane that has retired stays here, empty.
+#[derive(Default)]
+struct Lane {
+    /// Items not yet handed out, oldest first, and whether each was sent ordinarily.
+    items: VecDeque<(u64, bool)>,
+    /// Items taken since their places were last released for certain: at most so many places are still occupied.
+    taken: usize,
+    sender_dropped: bool,
+    paused: bool,
+    closed: bool,
+}
+
+struct Run {
+    channel: Channel,
+    lanes: BTreeMap<LaneKey, Lane>,
+    sends: u64,
+    receiver_closed: bool,
+    random: Random,
+    /// Items handed out, and the refusals that there were: a run that shows little is no test.
+    handed_out: u64,
+    refusals: BTreeSet<u64>,
+}
+
+impl Run {
+    fn new(seed: u64) -> Self {
+        let mut random = Random(seed.wrapping_mul(0x9e37_79b9_7f4a_7c15) | 1);
+        let capacity = [1, 2, 4, 7, 64, 128][random.below(6) as usize];
+        let slots = 1 + random.below(6) as usize;
+        let opening = Opening { first_cursor: 0_u64.wrapping_sub(random.below(300)), ..Opening::new(capacity, slots) };
+        Self {
+            channel: opening.open().unwrap(),
+            lanes: BTreeMap::new(),
+            sends: 0,
+            receiver_closed: false,
+            random,
+            handed_out: 0,
+            refusals: BTreeSet::new(),
+        }
+    }
+
+    /// Most often the key of a lane that is in use; or one that was; or one that never was.
+    fn any_key(&mut self) -> LaneKey {
+        let which = self.random.below(50);
+        let in_use = |lane: &Lane| !lane.closed && !(lane.sender_dropped && lane.items.is_empty());
+        let keys: Vec<LaneKey> =
+            self.lanes.iter().filter(|(_, lane)| which < 5 || in_use(lane)).map(|(key, _)| *key).collect();
+        if which == 0 || keys.is_empty() {
+            return LaneKey { slot: self.random.below(9), generation: 1_000_000 };
+        }
+        keys[self.random.below(keys.len() as u64) as usize]
+    }
+
+    fn register(&mut self) {
+        let most = 1 + self.random.below(7) as usize;
+        let result = self.channel.register_sender(most);
+        self.refusals.extend(result.err().map(|error| error.refusal()));
+        match result {
+            Ok(key) => assert!(self.lanes.insert(key, Lane::default()).is_none(), "{key:?} was given out before"),
+            Err(TryRegisterBoundedError::Disconnected) => assert!(self.receiver_closed),
+            Err(TryRegisterBoundedError::AtCapacity) => {
+                assert!(self.lanes.values().filter(|lane| !lane.closed).count() >= most);
+            }
+            Err(TryRegisterBoundedError::NoFreeSlot) => assert!(self.lanes.len() >= self.channel.slots()),
+            Err(TryRegisterBoundedError::OlderSenderLives) => {
+                assert!(self.lanes.values().any(|lane| lane.closed && !lane.sender_dropped));
+            }
+        }
+    }
+
+    fn send(&mut self, ordinary: bool) {
+        let key = self.any_key();
+        self.sends += 1;
+        // The lane can be told from the item, for the batch, which answers with items alone.
+        let item = key.slot << 48 | key.generation << 24 | self.sends;
+        let result = if ordinary {
+            self.channel.try_send(key, item).map(|_| ())
+        } else {
+            self.channel.try_send_unsignaled(key, item)
+        };
+        self.refusals.extend(result.err().map(|error| error.refusal()));
+        let capacity = self.channel.capacity_per_sender();
+        let lane = self.lanes.get_mut(&key);
+        match (result, lane) {
+            (Ok(()), Some(lane)) => {
+                assert!(!lane.sender_dropped && !lane.closed && !self.receiver_closed && lane.items.len() < capacity);
+                lane.items.push_back((item, ordinary));
+            }
+            (Err(TrySendError::Full(back)), Some(lane)) => {
+                assert_eq!(back, item);
+                assert!(lane.items.len() + lane.taken >= capacity && !lane.closed && !lane.sender_dropped);
+            }
+            (Err(TrySendError::Disconnected(back)), Some(lane)) => {
+                assert_eq!(back, item);
+                assert!((lane.closed || self.receiver_closed) && !lane.sender_dropped);
+            }
+            (Err(TrySendError::NoSuchSender(back)), lane) => {
+                assert_eq!(back, item);
+                assert!(lane.is_none_or(|lane| lane.sender_dropped));
+            }
+            (result, None) => panic!("{key:?} was never given out: {result:?}"),
+        }
+    }
+
+    fn drop_sender(&mut self) {
+        // A closed lane's sender too, or its slot would not be issued again.
+        let closed = self.lanes.iter().find(|(_, lane)| lane.closed && !lane.sender_dropped).map(|(key, _)| *key);
+        let key = closed.unwrap_or_else(|| self.any_key());
+        let living = self.lanes.get(&key).is_some_and(|lane| !lane.sender_dropped);
+        assert_eq!(self.channel.drop_sender(key).is_ok(), living);
+        if let Some(lane) = self.lanes.get_mut(&key) {
+            lane.sender_dropped = true;
+        }
+    }
+
+    /// An item was handed out: it is the oldest of its lane.
+    fn handed_out(&mut self, key: LaneKey, item: u64, targeted: bool) {
+        let lane = self.lanes.get_mut(&key).expect("a lane that was given out");
+        assert_eq!(lane.items.pop_front().map(|(item, _)| item), Some(item), "of {key:?}");
+        assert!(!lane.closed && (targeted || !lane.paused) && !self.receiver_closed);
+        lane.taken += 1;
+        self.handed_out += 1;
+    }
+
+    /// A receive took nothing.
+    fn nothing(&self, error: TryRecvError) {
+        assert_eq!(error == TryRecvError::ReceiverClosed, self.receiver_closed);
+        if self.receiver_closed {
+            return;
+        }
+        for (key, lane) in &self.lanes {
+            let waits = !lane.paused && lane.items.iter().any(|(_, ordinary)| *ordinary);
+            assert!(!waits, "{key:?} has items, and the answer is {error:?}");
+        }
+        let gone = self.lanes.values().all(|lane| lane.sender_dropped && lane.items.is_empty());
+        assert_eq!(error, if gone { TryRecvError::Disconnected } else { TryRecvError::Empty });
+    }
+
+    fn receive(&mut self, fair: bool) {
+        match if fair { self.channel.try_recv_fair() } else { self.channel.try_recv() } {
+            Ok((lane, item)) => {
+                assert_eq!(lane, self.channel.lane(lane.key));
+                self.handed_out(lane.key, item, false);
+            }
+            Err(error) => self.nothing(error),
+        }
+    }
+
+    fn receive_from(&mut self) {
+        let key = self.any_key();
+        match self.channel.try_recv_from(&self.channel.lane(key)) {
+            Ok(item) => self.handed_out(key, item, true),
+            Err(error) => {
+                assert_eq!(error == TryRecvError::ReceiverClosed, self.receiver_closed);
+                let empty = self.lanes.get(&key).is_none_or(|lane| lane.items.is_empty());
+                assert!(empty || self.receiver_closed, "{key:?} has items, and the answer is {error:?}");
+            }
+        }
+    }
+
+    fn receive_batch(&mut self) {
+        let limit = self.random.below(200) as usize;
+        let mut output = vec![7, 8];
+        match self.channel.try_recv_batch_into(&mut output, limit) {
+            Ok(count) => {
+                assert_eq!(count, output.len() - 2);
+                assert!(count <= limit && (count > 0 || limit == 0));
+                for item in &output[2..] {
+                    let key = LaneKey { slot: item >> 48, generation: item >> 24 & 0xff_ffff };
+                    self.handed_out(key, *item, false);
+                }
+                self.released();
+            }
+            Err(error) => {
+                self.nothing(error);
+                if !self.receiver_closed {
+                    self.released();
+                }
+            }
+        }
+        assert_eq!(output[..2], [7, 8]);
+    }
+
+    fn released(&mut self) {
+        self.lanes.values_mut().for_each(|lane| lane.taken = 0);
+    }
+
+    fn control(&mut self) {
+        let key = self.any_key();
+        let id = self.channel.lane(key);
+        let which = self.random.below(10);
+        let result = match which {
+            0 => self.channel.close_lane(&id),
+            1..=3 => self.channel.pause(&id),
+            _ => self.channel.resume(&id),
+        };
+        self.refusals.extend(result.err().map(|error| error.refusal()));
+        match (result, self.lanes.get_mut(&key)) {
+            (Ok(()), Some(lane)) => {
+                assert!(!lane.closed && !self.receiver_closed);
+                match which {
+                    0 => *lane = Lane { closed: true, sender_dropped: lane.sender_dropped, ..Lane::default() },
+                    1..=3 => (lane.paused, lane.taken) = (true, 0),
+                    _ => lane.paused = false,
+                }
+            }
+            (Err(LaneControlError::ReceiverClosed), _) => assert!(self.receiver_closed),
+            (Err(LaneControlError::NoSuchLane), lane) => {
+                // Closed, or retired: then it is empty and its sender is gone.
+                assert!(lane.is_none_or(|lane| lane.closed || lane.sender_dropped && lane.items.is_empty()));
+            }
+            (Ok(()), None) => panic!("{key:?} was never given out"),
+        }
+    }
+
+    fn whole_receiver(&mut self) {
+        let which = self.random.below(60);
+        let result = match which {
+            0 => self.channel.close_receiver(),
+            1..=20 => self.channel.release_consumed(),
+            _ => self.channel.poll_all_lanes(),
+        };
+        assert_eq!(result.is_err(), self.receiver_closed);
+        match which {
+            0 => self.receiver_closed = true,
+            1..=20 if result.is_ok() => self.released(),
+            _ => {}
+        }
+    }
+
+    fn call(&mut self) {
+        match self.random.below(100) {
+            0..=6 => self.register(),
+            7..=44 => self.send(true),
+            45..=50 => self.send(false),
+            51..=53 => self.drop_sender(),
+            54..=69 => self.receive(false),
+            70..=82 => self.receive(true),
+            83..=87 => self.receive_from(),
+            88..=91 => self.receive_batch(),
+            92..=97 => self.control(),
+            _ => self.whole_receiver(),
+        }
+        let held: usize = self.lanes.values().map(|lane| lane.items.len()).sum();
+        assert_eq!(self.channel.held(), held as u64);
+    }
+}
+
+#[test]
+fn items_come_out_as_they_went_in() {
+    let mut handed_out = 0;
+    let mut refusals = BTreeSet::new();
+    for seed in 1..=400 {
+        let mut run = Run::new(seed);
+        for _ in 0..1_000 {
+            run.call();
+        }
+        handed_out += run.handed_out;
+        refusals.append(&mut run.refusals);
+    }
+    assert!(handed_out > 50_000, "only {handed_out} items");
+    assert!((6..=13).all(|number| refusals.contains(&number)), "only refusals {refusals:?}");
+}
