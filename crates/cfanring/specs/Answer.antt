@@ -8,7 +8,7 @@ use Rattle.model.specs.declared.Answer.the-variants.{Done, Registered, Taken, I
 use Rattle.model.specs.Answers.{bit, number}
 use Rattle.store.specs.Words.{Words}
 
--- "FANRING_DONE 0", and so on: the tags of include/fanring.h
+-- "FANRING_DONE = 0" and the others: enum fanring_tag of include/fanring.h
 unfoldable pub tag : Answer → ℕ
 tag Done = 0
 tag (Registered k) = 1

@@ -4,7 +4,6 @@ use mathlib.Core.Path.{_≡_, refl}
 use mathlib.Core.Bool.{true}
 use mathlib.Core.List.{List, [], _∷_, map}
 use Prim.Native.Nat.{ℕ}
-use lib.ListN.{set}
 use Rattle.model.specs.declared.LaneKey.{LaneKey}
 use Rattle.model.specs.declared.LaneId.{LaneId}
 use Rattle.model.specs.declared.Refusal.the-variants.{Full}
@@ -34,5 +33,5 @@ answers-told :
     ∷ (7 ∷ 5 ∷ 9 ∷ 9 ∷ 9 ∷ [])
     ∷ (8 ∷ 11 ∷ 9 ∷ 9 ∷ 9 ∷ [])
     ∷ []
-unfolding gets key id tag put number set
+unfolding gets key id tag put number
 answers-told = refl
