@@ -1,13 +1,15 @@
 -- `replay::calls::answer` meets its contract.
 -- Assumes nothing.
-use mathlib.Core.Path.{refl}
-use Rattle.replay.proofs.CallLaws.{unchanged}
+use Rattle.replay.proofs.CallLaws.{open-answered, as-asked}
 use borrow.Author.Needs.{needs}
 use Rattle.replay.proofs.calls.answer.Statement.{statement}
 use Rattle.replay.proofs.calls.answer.Tie as tie
 
 returns : tie.Need-returns
-returns c = unchanged _ (c .«open» .ensures .0) (c .«open» .ensures .1) (c .«open» .ensures .2) refl
+returns c = open-answered _ _ _ (c .before .before .before .before .before .asked .given .1) (c .«open» .ensures)
+
+returns-2 : tie.Need-returns-2
+returns-2 c = as-asked _ (c .before .before .before .before .before .asked2 .given .1) (c .call .ensures)
 
 pub answer-spec : {M : Type 1} → statement M
 answer-spec =
@@ -18,4 +20,4 @@ answer-spec =
     (λ c. search needs)
     (λ c κs. search needs)
     returns
-    (λ c. search needs))
+    returns-2)

@@ -1,6 +1,5 @@
 // Document 01's replay program: reads records from standard input, and writes one line for each.
 mod calls;
-mod outer;
 mod serve;
 
 ghost use mathlib.Core.Path.{_≡_};

@@ -5,7 +5,7 @@ use mathlib.Core.Path.{sym}
 use native.Mathlib.Omega.{arith}
 use lib.ListN.{length}
 use lib.Seq.{length-take-le}
-use Rattle.replay.proofs.ServeLaws.{Serving, serving-start, serving-more, served-to}
+use Rattle.replay.proofs.ServeLaws.{Serving, serving-start, serving-more, served-to, not-answered}
 use borrow.Author.Needs.{needs}
 use Rattle.replay.proofs.serve.serve.Statement.{statement}
 use Rattle.replay.proofs.serve.serve.Tie as tie
@@ -24,10 +24,10 @@ turn-requires : tie.Need-turn-requires Inv-loop μ-loop
 turn-requires c κs = (c .before .before .before .before .loop .inv .inside, omega (arith, c .before .before .before .before .loop .inv .room))
 
 returns : tie.Need-returns Inv-loop μ-loop
-returns c = (served-to _ (c .before .before .before .before .before .before .loop .inv) (c .before .turn .ensures), (omega (arith, c .before .turn .ensures .inside, length-take-le (c .before .before .before .before .before .before .before .before .before .args .have) (c .before .before .before .before .before .before .before .before .before .args .buffer .now) (c .before .before .before .before .before .before .before .before .before .pre .1)), omega (arith, c .before .turn .ensures .room, c .before .before .before .before .before .before .loop .inv .room)))
+returns c = (served-to _ (c .before .before .before .before .before .before .loop .inv) (c .before .turn .ensures) (λ f. absurd (not-answered (c .match .keys2) f)), (omega (arith, c .before .turn .ensures .inside, length-take-le (c .before .before .before .before .before .before .before .before .before .args .have) (c .before .before .before .before .before .before .before .before .before .args .buffer .now) (c .before .before .before .before .before .before .before .before .before .pre .1)), omega (arith, c .before .turn .ensures .room, c .before .before .before .before .before .before .loop .inv .room)))
 
 returns-2 : tie.Need-returns-2 Inv-loop μ-loop
-returns-2 c = (served-to _ (c .before .before .before .before .before .before .before .before .loop .inv) (c .before .before .before .turn .ensures), (omega (arith, c .before .before .before .turn .ensures .inside, length-take-le (c .before .before .before .before .before .before .before .before .before .before .before .args .have) (c .before .before .before .before .before .before .before .before .before .before .before .args .buffer .now) (c .before .before .before .before .before .before .before .before .before .before .before .pre .1)), omega (arith, c .before .before .before .turn .ensures .room, c .before .before .before .before .before .before .before .before .loop .inv .room)))
+returns-2 c = (served-to _ (c .before .before .before .before .before .before .before .before .loop .inv) (c .before .before .before .turn .ensures) (λ f. c .if1 .taken), (omega (arith, c .before .before .before .turn .ensures .inside, length-take-le (c .before .before .before .before .before .before .before .before .before .before .before .args .have) (c .before .before .before .before .before .before .before .before .before .before .before .args .buffer .now) (c .before .before .before .before .before .before .before .before .before .before .before .pre .1)), omega (arith, c .before .before .before .turn .ensures .room, c .before .before .before .before .before .before .before .before .loop .inv .room)))
 
 loop-less : tie.Need-loop-less Inv-loop μ-loop
 loop-less c = omega (arith, c .before .before .before .turn .ensures .forward (c .before .enum-told .given .1), c .before .before .before .turn .ensures .inside)

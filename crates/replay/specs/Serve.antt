@@ -11,12 +11,12 @@ use Rattle.wire.specs.declared.record.Record.{Record}
 use Rattle.wire.specs.declared.record.Parsed.{Parsed}
 use Rattle.wire.specs.declared.record.Parsed.the-variants as Parsed
 use Rattle.wire.specs.Record.{parse}
+use Rattle.wire.specs.Stream.{Reads}
 use Rattle.wire.specs.Text.{Puts, answerText}
 use Rattle.replay.specs.declared.serve.Found.{Found}
 use Rattle.replay.specs.declared.serve.Found.the-variants.{Incomplete, Malformed, Answered}
 use Rattle.replay.specs.declared.serve.Reached.{Reached}
-use Rattle.replay.specs.Calls.{Stores}
-use Rattle.replay.specs.Calls.{Answered as AnsweredBy}
+use Rattle.replay.specs.Calls.{Stores, answered, lineOf, linesOf, storesAfter}
 
 -- the line of a malformed record
 abbrev pub malformedLine : List ℕ
@@ -26,8 +26,7 @@ malformedLine = answerText (Answer.Refused Refusal.Malformed) []
 abbrev pub TurnedBy : Parsed → ℕ → ℕ → Stores → Stores → List ℕ → List ℕ → Reached → Type 0
 TurnedBy Parsed.Incomplete at end s u text v t = (t .found ≡ Incomplete) × (t .at ≡ at) × (t .end ≡ end) × (u ≡ s) × (v ≡ text)
 TurnedBy Parsed.Malformed at end s u text v t = (t .found ≡ Malformed) × (t .at ≡ at) × (u ≡ s) × Puts text end malformedLine v (t .end)
-TurnedBy (Parsed.Whole r n) at end s u text v t =
-    (t .found ≡ Answered) × (t .at ≡ at + n) × ((a : Answer) × AnsweredBy r s u a × Puts text end (answerText a (u .out)) v (t .end))
+TurnedBy (Parsed.Whole r n) at end s u text v t = (t .found ≡ Answered) × (t .at ≡ at + n) × (u ≡ answered r s .1) × Puts text end (lineOf r s) v (t .end)
 
 pub record Turned (input : List ℕ) (at end : ℕ) (s u : Stores) (text v : List ℕ) (t : Reached) : Type 0 where
   pub inside : t .at ≤ length input
@@ -35,28 +34,23 @@ pub record Turned (input : List ℕ) (at end : ℕ) (s u : Stores) (text v : Lis
   pub room : t .end ≤ end + 1371
   pub does : TurnedBy (parse (drop at input)) at end s u text v t
 
--- The records from one place of the input to another, answered in their order; the lines are those of the answers.
-pub data Serves (input : List ℕ) (from : ℕ) (s : Stores) : List ℕ → ℕ → Stores → Type 0 where
-  none : Serves input from s [] from s
-  more : {lines : List ℕ} {at n : ℕ} {u w : Stores} {r : Record} {a : Answer} → Serves input from s lines at u
-      → parse (drop at input) ≡ Parsed.Whole r n → AnsweredBy r u w a
-      → Serves input from s (lines ++ answerText a (w .out)) (at + n) w
-
--- what stands where a run stopped, and the line that it has left for it
-abbrev pub StopsAt : Found → Parsed → Type 0
-StopsAt Incomplete p = p ≡ Parsed.Incomplete
-StopsAt Malformed p = p ≡ Parsed.Malformed
-StopsAt Answered p = Unit {0}
+-- what stands where a run stopped, or else that the text has no room for one more line, whatever it is; and the line that the run has left for it
+abbrev pub StopsAt : Found → Parsed → ℕ → Type 0
+StopsAt Incomplete p end = p ≡ Parsed.Incomplete
+StopsAt Malformed p end = p ≡ Parsed.Malformed
+StopsAt Answered p end = 64165 < end
 
 abbrev pub lastLine : Found → List ℕ
 lastLine Incomplete = []
 lastLine Malformed = malformedLine
 lastLine Answered = []
 
+-- The records from one place of the input to another are answered in their order: the stores are those after them, and the text has their lines.
 pub record Served (input : List ℕ) (from : ℕ) (s u : Stores) (text v : List ℕ) (t : Reached) : Type 0 where
   pub inside : t .at ≤ length input
   pub room : t .end ≤ 65536
-  pub lines : List ℕ
-  pub served : Serves input from s lines (t .at) u
-  pub stops : StopsAt (t .found) (parse (drop (t .at) input))
-  pub put : Puts text 0 (lines ++ lastLine (t .found)) v (t .end)
+  pub records : List Record
+  pub reads : Reads (drop from input) records (drop (t .at) input)
+  pub stores : u ≡ storesAfter records s
+  pub stops : StopsAt (t .found) (parse (drop (t .at) input)) (t .end)
+  pub put : Puts text 0 (linesOf records s ++ lastLine (t .found)) v (t .end)
