@@ -2,7 +2,7 @@
 ghost use mathlib.Core.Path.{_≡_};
 ghost use Rattle.store.specs.Order.{StoreInOrder};
 ghost use Rattle.receives.specs.Receive.{tryRecv, tryRecvFair};
-ghost use Rattle.receives.specs.Target.{tryRecvFrom};
+ghost use Rattle.targeted.specs.Target.{tryRecvFrom};
 ghost use Rattle.bulk.specs.Drain.{batchInto};
 ghost use Rattle.cfanring.specs.Answer.{told, toldInto};
 use crate::answer;
@@ -10,7 +10,7 @@ use bulk::drain;
 use model::LaneId;
 use model::LaneKey;
 use receives::receiver as plain;
-use receives::target;
+use targeted::target;
 
 // Receives one item.
 #[no_mangle]

@@ -1,7 +1,7 @@
 // The receives, on any stores.
 ghost use mathlib.Core.Path.{_≡_};
 ghost use Rattle.receives.specs.Receive.{tryRecv, tryRecvFair};
-ghost use Rattle.receives.specs.Target.{tryRecvFrom};
+ghost use Rattle.targeted.specs.Target.{tryRecvFrom};
 ghost use Rattle.bulk.specs.Drain.{batchInto};
 ghost use Rattle.fanring.specs.Checked.{checked, checkedInto};
 ghost use Rattle.cfanring.specs.Answer.{told, toldInto};

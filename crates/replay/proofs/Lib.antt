@@ -1,0 +1,4 @@
+pub mod ServeLaws
+pub mod ShiftLaws
+pub mod CallLaws
+pub mod ProgramLaws
