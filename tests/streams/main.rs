@@ -9,6 +9,7 @@
 //! every opening a large capacity, up to 65,536, as far as the stores hold it, and so many records that its rings fill.
 //! --shifted gives every opening a first cursor and generation near 2^64, which the original does not have.
 
+mod random;
 #[allow(dead_code)]
 mod records;
 #[allow(dead_code)]
@@ -18,33 +19,9 @@ mod text;
 
 use std::io::{self, BufWriter, Write};
 
+use random::Random;
 use records::*;
 use rules::{Rules, Slot, State};
-
-/// Splitmix64.
-struct Random(u64);
-
-impl Random {
-    fn next(&mut self) -> u64 {
-        self.0 = self.0.wrapping_add(0x9e37_79b9_7f4a_7c15);
-        let mut z = self.0;
-        z = (z ^ (z >> 30)).wrapping_mul(0xbf58_476d_1ce4_e5b9);
-        z = (z ^ (z >> 27)).wrapping_mul(0x94d0_49bb_1331_11eb);
-        z ^ (z >> 31)
-    }
-
-    fn below(&mut self, n: u64) -> u64 {
-        self.next() % n
-    }
-
-    fn one_in(&mut self, n: u64) -> bool {
-        self.below(n) == 0
-    }
-
-    fn pick<T: Copy>(&mut self, all: &[T]) -> T {
-        all[self.below(all.len() as u64) as usize]
-    }
-}
 
 /// What a style does next; some are runs of several records.
 #[derive(Clone, Copy, PartialEq)]
