@@ -267,7 +267,7 @@ impl<'a> Episode<'a> {
                     table[row + column] = table[row + column].wrapping_add(by);
                 }
             }
-            3 if self.random.one_in(4) => match self.random.below(3) {
+            3 if table[4] > 4_096 || table[8] > 2_048 || self.random.one_in(4) => match self.random.below(3) {
                 0 => table[4] = table[4].wrapping_add(1),
                 1 => table[8] = table[8].wrapping_mul(2),
                 _ => table[8] /= 2,
