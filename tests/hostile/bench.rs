@@ -43,8 +43,8 @@ pub struct Bench {
     pub counts: Counts,
 }
 
-fn lend(to: &mut Guarded, before: &mut Vec<u64>, words: &[u64]) {
-    to.resize(words.len());
+fn lend(to: &mut Guarded, before: &mut Vec<u64>, words: &[u64], in_front: bool) {
+    to.place(words.len(), in_front);
     to.words().copy_from_slice(words);
     before.clear();
     before.extend_from_slice(words);
@@ -52,13 +52,11 @@ fn lend(to: &mut Guarded, before: &mut Vec<u64>, words: &[u64]) {
 
 impl Bench {
     pub fn new() -> Self {
-        let mut words = Guarded::new(4);
-        words.resize(4);
         Self {
             table: Guarded::new(MOST_TABLE),
             rings: Guarded::new(MOST_RINGS),
             output: Guarded::new(MOST_OUTPUT),
-            words,
+            words: Guarded::new(4),
             table_before: Vec::new(),
             rings_before: Vec::new(),
             output_before: Vec::new(),
@@ -67,11 +65,12 @@ impl Bench {
         }
     }
 
-    /// Lends stores and an output with these words.
-    pub fn lend(&mut self, table: &[u64], rings: &[u64], output: &[u64]) {
-        lend(&mut self.table, &mut self.table_before, table);
-        lend(&mut self.rings, &mut self.rings_before, rings);
-        lend(&mut self.output, &mut self.output_before, output);
+    /// Lends stores and an output with these words; they begin at a guard page, or else end at one.
+    pub fn lend(&mut self, table: &[u64], rings: &[u64], output: &[u64], in_front: bool) {
+        lend(&mut self.table, &mut self.table_before, table, in_front);
+        lend(&mut self.rings, &mut self.rings_before, rings, in_front);
+        lend(&mut self.output, &mut self.output_before, output, in_front);
+        self.words.place(4, in_front);
         self.ordered = None;
     }
 
@@ -135,7 +134,7 @@ impl Bench {
         };
         assert!(self.words.words()[used..].iter().all(|&word| word == UNSET), "{record:?}: {answer} leaves other words");
         for words in [&mut self.table, &mut self.rings, &mut self.output, &mut self.words] {
-            assert!(words.guards_stand(), "{record:?}: {answer} writes before a slice");
+            assert!(words.guards_stand(), "{record:?}: {answer} writes beside a slice");
         }
     }
 
@@ -151,8 +150,7 @@ impl Bench {
         match self.ordered {
             Some(known) => assert_eq!(known, ordered, "{record:?}: {answer}, but the call before found the stores otherwise"),
             None => {
-                let read = in_order(&self.table_before, &self.rings_before);
-                assert_eq!(read, ordered, "{record:?}: {answer}, but document 01's list read in Rust says otherwise");
+                assert_eq!(self.in_order(), ordered, "{record:?}: {answer}, but document 01's list read in Rust says otherwise");
                 self.ordered = Some(ordered);
                 self.counts.stores += 1;
                 self.counts.in_order += u64::from(ordered);
@@ -179,6 +177,11 @@ impl Bench {
         let written = if let Answer::Items(items) = answer { items.len() } else { 0 };
         assert!(output[written..] == self.output_before[written..], "{record:?}: {answer} changes the output");
         self.output_before[..written].copy_from_slice(&output[..written]);
+    }
+
+    /// Whether the stores are in order as the last call left them, by document 01's list read in Rust.
+    pub fn in_order(&self) -> bool {
+        in_order(&self.table_before, &self.rings_before)
     }
 
     /// Makes an inner call, on stores that are in order.

@@ -151,6 +151,12 @@ impl<'a> Episode<'a> {
             }
         }
         assert_eq!(self.held(), held, "held after 20 calls");
+        assert!(self.bench.in_order(), "the stores after 20 calls");
+    }
+
+    fn lend(&mut self, table: &[u64], rings: &[u64], output: &[u64]) {
+        let in_front = self.random.one_in(3);
+        self.bench.lend(table, rings, output, in_front);
     }
 
     fn output(&mut self) -> Vec<u64> {
@@ -181,7 +187,7 @@ impl<'a> Episode<'a> {
         let table: Vec<u64> = (0..24 * slots_lent + 512 + more_slots).map(|_| self.random.next()).collect();
         let rings: Vec<u64> = (0..rings_lent + more_words).map(|_| self.random.next()).collect();
         let output = self.output();
-        self.bench.lend(&table, &rings, &output);
+        self.lend(&table, &rings, &output);
         let (channel, cursor, generation) = (self.number(), self.number(), self.number());
         assert!(self.open([capacity, slots, channel, cursor, generation]));
     }
@@ -298,6 +304,7 @@ impl<'a> Episode<'a> {
             let length = 1 + self.random.below(120);
             self.run(length);
         }
+        assert!(self.bench.in_order(), "the stores after a run");
         let (table, rings, keys) = (self.bench.table().to_vec(), self.bench.rings().to_vec(), self.keys.clone());
         for _ in 0..times {
             let (mut table, mut rings, output) = (table.clone(), rings.clone(), self.output());
@@ -309,7 +316,7 @@ impl<'a> Episode<'a> {
                 3 if rings.len() > 3 => rings.truncate(rings.len() - 1 - self.random.below(3) as usize),
                 _ => self.change(&mut table, &mut rings),
             }
-            self.bench.lend(&table, &rings, &output);
+            self.lend(&table, &rings, &output);
             self.try_out();
         }
     }
@@ -347,7 +354,7 @@ impl<'a> Episode<'a> {
             }
         }
         let (rings, output) = (self.words(rings), self.output());
-        self.bench.lend(&table, &rings, &output);
+        self.lend(&table, &rings, &output);
         self.keys = vec![[0, 0], [1, 0], [0, 1]];
         self.channel = 7;
         self.try_out();
@@ -357,7 +364,7 @@ impl<'a> Episode<'a> {
     pub fn any_opening(&mut self) {
         let (table, rings) = (self.length(MOST_TABLE), self.length(MOST_RINGS));
         let (table, rings, output) = (self.words(table), self.words(rings), self.output());
-        self.bench.lend(&table, &rings, &output);
+        self.lend(&table, &rings, &output);
         for _ in 0..4 {
             let small = self.random.one_in(2);
             let (capacity, slots) = if small { (1 + self.random.below(70), 1 + self.random.below(6)) } else { (self.number(), self.number()) };
