@@ -10,7 +10,9 @@ mod bench;
 #[allow(dead_code)]
 #[path = "../port/calls.rs"]
 mod calls;
+mod change;
 mod episode;
+mod kinds;
 mod memory;
 mod order;
 #[path = "../streams/random.rs"]
