@@ -1,13 +1,15 @@
 //! Record streams from a seed, and the text form of stored ones.
 //!
-//!     streams SEED RECORDS [--slots N] [--style NAME] [--shifted] [--rings N] [--table N] [--output N]
+//!     streams SEED RECORDS [--slots N] [--deep] [--style NAME] [--shifted] [--rings N] [--table N] [--output N]
 //!     streams text < FILE        the records of a stored stream
 //!     streams expected < FILE    the lines that it expects
 //!
 //! A stream is a row of openings, each in a style of its own; the first has style SEED modulo the number of styles. The rules run
-//! along, so that a style can aim at a state. --slots N makes every opening wide: up to N lanes, for stores that hold them.
+//! along, so that a style can aim at a state. --slots N makes every opening wide: up to N lanes, for stores that hold them. --deep gives
+//! every opening a large capacity, up to 65,536, as far as the stores hold it, and so many records that its rings fill.
 //! --shifted gives every opening a first cursor and generation near 2^64, which the original does not have.
 
+mod random;
 #[allow(dead_code)]
 mod records;
 #[allow(dead_code)]
@@ -17,33 +19,9 @@ mod text;
 
 use std::io::{self, BufWriter, Write};
 
+use random::Random;
 use records::*;
 use rules::{Rules, Slot, State};
-
-/// Splitmix64.
-struct Random(u64);
-
-impl Random {
-    fn next(&mut self) -> u64 {
-        self.0 = self.0.wrapping_add(0x9e37_79b9_7f4a_7c15);
-        let mut z = self.0;
-        z = (z ^ (z >> 30)).wrapping_mul(0xbf58_476d_1ce4_e5b9);
-        z = (z ^ (z >> 27)).wrapping_mul(0x94d0_49bb_1331_11eb);
-        z ^ (z >> 31)
-    }
-
-    fn below(&mut self, n: u64) -> u64 {
-        self.next() % n
-    }
-
-    fn one_in(&mut self, n: u64) -> bool {
-        self.below(n) == 0
-    }
-
-    fn pick<T: Copy>(&mut self, all: &[T]) -> T {
-        all[self.below(all.len() as u64) as usize]
-    }
-}
 
 /// What a style does next; some are runs of several records.
 #[derive(Clone, Copy, PartialEq)]
@@ -213,6 +191,8 @@ struct Stream<W: Write> {
     item: u64,
     /// Wide openings only, with up to so many lanes.
     most_slots: Option<u64>,
+    /// Openings with large capacities.
+    deep: bool,
     /// Every opening has a first cursor and generation that the original does not have.
     shifted: bool,
 }
@@ -723,6 +703,7 @@ impl<W: Write> Stream<W> {
         let (low, high) = style.slots;
         let (slots, capacity) = match self.most_slots {
             Some(most) => (most - self.random.below(most / 16 + 1), self.random.pick(&[1, 2, 4])),
+            None if self.deep => (1 + self.random.below(4), self.random.pick(&[1_000, 2_048, 5_000, 8_192, 30_000, 65_536])),
             None => (low + self.random.below(high - low + 1), self.random.pick(style.capacities)),
         };
         let slots = slots.min((lent.table - 512) / 24);
@@ -734,7 +715,7 @@ impl<W: Write> Stream<W> {
         self.here = match self.random.below(8) {
             0 => 40 + self.random.below(200),
             _ => 300 + self.random.below(2_500),
-        } + 6 * self.most_slots.unwrap_or(0);
+        } + 6 * self.most_slots.unwrap_or(0) + if self.deep { 3 * capacity } else { 0 };
         let channel = self.random.pick(&[7, 0, u64::MAX, 1 << 40]);
         let (cursor, generation) = if self.shifted {
             let below_top = [0, 1, 3, 70, 1_000].map(|n| u64::MAX - n);
@@ -814,11 +795,11 @@ fn main() -> io::Result<()> {
         ["text"] => return text::records(io::stdin().lock(), output),
         ["expected"] => return text::expected(io::stdin().lock(), output),
         [seed, left, ref options @ ..] => (number(seed), number(left), options),
-        _ => panic!("streams SEED RECORDS [--slots N] [--style NAME], or streams text, or streams expected"),
+        _ => panic!("streams SEED RECORDS [--slots N] [--deep] [--style NAME] [--shifted], or streams text, or streams expected"),
     };
     let mut most_slots = None;
     let mut only = None;
-    let mut shifted = false;
+    let (mut deep, mut shifted) = (false, false);
     let mut options = options.iter();
     while let Some(&option) = options.next() {
         let mut value = || options.next().unwrap_or_else(|| panic!("{option} needs a value"));
@@ -828,6 +809,7 @@ fn main() -> io::Result<()> {
                 let name = value();
                 only = Some(STYLES.iter().position(|style| style.name == *name).expect("a style's name"));
             }
+            "--deep" => deep = true,
             "--shifted" => shifted = true,
             _ => panic!("no such option: {option}"),
         }
@@ -840,6 +822,7 @@ fn main() -> io::Result<()> {
         here: 0,
         item: 0,
         most_slots,
+        deep,
         shifted,
     };
     if stream.random.one_in(10) {

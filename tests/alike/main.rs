@@ -1,0 +1,73 @@
+//! Whether two files of answers agree, line by line.
+//!
+//!     alike LEFT RIGHT
+//!
+//! A line `outside`, where the original has no answer, agrees with every line and is not counted. Prints `difference N`, with the number of
+//! the first line that differs; or counts, one to a line: of lines compared, of lines outside, of lines that answer a call made with more
+//! than 4,096 slots issued, and of each answer, the refusals by their numbers.
+
+use std::collections::BTreeMap;
+use std::io;
+
+const OUTSIDE: &[u8] = b"outside";
+
+/// The file's lines; what follows the last line end is no line.
+fn lines(bytes: &[u8]) -> impl Iterator<Item = &[u8]> {
+    let whole = bytes.iter().rposition(|&byte| byte == b'\n').map_or(0, |at| at + 1);
+    bytes[..whole].split_inclusive(|&byte| byte == b'\n').map(|line| &line[..line.len() - 1])
+}
+
+#[derive(Default)]
+struct Counts<'a> {
+    compared: u64,
+    outside: u64,
+    two_groups: u64,
+    answers: BTreeMap<&'a [u8], u64>,
+    /// More than 4,096 slots are issued.
+    wide: bool,
+}
+
+fn slot(line: &[u8]) -> u64 {
+    let digits = line[5..].iter().take_while(|byte| byte.is_ascii_digit());
+    digits.fold(0, |number, digit| 10 * number + u64::from(digit - b'0'))
+}
+
+impl<'a> Counts<'a> {
+    fn count(&mut self, line: &'a [u8]) {
+        self.compared += 1;
+        self.two_groups += u64::from(self.wide);
+        if line.starts_with(b"lane ") {
+            // An opening's first lane is 0 0.
+            self.wide = line != b"lane 0 0" && (self.wide || slot(line) >= 4096);
+        }
+        let word = match line.iter().position(|&byte| byte == b' ') {
+            Some(end) if !line.starts_with(b"refused") && line != b"items 0" => &line[..end],
+            _ => line,
+        };
+        *self.answers.entry(word).or_default() += 1;
+    }
+}
+
+fn main() -> io::Result<()> {
+    let paths: Vec<String> = std::env::args().skip(1).collect();
+    let [left, right] = &paths[..] else { panic!("alike LEFT RIGHT") };
+    let (left, right) = (std::fs::read(left)?, std::fs::read(right)?);
+    let (mut left, mut right) = (lines(&left), lines(&right));
+    let mut counts = Counts::default();
+    for number in 1.. {
+        match (left.next(), right.next()) {
+            (None, None) => break,
+            (Some(a), Some(b)) if a == OUTSIDE || b == OUTSIDE => counts.outside += 1,
+            (Some(a), Some(b)) if a == b => counts.count(a),
+            _ => {
+                println!("difference {number}");
+                return Ok(());
+            }
+        }
+    }
+    println!("compared {}\noutside {}\ntwo-groups {}", counts.compared, counts.outside, counts.two_groups);
+    for (word, count) in &counts.answers {
+        println!("{} {count}", String::from_utf8_lossy(word));
+    }
+    Ok(())
+}

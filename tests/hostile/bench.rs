@@ -1,0 +1,202 @@
+//! Stores between guard pages, and what every checked call on them is held to.
+
+use std::time::Duration;
+
+use crate::calls::{self, CHECKED, INNER, Stores, Words};
+use crate::memory::Guarded;
+use crate::order::in_order;
+use crate::records::{self, Answer, Record};
+use crate::watch;
+
+pub const MOST_TABLE: usize = 24 * 8_192 + 512 + 64;
+pub const MOST_RINGS: usize = 2 * 65_536 + 64;
+pub const MOST_OUTPUT: usize = 80;
+
+/// What the answer's words hold before a call.
+const UNSET: u64 = 0xabad_0000_1dea_0000;
+
+#[derive(Default)]
+pub struct Counts {
+    pub calls: u64,
+    pub out_of_order: u64,
+    pub refused: u64,
+    pub accepted: u64,
+    /// Stores that nobody vouched for, and how many of them were in order.
+    pub stores: u64,
+    pub in_order: u64,
+    /// The slowest call, on stores with more than 4,096 slots issued and on others.
+    pub slowest_wide: Duration,
+    pub slowest: Duration,
+}
+
+pub struct Bench {
+    table: Guarded,
+    rings: Guarded,
+    output: Guarded,
+    words: Guarded,
+    /// The stores and the output as the last call left them.
+    table_before: Vec<u64>,
+    rings_before: Vec<u64>,
+    output_before: Vec<u64>,
+    /// Whether these stores were found in order: the answer 5 says no, every other one yes.
+    ordered: Option<bool>,
+    pub counts: Counts,
+}
+
+fn lend(to: &mut Guarded, before: &mut Vec<u64>, words: &[u64], in_front: bool) {
+    to.place(words.len(), in_front);
+    to.words().copy_from_slice(words);
+    before.clear();
+    before.extend_from_slice(words);
+}
+
+impl Bench {
+    pub fn new() -> Self {
+        Self {
+            table: Guarded::new(MOST_TABLE),
+            rings: Guarded::new(MOST_RINGS),
+            output: Guarded::new(MOST_OUTPUT),
+            words: Guarded::new(4),
+            table_before: Vec::new(),
+            rings_before: Vec::new(),
+            output_before: Vec::new(),
+            ordered: None,
+            counts: Counts::default(),
+        }
+    }
+
+    /// Lends stores and an output with these words; they begin at a guard page, or else end at one.
+    pub fn lend(&mut self, table: &[u64], rings: &[u64], output: &[u64], in_front: bool) {
+        lend(&mut self.table, &mut self.table_before, table, in_front);
+        lend(&mut self.rings, &mut self.rings_before, rings, in_front);
+        lend(&mut self.output, &mut self.output_before, output, in_front);
+        self.words.place(4, in_front);
+        self.ordered = None;
+    }
+
+    pub fn table(&self) -> &[u64] {
+        &self.table_before
+    }
+
+    pub fn rings(&self) -> &[u64] {
+        &self.rings_before
+    }
+
+    /// The opening's first generation, of stores in order.
+    pub fn first_generation(&self) -> u64 {
+        self.table_before[11]
+    }
+
+    pub fn output_length(&self) -> usize {
+        self.output_before.len()
+    }
+
+    /// Makes a checked call and looks at all it left.
+    pub fn call(&mut self, record: &Record) -> Answer {
+        self.words.words().fill(UNSET);
+        let words: &mut Words = self.words.words().try_into().expect("four words");
+        let mut stores = Stores { table: self.table.words(), rings: self.rings.words(), output: self.output.words() };
+        let begin = watch::begin();
+        let tag = if record.kind == records::OPEN {
+            calls::open(&mut stores, record.fields, words)
+        } else {
+            CHECKED.call(&mut stores, record, words)
+        };
+        let took = watch::end(begin);
+        let answer = calls::answer(tag, words, stores.output);
+        self.count(&answer, took);
+        self.look_at_words(record, &answer);
+        self.look_at_order(record, &answer);
+        self.look_at_stores(record, &answer);
+        answer
+    }
+
+    fn count(&mut self, answer: &Answer, took: Duration) {
+        let counts = &mut self.counts;
+        counts.calls += 1;
+        match answer {
+            Answer::Refused(5) => counts.out_of_order += 1,
+            Answer::Refused(_) => counts.refused += 1,
+            _ => counts.accepted += 1,
+        }
+        let wide = self.table_before.first().is_some_and(|&issued| (4_097..=8_192).contains(&issued));
+        let slowest = if wide { &mut counts.slowest_wide } else { &mut counts.slowest };
+        *slowest = took.max(*slowest);
+    }
+
+    /// Guard words stand, and of the answer's words only those that it has are written.
+    fn look_at_words(&mut self, record: &Record, answer: &Answer) {
+        let used = match answer {
+            Answer::Item(..) => 4,
+            Answer::Lane(..) => 2,
+            Answer::Taken(_) | Answer::Items(_) | Answer::Held(_) | Answer::Refused(_) => 1,
+            _ => 0,
+        };
+        assert!(self.words.words()[used..].iter().all(|&word| word == UNSET), "{record:?}: {answer} leaves other words");
+        for words in [&mut self.table, &mut self.rings, &mut self.output, &mut self.words] {
+            assert!(words.guards_stand(), "{record:?}: {answer} writes beside a slice");
+        }
+    }
+
+    /// Refusal 5 is answered to every call on stores that are not in order, and to no other; a call that is not refused leaves them in order.
+    fn look_at_order(&mut self, record: &Record, answer: &Answer) {
+        if record.kind == records::OPEN {
+            if *answer == Answer::Done {
+                self.ordered = Some(true);
+            }
+            return;
+        }
+        let ordered = *answer != Answer::Refused(5);
+        match self.ordered {
+            Some(known) => assert_eq!(known, ordered, "{record:?}: {answer}, but the call before found the stores otherwise"),
+            None => {
+                assert_eq!(self.in_order(), ordered, "{record:?}: {answer}, but document 01's list read in Rust says otherwise");
+                self.ordered = Some(ordered);
+                self.counts.stores += 1;
+                self.counts.in_order += u64::from(ordered);
+            }
+        }
+    }
+
+    /// A refusal changes nothing; a send writes one item, a batch its items, and no other call writes to rings or output.
+    fn look_at_stores(&mut self, record: &Record, answer: &Answer) {
+        let (table, rings, output) = (self.table.words(), self.rings.words(), self.output.words());
+        if matches!(answer, Answer::Refused(_) | Answer::Held(_)) {
+            assert!(*table == self.table_before[..], "{record:?}: {answer} changes the table store");
+        } else {
+            self.table_before.copy_from_slice(table);
+        }
+        if matches!(answer, Answer::Taken(_)) {
+            let changed = |(now, before): (&u64, &u64)| now != before;
+            if let Some(place) = rings.iter().zip(&self.rings_before).position(changed) {
+                assert_eq!(rings[place], record.fields[2], "{record:?}: {answer} writes something else");
+                self.rings_before[place] = rings[place];
+            }
+        }
+        assert!(*rings == self.rings_before[..], "{record:?}: {answer} changes the ring store");
+        let written = if let Answer::Items(items) = answer { items.len() } else { 0 };
+        assert!(output[written..] == self.output_before[written..], "{record:?}: {answer} changes the output");
+        self.output_before[..written].copy_from_slice(&output[..written]);
+    }
+
+    /// Whether the stores are in order as the last call left them, by document 01's list read in Rust.
+    pub fn in_order(&self) -> bool {
+        in_order(&self.table_before, &self.rings_before)
+    }
+
+    /// Makes an inner call, on stores that are in order.
+    pub fn inner(&mut self, record: &Record) -> Answer {
+        assert_eq!(self.ordered, Some(true));
+        let words: &mut Words = self.words.words().try_into().expect("four words");
+        let mut stores = Stores { table: self.table.words(), rings: self.rings.words(), output: self.output.words() };
+        let tag = INNER.call(&mut stores, record, words);
+        calls::answer(tag, words, stores.output)
+    }
+
+    /// After inner calls: what they left is what later calls find.
+    pub fn take_over(&mut self) {
+        self.table_before.copy_from_slice(self.table.words());
+        self.rings_before.copy_from_slice(self.rings.words());
+        self.output_before.copy_from_slice(self.output.words());
+    }
+}

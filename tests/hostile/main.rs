@@ -1,0 +1,77 @@
+//! The checked calls of the static library on stores that nobody vouches for: any words, stores in order with words changed, short ones.
+//!
+//!     hostile [--calls N] [--seed N] [--episode N]
+//!
+//! Every call must end; touch nothing outside its slices, which end or begin at guard pages; leave every word as it was where it refuses; answer 5 exactly
+//! if document 01's list, read once more in order.rs, does not hold of the stores; and leave stores in order where it does not answer 5.
+//! --episode runs the one episode that a failure names.
+
+mod bench;
+#[allow(dead_code)]
+#[path = "../port/calls.rs"]
+mod calls;
+mod change;
+mod episode;
+mod kinds;
+mod memory;
+mod order;
+#[path = "../streams/random.rs"]
+mod random;
+#[allow(dead_code)]
+#[path = "../streams/records.rs"]
+mod records;
+mod watch;
+
+use std::time::Instant;
+
+use bench::Bench;
+use episode::Episode;
+
+/// Of so many episodes one has large stores.
+const WIDE: u64 = 200;
+
+fn main() {
+    let (mut calls, mut seed, mut only) = (1_000_000, 0, None);
+    let mut arguments = std::env::args().skip(1);
+    while let Some(option) = arguments.next() {
+        let number = arguments.next().and_then(|word| word.parse::<u64>().ok());
+        let number = number.unwrap_or_else(|| panic!("{option} needs a number"));
+        match option.as_str() {
+            "--calls" => calls = number,
+            "--seed" => seed = number,
+            "--episode" => only = Some(number),
+            _ => panic!("options: --calls N, --seed N, --episode N"),
+        }
+    }
+    watch::start(seed);
+    let begin = Instant::now();
+    let mut bench = Bench::new();
+    let mut number = only.unwrap_or(0);
+    while bench.counts.calls < calls {
+        watch::episode(number);
+        let mut episode = Episode::new(&mut bench, seed.wrapping_mul(0x2545_f491_4f6c_dd1d) ^ number << 20);
+        if number % WIDE == WIDE / 2 {
+            episode.large();
+        } else {
+            episode.any();
+        }
+        if only.is_some() {
+            break;
+        }
+        number += 1;
+    }
+    let counts = bench.counts;
+    println!(
+        "hostile: seed {seed}, {} calls: {} refused 5, {} refused otherwise, {} accepted; {} stores that nobody vouched for, {} of them in order; \
+         slowest call {} us, with more than 4,096 slots {} us; {} s",
+        counts.calls,
+        counts.out_of_order,
+        counts.refused,
+        counts.accepted,
+        counts.stores,
+        counts.in_order,
+        counts.slowest.as_micros(),
+        counts.slowest_wide.as_micros(),
+        begin.elapsed().as_secs()
+    );
+}

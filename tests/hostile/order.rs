@@ -1,0 +1,158 @@
+//! Document 01's "A store in order", in Rust, of any words: another reading beside crate `order`, and one that shares no code with it.
+//! Quoted sentences are document 01's; the places of the words are those of crates/lane/specs/Table.antt and crates/ready/specs.
+
+/// A table store read by names.
+struct Table<'a>(&'a [u64]);
+
+pub const HEADER: usize = 512;
+pub const ROW: usize = 24;
+
+impl Table<'_> {
+    fn cell(&self, column: usize, row: u64) -> u64 {
+        self.0[HEADER + ROW * row as usize + column]
+    }
+
+    fn issued(&self) -> u64 {
+        self.0[0]
+    }
+
+    fn slots(&self) -> u64 {
+        self.0[4]
+    }
+
+    fn budget(&self) -> u64 {
+        self.0[5]
+    }
+
+    fn capacity(&self) -> u64 {
+        self.0[8]
+    }
+
+    fn fast_slot(&self) -> u64 {
+        self.0[12]
+    }
+
+    /// The slots in the queue, front first, and those in the free list.
+    fn queue(&self) -> Vec<u64> {
+        (0..self.0[2]).map(|i| self.cell(14, (self.0[1] + i) % self.slots())).collect()
+    }
+
+    fn free(&self) -> Vec<u64> {
+        (0..self.0[3]).map(|i| self.cell(15, i)).collect()
+    }
+
+    fn page(&self, page: u64) -> u64 {
+        self.cell(16, page)
+    }
+
+    fn group(&self, group: u64) -> u64 {
+        self.cell(17, group)
+    }
+}
+
+/// "Stores have at least the lengths that the opening asked for. C is a power of two; C, S .. are ones an opening takes"
+fn lengths(table: &[u64], rings: &[u64]) -> bool {
+    if table.len() < HEADER {
+        return false;
+    }
+    let t = Table(table);
+    let (slots, capacity) = (t.slots(), t.capacity());
+    (1..=8_192).contains(&slots)
+        && capacity <= 65_536
+        && capacity.is_power_of_two()
+        && table.len() as u64 >= 24 * slots + 512
+        && rings.len() as u64 >= slots * capacity
+}
+
+/// Of the header, with the lengths as they should be.
+fn header(t: &Table) -> bool {
+    let slots = t.slots();
+    // "issued slots are at most S"; "`fast_slot`, which is below S"; places of the queue and the free list are within their S places
+    t.issued() <= slots
+        && t.fast_slot() < slots
+        && t.0[1] < slots
+        && t.0[2] <= slots
+        && t.0[3] <= slots
+        // "the budget is at most 64"; "the group cursor is at most the groups that exist"; "flags .. hold one of their two values"
+        && t.budget() <= 64
+        && t.0[6] <= t.issued().div_ceil(4096)
+        && t.0[7] <= 1
+}
+
+/// "slot numbers are of issued slots", and each is there once; how often each issued slot is there.
+fn once(names: &[u64], issued: u64) -> Option<Vec<bool>> {
+    let mut named = vec![false; issued as usize];
+    for &x in names {
+        if x >= issued || named[x as usize] {
+            return None;
+        }
+        named[x as usize] = true;
+    }
+    Some(named)
+}
+
+/// "Per registered lane, in wrapped distances, each at most C, and sums that do not wrap"
+fn lane(t: &Table, x: u64) -> bool {
+    let [tail, released, head, known, cached, unreleased, burst, window] = std::array::from_fn(|i| t.cell(1 + i, x));
+    let capacity = t.capacity();
+    let from = |a: u64, b: u64| a.wrapping_sub(b);
+    let batch = capacity.div_ceil(2).max(64).min(capacity);
+    let distances = [from(tail, released), from(tail, known), from(known, head), from(head, released)];
+    distances.iter().all(|&distance| distance <= capacity)
+        && cached.checked_add(window) == Some(from(known, head))
+        && from(head, released).checked_add(window) == Some(unreleased)
+        && unreleased < batch
+        && window <= burst
+        && burst <= 63
+}
+
+fn slot(t: &Table, x: u64, queued: bool, free: bool, front: Option<&u64>) -> bool {
+    let [pending, is_queued, paused, registered, living] = std::array::from_fn(|i| t.cell(9 + i, x));
+    // "flags and signals hold one of their two values"
+    if [pending, is_queued, paused, registered, living].iter().any(|&word| word > 1) {
+        return false;
+    }
+    if registered == 0 {
+        // "Free slots .. hold no lane and had a last generation below 2^64 - 1"; the queue has lanes only
+        return !queued && !(free && t.cell(0, x) == u64::MAX);
+    }
+    let window = t.cell(8, x);
+    let page_bit = t.page(x / 64) >> (x % 64) & 1 == 1;
+    lane(t, x)
+        && !free
+        // "The queue names each queued lane once and no paused one."
+        && queued == (is_queued == 1)
+        && !(queued && paused == 1)
+        // "A registered lane that is pending, unpaused and unqueued has its page bit set"
+        && (pending == 0 || paused == 1 || queued || page_bit)
+        // "Only the front lane, at `fast_slot`, has a window, at most the budget"
+        && (window == 0 || front == Some(&x) && x == t.fast_slot() && window <= t.budget())
+}
+
+/// "a page bit is of an issued slot"; "a page is non-zero exactly if its group bit is set"
+fn marks(t: &Table) -> bool {
+    let pages = t.issued().div_ceil(64);
+    // The bits of a word that may be set, where so many bits are left.
+    let only = |word: u64, left: u64| left >= 64 || word >> left == 0;
+    (0..pages).all(|page| {
+        let word = t.page(page);
+        only(word, t.issued() - 64 * page) && (word != 0) == (t.group(page / 64) >> (page % 64) & 1 == 1)
+    }) && (0..pages.div_ceil(64)).all(|group| only(t.group(group), pages - 64 * group))
+}
+
+pub fn in_order(table: &[u64], rings: &[u64]) -> bool {
+    let t = Table(table);
+    if !lengths(table, rings) || !header(&t) {
+        return false;
+    }
+    let queue = t.queue();
+    let (Some(queued), Some(free)) = (once(&queue, t.issued()), once(&t.free(), t.issued())) else {
+        return false;
+    };
+    let slots = 0..t.issued();
+    let count = |column| slots.clone().filter(|&x| t.cell(column, x) == 1).count() as u64;
+    slots.clone().all(|x| slot(&t, x, queued[x as usize], free[x as usize], queue.first()))
+        // "counts of lanes and living senders are true"
+        && (t.0[13], t.0[14]) == (count(12), count(13))
+        && marks(&t)
+}
