@@ -1,4 +1,5 @@
 pub mod ServeLaws
 pub mod ShiftLaws
+pub mod InputLaws
 pub mod CallLaws
 pub mod ProgramLaws
