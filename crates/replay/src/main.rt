@@ -3,8 +3,10 @@ mod calls;
 mod input;
 mod serve;
 
+ghost use mathlib.Core.Path.{_≡_};
 ghost use Prim.Native.Nat.{_≤_};
 ghost use lib.ListN.{length};
+ghost use Rattle.replay.specs.Calls.{started};
 use input::Next;
 
 fn flush(text: &[u8], end: usize)
@@ -20,7 +22,9 @@ fn run(
     out: &mut [u64; 64],
     buffer: &mut [u8; 65536],
     text: &mut [u8; 65536],
-) {
+)
+    requires { ⌜ record { table = now table; rings = now rings; out = now out } ≡ started ⌝ }
+{
     let mut turns = u64::MAX;
     let mut at = 0;
     let mut have = 0;
