@@ -4,7 +4,7 @@ use mathlib.Core.Path.{_≡_, refl, sym, ap, _∙_, subst}
 use mathlib.Core.List.{List}
 use Prim.Native.Nat.{ℕ, zero, suc, _-_, _≤_}
 use native.Mathlib.Omega.{arith}
-use lib.ListN.{take, drop}
+use lib.ListN.{take}
 use Rattle.wire.specs.Text.{Puts}
 use Rattle.wire.proofs.PutLaws.{puts-as, puts-none}
 use Rattle.replay.specs.declared.serve.Found.{Found}
