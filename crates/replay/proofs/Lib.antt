@@ -1,4 +1,6 @@
 pub mod ServeLaws
 pub mod ShiftLaws
+pub mod InputLaws
 pub mod CallLaws
+pub mod ReadLaws
 pub mod ProgramLaws

@@ -10,9 +10,6 @@ use lib.Seq.{take-all, drop-drop}
 use denote.Enum.Declared.{tagOf}
 use types.Run.{OneOf}
 use Rattle.model.specs.declared.Answer.{Answer}
-use Rattle.model.specs.declared.Answer.the-variants as Answer
-use Rattle.model.specs.declared.Refusal.the-variants as Refusal
-use Rattle.model.specs.Answers.{line}
 use Rattle.wire.specs.declared.record.Record.{Record}
 use Rattle.wire.specs.declared.record.Parsed.{Parsed}
 use Rattle.wire.specs.declared.record.Parsed.the-variants as Parsed

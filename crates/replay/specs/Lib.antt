@@ -1,3 +1,4 @@
 pub mod Calls
 pub mod Serve
+pub mod Input
 pub mod Program

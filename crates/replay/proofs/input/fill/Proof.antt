@@ -1,11 +1,11 @@
--- `replay::fill` meets its contract.
+-- `replay::input::fill` meets its contract.
 -- Assumes nothing.
 use Prim.Native.Nat.{_-_}
 use lib.ListN.{length}
 use borrow.Rule.Slice.PartMut.{take-put}
 use borrow.Author.Needs.{needs}
-use Rattle.replay.proofs.fill.Statement.{statement}
-use Rattle.replay.proofs.fill.Tie as tie
+use Rattle.replay.proofs.input.fill.Statement.{statement}
+use Rattle.replay.proofs.input.fill.Tie as tie
 
 returns : tie.Need-returns
 returns c = (search needs, take-put (c .before .before .before .before .before .before .before .before .before .before .args .have) (length (c .before .before .before .before .before .before .before .before .before .before .args .buffer .now) - c .before .before .before .before .before .before .before .before .before .before .args .have) (c .before .before .before .before .before .before .before .before .before .before .args .buffer .now) (c .before .before .before .before .before .before .read .last .1 .0) (c .before .before .before .before .before .before .before .before .before .before .pre))

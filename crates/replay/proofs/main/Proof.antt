@@ -1,0 +1,15 @@
+-- `replay::main` meets its contract.
+-- Assumes nothing.
+use mathlib.Core.Path.{refl}
+use Rattle.replay.specs.Calls.{started}
+use borrow.Author.Needs.{needs}
+use Rattle.replay.proofs.main.Statement.{statement}
+use Rattle.replay.proofs.main.Tie as tie
+
+-- the stores are zeros at the start
+run-requires : tie.Need-run-requires
+unfolding started
+run-requires c κs = refl
+
+pub main-spec : {M : Type 1} → statement M
+main-spec = tie.close (tie.spec run-requires (λ c. search needs))
