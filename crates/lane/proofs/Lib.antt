@@ -10,3 +10,4 @@ pub mod RingLaws
 pub mod HeldLaws
 pub mod FlushLaws
 pub mod WindowLaws
+pub mod AtHandLaws

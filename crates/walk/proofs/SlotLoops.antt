@@ -11,10 +11,11 @@ use lib.ListN.{length}
 use Rattle.lane.specs.declared.lane.Lane.{Lane}
 use Rattle.lane.specs.Cursor.{distance}
 use Rattle.lane.specs.declared.lane.Released.{Released}
-use Rattle.lane.specs.Lane.{withCounts, closeFast, released, releaseAny, releasePending}
+use Rattle.lane.specs.Lane.{closeFast, released, releaseAny, releasePending}
 use Rattle.lane.specs.Order.{Refundable}
 use Rattle.lane.specs.Order as Lanes
 use Rattle.lane.specs.Table.{headerWords, head, laneAt, putLane}
+use Rattle.lane.proofs.AtHandLaws.{close-closed}
 use Rattle.lane.proofs.CursorOrder.{span-adds, held-adds}
 use Rattle.lane.proofs.OrderLaws.{cond-holds}
 use Rattle.lane.proofs.TableLaws.{frames, load-store-same, slot-of-lane, other-lane-kept}
@@ -64,16 +65,10 @@ pub slot-released : (t : List ℕ) (x : ℕ) → releasePending (laneAt t x) .la
 slot-released t x = release-pending-is (λ l. l .key .slot ≡ x) (laneAt t x) (slot-of-lane t x) (slot-of-lane t x)
 
 -- nothing unreleased: no window is open, and giving back leaves the lane
-same-counts : (l : Lane) (cached unreleased burst window : ℕ) → cached ≡ l .cached → unreleased ≡ l .unreleased → burst ≡ l .burst → window ≡ l .window
-    → withCounts cached unreleased burst window l ≡ l
-same-counts l cached unreleased burst window p q r s = rw (p, q, r, s) refl
-
 pub none-to-release : (l : Lane) → Refundable l → l .unreleased ≡ 0 → releasePending l .lane ≡ l
 unfolding releasePending releaseAny
 none-to-release l h e =
-    ap (λ m. releaseAny m .lane)
-    (same-counts l (l .cached + l .window) (l .unreleased - l .window) (l .burst - l .window) 0 (omega arith) (omega arith) (omega arith) (omega arith))
-    ∙ simp (eq-eqb (l .unreleased) 0 e)
+    ap (λ m. releaseAny m .lane) (close-closed l (omega arith)) ∙ simp (eq-eqb (l .unreleased) 0 e)
 
 pub none-released : (t : List ℕ) (x : ℕ) → (laneAt t x .registered ≡ 1 → Refundable (laneAt t x)) → laneAt t x .unreleased ≡ 0 → releaseSlot t x ≡ t
 unfolding releaseSlot
