@@ -5,3 +5,4 @@ pub mod TableLaws
 pub mod HeldLaws
 pub mod FlushLaws
 pub mod WindowLaws
+pub mod AtHandLaws

@@ -1,8 +1,11 @@
 // A lane: one sender's cursors and the receiver's counts. Port of src/mpsc/receiver/lane.rs.
 // A method takes the lane and hands the next one back.
 ghost use mathlib.Core.Path.{_≡_};
+ghost use mathlib.Core.Bool.{true, false};
 ghost use Prim.Native.Nat.{_+_, _-_, _≤_, _<_};
 ghost use lib.ListN.{length};
+ghost use Rattle.model.specs.State.{releaseBatch};
+ghost use Rattle.lane.specs.declared.lane.LanePoll.the-variants as LanePoll;
 ghost use Rattle.yring.specs.Cursor.{Capacity};
 ghost use Rattle.yring.specs.Ring.{Within};
 ghost use Rattle.lane.specs.Order.{InOrder, Filled, FoundEmpty, Refundable};
@@ -286,6 +289,36 @@ impl Lane {
         match self.refill() {
             Refill::Idle { found } => LanePoll::Idle { found: found },
             Refill::Ready { lane } => lane.poll_item(ring, store, fair),
+        }
+    }
+
+    // Whether an item is at hand that only needs counting: no window is open, and no credit is due with it.
+    pub fn is_at_hand(self, capacity: u64) -> bool
+        requires { ⌜ Capacity capacity × InOrder capacity self ⌝ }
+        ensures { λ r. ⌜ (r ≡ true → Filled capacity self × (self .unreleased + 1 ≡ releaseBatch capacity → ⊥)) ⌝ }
+    {
+        if self.window != 0 {
+            return false;
+        }
+        if self.cached == 0 {
+            return false;
+        }
+        if self.unreleased + 1 == release_batch(capacity) {
+            return false;
+        }
+        true
+    }
+
+    // `poll` of a fair receive, where an item is at hand.
+    pub fn poll_at_hand(self, ring: Ring, store: &[u64]) -> Taken
+        requires { ⌜ Within ring (length (now store)) × Filled (ring .capacity) self × (self .unreleased + 1 ≡ releaseBatch (ring .capacity) → ⊥) ⌝ }
+        ensures { λ r. ⌜ poll ring (now (store .entry)) true self ≡ LanePoll.Item (r .item) true false (r .lane) ⌝ }
+    {
+        let taken = self.pop(ring, store);
+        let lane = taken.lane;
+        Taken {
+            item: taken.item,
+            lane: lane.charge(1).end_burst(true),
         }
     }
 

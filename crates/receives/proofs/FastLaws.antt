@@ -2,7 +2,7 @@
 -- Assumes nothing.
 use mathlib.Core.Path.{_≡_, refl, sym, ap, ap₂, _∙_}
 use mathlib.Core.List.{List}
-use Prim.Native.Nat.{ℕ, _≤_, _<_}
+use Prim.Native.Nat.{ℕ, _-_, _≤_, _<_}
 use native.Mathlib.Omega.{arith}
 use lib.ListN.{length}
 use borrow.Author.Tests.{eq-eqb, ne-eqb, lt-ltb, le-ltb}
@@ -13,16 +13,16 @@ use Rattle.lane.specs.declared.lane.Popped.{Popped}
 use Rattle.lane.specs.declared.lane.Popped.the-variants as Popped
 use Rattle.yring.specs.Ring.{Within, ringOf}
 use Rattle.lane.specs.Lane.{windowTaken, fairWindow, fairTaken, popFast, popFair}
-use Rattle.lane.specs.Table.{laneAt}
+use Rattle.lane.specs.Table.{laneAt, putLane, setHead}
 use Rattle.lane.proofs.WindowLaws.{pop-fast-none, pop-fast-some, pop-fair-none, pop-fair-some}
-use Rattle.queues.specs.Header.{Shaped, issued, slots, queueCount, budget, capacity, fastSlot}
+use Rattle.queues.specs.Header.{Shaped, issued, slots, queueCount, budget, capacity, channel, fastSlot}
 use Rattle.queues.specs.Queue.{frontSlot}
 use Rattle.turns.specs.declared.turn.Took.{Took}
 use Rattle.turns.specs.declared.turn.Took.the-variants as Took
 use Rattle.turns.specs.Drained.{Rests}
 use Rattle.turns.specs.Turn.{Turning, frontLane}
 use Rattle.receives.specs.Receive.{elseTake, windowTook, fastTook, takeFast, FastOpen, openTook, refillTake, takeOne, takeLone}
-use Rattle.lane.proofs.TableLaws.{slot-of-lane}
+use Rattle.lane.proofs.TableLaws.{frames, slot-of-lane}
 use Rattle.turns.proofs.TurnLaws.{slot-below, ring-in}
 use Rattle.receives.proofs.ReceiveLaws.{fast-room, lone-room, take-fast-is, take-lone-is}
 use Rattle.turns.proofs.DueLaws.{turning-of, ringed-of}
@@ -75,6 +75,13 @@ pub window-rests : (t : List ℕ) (item : ℕ) (l : Lane) → Rests (windowTook 
 unfolding windowTook
 window-rests t item l = omega arith
 
+-- and the channel's id
+pub window-channel : (t u : List ℕ) (took : Took) (item : ℕ) (l : Lane) → (took, u) ≡ windowTook t item l → channel u ≡ channel t
+unfolding windowTook
+window-channel t u took item l e =
+    let same : channel (setHead (putLane t l) 5 (budget t - 1)) ≡ channel t = simp frames in
+    ap (λ (o : Took × List ℕ). channel (o .1)) e ∙ same
+
 module _ (t r : List ℕ) (l : Lane) (k : FastOpen t r l) (ring : Ring) (a : ring ≡ ringOf (fastSlot t) (capacity t)) (x : Taken) (e : x ≡ windowTaken ring r l) where
   here : x ≡ windowTaken (ringOf (fastSlot t) (capacity t)) r (laneAt t (fastSlot t))
   here = e ∙ ap₂ (λ (g : Ring) (m : Lane). windowTaken g r m) a (k .is-lane)
@@ -95,6 +102,13 @@ module _ (t r : List ℕ) (l : Lane) (k : FastOpen t r l) (ring : Ring) (a : rin
   open-take = ap (λ (o : Took × List ℕ). elseTake o (λ u. refillTake u r)) (take-fast-is t r (k .is-issued) registered (Popped.Item (x .item) (x .lane)) popped)
 
 -- ---- the fair receive of a lone lane
+
+-- a window that is open stays
+pub fair-open : (C b : ℕ) (l m : Lane) → l ≡ m → (l .window ≡ 0 → ⊥) → l ≡ fairWindow C b m
+unfolding fairWindow
+fair-open C b l m e n =
+    let same : fairWindow C b m ≡ m = simp (ne-eqb (m .window) 0 (λ z. n (ap (λ (g : Lane). g .window) e ∙ z))) in
+    e ∙ sym same
 
 module _ (t r : List ℕ) (one : queueCount t ≡ 1) (l : Lane) (b : l ≡ fairWindow (capacity t) (budget t) (frontLane t)) where
   pub lone-none : l .window ≡ 0 → (Took.Nothing, t) ≡ takeLone t r

@@ -1,7 +1,10 @@
 // The plain and the fair receive: src/mpsc/receiver.rs.
 ghost use mathlib.Core.Path.{_≡_};
 ghost use Prim.Native.Nat.{_<_};
+ghost use lib.ListN.{length};
+ghost use Rattle.lane.specs.Lane.{fairTaken};
 ghost use Rattle.lane.specs.Order.{poppedLane};
+ghost use Rattle.yring.specs.Ring.{Within};
 ghost use Rattle.lane.specs.declared.lane.Popped.the-variants as Popped;
 ghost use Rattle.queues.specs.Header.{Shaped, slots, budget, channel};
 ghost use Rattle.store.specs.Order.{StoreInOrder};
@@ -28,9 +31,8 @@ fn took_of_window(t: &mut [u64], item: u64, l: Lane) -> Took
     requires { ⌜ Shaped (now t) × (l .key .slot < slots (now t)) × (0 < budget (now t)) ⌝ }
     ensures { λ a. ⌜ (a, now (t .exit)) ≡ windowTook (now (t .entry)) item l ⌝ }
 {
-    let left = t[Header::BUDGET] - 1;
     l.store(t);
-    t[Header::BUDGET] = left;
+    t[Header::BUDGET] = t[Header::BUDGET] - 1;
     let key = l.key;
     Took::Item {
         item: item,
@@ -104,6 +106,15 @@ fn try_recv_refill(t: &mut [u64], r: &[u64]) -> Took
     }
 }
 
+// An item for a fair receive through the open window of the only queued lane.
+fn took_fair(t: &mut [u64], r: &[u64], ring: Ring, l: Lane) -> Took
+    requires { ⌜ Within ring (length (now r)) × (0 < l .window) × Shaped (now t) × (l .key .slot < slots (now t)) × (0 < budget (now t)) ⌝ }
+    ensures { λ a. ⌜ (a, now (t .exit)) ≡ openTook (now (t .entry)) (Popped.Item (fairTaken ring (now (r .entry)) l .item) (fairTaken ring (now (r .entry)) l .lane)) ⌝ }
+{
+    let taken = l.pop_fair(ring, r);
+    took_of_new(t, taken.item, taken.lane)
+}
+
 // The only queued lane has nothing to rotate past.
 fn take_lone(t: &mut [u64], r: &[u64]) -> Took
     requires { ⌜ Turning (now t) × Ringed (now t) (now r) × (0 < budget (now t)) ⌝ }
@@ -114,12 +125,15 @@ fn take_lone(t: &mut [u64], r: &[u64]) -> Took
     }
     let slot = queue::front(t);
     let ring = Ring::new(slot, t[Header::CAPACITY]);
-    let l = Lane::load(t, slot).fair_window(t[Header::CAPACITY], t[Header::BUDGET]);
-    if l.window == 0 {
+    let l = Lane::load(t, slot);
+    if l.window != 0 {
+        return took_fair(t, r, ring, l);
+    }
+    let opened = l.fair_window(t[Header::CAPACITY], t[Header::BUDGET]);
+    if opened.window == 0 {
         return Took::Nothing;
     }
-    let taken = l.pop_fair(ring, r);
-    took_of_new(t, taken.item, taken.lane)
+    took_fair(t, r, ring, opened)
 }
 
 fn take_fair(t: &mut [u64], r: &[u64]) -> Took
@@ -133,7 +147,7 @@ fn take_fair(t: &mut [u64], r: &[u64]) -> Took
             item: item,
             key: key,
         },
-        Took::Nothing => turn::turns(t, r, true),
+        Took::Nothing => turn::fair_turns(t, r),
     }
 }
 
@@ -154,28 +168,36 @@ fn answer_one(t: &mut [u64], channel: u64, took: Took) -> Answer
     }
 }
 
+// Where no window is open at `fast_slot`.
+fn recv_refill(t: &mut [u64], r: &[u64]) -> Answer
+    requires { ⌜ StoreInOrder (now t) (now r) ⌝ }
+    ensures { λ a. ⌜ (a, now (t .exit)) ≡ answerOne (channel (now (t .entry))) (refillTake (now (t .entry)) (now (r .entry))) ⌝ }
+{
+    let channel = t[Header::CHANNEL];
+    let took = try_recv_refill(t, r);
+    answer_one(t, channel, took)
+}
+
 // First the open window at `fast_slot`, with no look-up of the queue and no look for ready lanes. Each
-// way out calls the rest itself, so that the compiler keeps that out of line and its frame too.
+// way out calls the rest itself, with `r` lent anew and the answer in a local: the compiler then keeps
+// the rest out of line, and what it needs in memory too.
 fn try_recv_open(t: &mut [u64], r: &[u64]) -> Answer
     requires { ⌜ StoreInOrder (now t) (now r) ⌝ }
     ensures { λ a. ⌜ (a, now (t .exit)) ≡ answerOne (channel (now (t .entry))) (takeOne (now (t .entry)) (now (r .entry))) ⌝ }
 {
     let slot = t[Header::FAST];
     if slot >= t[Header::ISSUED] {
-        let channel = t[Header::CHANNEL];
-        let took = try_recv_refill(t, r);
-        return answer_one(t, channel, took);
+        let a = recv_refill(t, &*r);
+        return a;
     }
     let l = Lane::load(t, slot);
     if l.registered != 1 {
-        let channel = t[Header::CHANNEL];
-        let took = try_recv_refill(t, r);
-        return answer_one(t, channel, took);
+        let a = recv_refill(t, &*r);
+        return a;
     }
     if l.window == 0 {
-        let channel = t[Header::CHANNEL];
-        let took = try_recv_refill(t, r);
-        return answer_one(t, channel, took);
+        let a = recv_refill(t, &*r);
+        return a;
     }
     recv_window(t, r, l)
 }
@@ -185,9 +207,9 @@ fn recv_window(t: &mut [u64], r: &[u64], l: Lane) -> Answer
     requires { ⌜ FastOpen (now t) (now r) l ⌝ }
     ensures { λ a. ⌜ (a, now (t .exit)) ≡ answerOne (channel (now (t .entry))) (takeOne (now (t .entry)) (now (r .entry))) ⌝ }
 {
-    let channel = t[Header::CHANNEL];
     let taken = l.pop_window(Ring::new(l.key.slot, t[Header::CAPACITY]), r);
     let took = took_of_window(t, taken.item, taken.lane);
+    let channel = t[Header::CHANNEL];
     answer_one(t, channel, took)
 }
 

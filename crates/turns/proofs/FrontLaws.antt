@@ -324,7 +324,7 @@ module _ (t r : List ℕ) (fair : Bool) (k : Turning t) where
 
 -- ---- turn after turn
 
-none-queued : (t r : List ℕ) (fair : Bool) → queueCount t ≡ 0 → pollFront t r fair ≡ (Turn.Ends Took.Nothing, t)
+pub none-queued : (t r : List ℕ) (fair : Bool) → queueCount t ≡ 0 → pollFront t r fair ≡ (Turn.Ends Took.Nothing, t)
 unfolding pollFront
 none-queued t r fair e = rw (eq-eqb (queueCount t) 0 e)
 
@@ -358,6 +358,12 @@ module _ (t r : List ℕ) (fair : Bool) (k : Turning t) (u : List ℕ) where
         go (suc n) m z =
             let q : m ≡ n = omega arith in
             rw q (ap (λ (o : Turn × List ℕ). after o (turnsWithin n (o .1) r fair)) e)
+
+-- the front lane gave an item, and the slot, ring and lane are those that the code has
+pub gave-ends : (t r : List ℕ) (fair : Bool) (k : Turning t) → (queueCount t ≡ 0 → ⊥) → (item : ℕ) (rotate released : Bool) (l : Lane)
+    → polledFront t r fair ≡ LanePoll.Item item rotate released l → (Took.Item item (l .key), gaveFront t rotate l) ≡ turns t r fair
+unfolding turnBy
+gave-ends t r fair k some item rotate released l e = turns-end t r fair k _ _ (front-is t r fair k some _ e)
 
 -- turns keep what a turn keeps
 turns-within-keep : (n : ℕ) (t r : List ℕ) (fair : Bool) → Turning t → Keeps t ((turnsWithin n t r fair) .1)

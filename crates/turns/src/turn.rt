@@ -1,5 +1,6 @@
 // A turn at the front of the queue: the poll loop of src/mpsc/receiver.rs, and `settle_empty_front` of receiver/batch.rs.
 ghost use mathlib.Core.Path.{_≡_};
+ghost use mathlib.Core.Bool.{true};
 ghost use Prim.Native.Nat.{_*_, _≤_, _<_};
 ghost use lib.ListN.{length};
 ghost use Rattle.queues.specs.Header.{Shaped, slots, queueCount, freeCount, laneCount, capacity};
@@ -138,4 +139,29 @@ pub fn turns(t: &mut [u64], r: &[u64], fair: bool) -> Took
             Turn::Left => {}
         }
     }
+}
+
+// `turns` of a fair receive. Most front lanes have an item at hand: their turn is short, and has no call.
+pub fn fair_turns(t: &mut [u64], r: &[u64]) -> Took
+    requires { ⌜ Turning (now t) × Ringed (now t) (now r) ⌝ }
+    ensures { λ a. ⌜ (a, now (t .exit)) ≡ turns (now (t .entry)) (now (r .entry)) true ⌝ }
+{
+    if t[Header::QUEUED] == 0 {
+        return Took::Nothing;
+    }
+    let slot = queue::front(t);
+    let capacity = t[Header::CAPACITY];
+    let l = Lane::load(t, slot);
+    if l.is_at_hand(capacity) {
+        let taken = l.poll_at_hand(Ring::new(slot, capacity), r);
+        let lane = taken.lane;
+        gave_front(t, true, lane);
+        let key = lane.key;
+        return Took::Item {
+            item: taken.item,
+            key: key,
+        };
+    }
+    let took = turns(t, &*r, true);
+    took
 }

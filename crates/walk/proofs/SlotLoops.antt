@@ -5,7 +5,7 @@ use mathlib.Core.Bool.{Bool, true, false, _&&_}
 use mathlib.Core.List.{List}
 use Prim.Native.Nat.{ℕ, suc, _+_, _*_, _-_, _^_, _≤_, _<_}
 use native.Mathlib.Omega.{arith}
-use borrow.Author.Tests.{eqb-true, eqb-false}
+use borrow.Author.Tests.{eqb-true, eqb-false, eq-eqb}
 use lib.Dec.{eqb, ltb}
 use lib.ListN.{length}
 use Rattle.lane.specs.declared.lane.Lane.{Lane}
@@ -15,9 +15,10 @@ use Rattle.lane.specs.Lane.{closeFast, released, releaseAny, releasePending}
 use Rattle.lane.specs.Order.{Refundable}
 use Rattle.lane.specs.Order as Lanes
 use Rattle.lane.specs.Table.{headerWords, head, laneAt, putLane}
+use Rattle.lane.proofs.AtHandLaws.{close-closed}
 use Rattle.lane.proofs.CursorOrder.{span-adds, held-adds}
 use Rattle.lane.proofs.OrderLaws.{cond-holds}
-use Rattle.lane.proofs.TableLaws.{frames, slot-of-lane, other-lane-kept}
+use Rattle.lane.proofs.TableLaws.{frames, load-store-same, slot-of-lane, other-lane-kept}
 use Rattle.model.proofs.Counting.{no}
 use Rattle.queues.specs.Header.{Shaped, issued, capacity}
 use Rattle.queues.specs.Queue.{QueueNames}
@@ -62,6 +63,18 @@ key-released l = release-pending-is (λ m. m .key .slot ≡ l .key .slot) l refl
 
 pub slot-released : (t : List ℕ) (x : ℕ) → releasePending (laneAt t x) .lane .key .slot ≡ x
 slot-released t x = release-pending-is (λ l. l .key .slot ≡ x) (laneAt t x) (slot-of-lane t x) (slot-of-lane t x)
+
+-- nothing unreleased: no window is open, and giving back leaves the lane
+pub none-to-release : (l : Lane) → Refundable l → l .unreleased ≡ 0 → releasePending l .lane ≡ l
+unfolding releasePending releaseAny
+none-to-release l h e =
+    ap (λ m. releaseAny m .lane) (close-closed l (omega arith)) ∙ simp (eq-eqb (l .unreleased) 0 e)
+
+pub none-released : (t : List ℕ) (x : ℕ) → (laneAt t x .registered ≡ 1 → Refundable (laneAt t x)) → laneAt t x .unreleased ≡ 0 → releaseSlot t x ≡ t
+unfolding releaseSlot
+none-released t x h e =
+    cond-holds (λ u. u ≡ t) (eqb (laneAt t x .registered) 1) (putLane t (releasePending (laneAt t x) .lane)) t
+    (λ b. ap (putLane t) (none-to-release (laneAt t x) (h (eqb-true _ 1 b)) e) ∙ load-store-same t x) (λ b. refl)
 
 -- a slot's turn does one of two things
 pub release-slot-is : (P : List ℕ → Type 0) (t : List ℕ) (x : ℕ) → (laneAt t x .registered ≡ 1 → P (putLane t (releasePending (laneAt t x) .lane)))

@@ -15,12 +15,16 @@ use store::refusal;
 use store::refusal::Verdict;
 use yring::ring;
 
-// Gives back the credit of a slot's lane, where one is registered.
+// Gives back the credit of a slot's lane, where one is registered. Of a lane with nothing unreleased, which has no window
+// either, that one word is read and none is written.
 fn release_slot(t: &mut [u64], slot: u64)
     requires { ⌜ Shaped (now t) × (slot < slots (now t)) × (laneAt (now t) slot .registered ≡ 1 → Refundable (laneAt (now t) slot)) ⌝ }
     ensures { λ _. ⌜ now (t .exit) ≡ releaseSlot (now (t .entry)) slot ⌝ }
 {
     let l = Lane::load(t, slot);
+    if l.unreleased == 0 {
+        return;
+    }
     if l.registered == 1 {
         let done = l.release_pending();
         done.lane.store(t);

@@ -30,8 +30,8 @@ enum-known-item c = search needs
 enum-told : tie.Need-enum-told
 enum-told c = search needs
 
-turns-requires : tie.Need-turns-requires
-turns-requires c κs =
+fair-turns-requires : tie.Need-fair-turns-requires
+fair-turns-requires c κs =
     let k = fair-keeps _ (c .before .before .before .before .before .before .before .before .before .before .before .before .before .pre .0) in
     let u = unmoved-is _ _ _ (rw (c .before .enum-told .given .1) at (c .before .before .before .before .before .take-lone .ensures)) (take-lone-unmoved _ (c .before .before .before .before .before .before .before .before .before .before .before .before .before .args .r .now)) in
     rw (u, c .before .before .before .before .before .before .before .before .before .collect-if-ready .ensures) (k .turning, keeps-ringed k (c .before .before .before .before .before .before .before .before .before .before .before .before .before .args .r .now) (c .before .before .before .before .before .before .before .before .before .before .before .before .before .pre .1))
@@ -47,11 +47,11 @@ same-length-2 : tie.Need-same-length-2
 same-length-2 c =
     let k = fair-keeps _ (c .before .before .before .before .before .before .before .before .before .before .before .before .before .before .before .before .pre .0) in
     let u = unmoved-is _ _ _ (rw (c .before .before .before .before .enum-told .given .1, c .before .before .before .before .before .before .before .before .before .before .before .before .collect-if-ready .ensures) at (c .before .before .before .before .before .before .before .before .take-lone .ensures)) (take-lone-unmoved _ (c .before .before .before .before .before .before .before .before .before .before .before .before .before .before .before .before .args .r .now)) in
-    ap (λ (o : Took × List ℕ). length (o .1)) (rw u at (c .before .before .turns .ensures)) ∙ turns-keep _ (c .before .before .before .before .before .before .before .before .before .before .before .before .before .before .before .before .args .r .now) true (k .turning) .long ∙ k .long
+    ap (λ (o : Took × List ℕ). length (o .1)) (rw u at (c .before .before .fair-turns .ensures)) ∙ turns-keep _ (c .before .before .before .before .before .before .before .before .before .before .before .before .before .before .before .before .args .r .now) true (k .turning) .long ∙ k .long
 
 returns-2 : tie.Need-returns-2
 unfolding takeFair
-returns-2 c = c .before .before .turns .ensures ∙ else-nothing _ _ _ (rw (c .before .before .before .before .enum-told .given .1, c .before .before .before .before .before .before .before .before .before .before .before .before .collect-if-ready .ensures) at (c .before .before .before .before .before .before .before .before .take-lone .ensures))
+returns-2 c = c .before .before .fair-turns .ensures ∙ else-nothing _ _ _ (rw (c .before .before .before .before .enum-told .given .1, c .before .before .before .before .before .before .before .before .before .before .before .before .collect-if-ready .ensures) at (c .before .before .before .before .before .before .before .before .take-lone .ensures))
 
 pub take-fair-spec : {M : Type 1} → statement M
 take-fair-spec =
@@ -62,7 +62,7 @@ take-fair-spec =
     take-lone-requires
     enum-known-item
     enum-told
-    turns-requires
+    fair-turns-requires
     same-length
     returns
     same-length-2
