@@ -29,3 +29,4 @@ pub mod Disconnected
 pub mod Examples
 pub mod EventExamples
 pub mod BoundMet
+pub mod StretchExamples
