@@ -30,3 +30,4 @@ pub mod Examples
 pub mod EventExamples
 pub mod BoundMet
 pub mod StretchExamples
+pub mod ShutOut

@@ -1,7 +1,7 @@
 -- The words of demands 2 and 3 on one of each thing that can happen in a run, computed: what ends lane 1's stretch, what looks in vain, what is counted.
 -- Assumes nothing.
 use mathlib.Core.Path.{_≡_, refl}
-use mathlib.Core.Bool.{Bool, true, false}
+use mathlib.Core.Bool.{true, false}
 use mathlib.Core.List.{List, [], _∷_, map}
 use Prim.Native.Nat.{ℕ}
 use Rattle.model.specs.declared.LaneKey.{LaneKey}
