@@ -33,3 +33,4 @@ pub mod OneTurn
 pub mod Collections
 pub mod Disconnected
 pub mod Signals
+pub mod ShutOut

@@ -74,7 +74,7 @@ module _ (R S : Rules) (sim : Simulation R S) where
     accepted-too : (S .opens o (sim .lent w)) .0 ≡ Done
     accepted-too = sym (sim .opens-alike o w fo) ∙ d
 
-    opened-trace : (cs : List Call) → Each CallFits cs → trace R ((R .opens o w) .1) cs ≡ trace S ((S .opens o (sim .lent w)) .1) cs
+    pub opened-trace : (cs : List Call) → Each CallFits cs → trace R ((R .opens o w) .1) cs ≡ trace S ((S .opens o (sim .lent w)) .1) cs
     opened-trace cs f = same-trace ((R .opens o w) .1) cs f (sim .opens-ok o w fo d) ∙ ap (λ (x : S .State). trace S x cs) (sim .opens-view o w fo d)
 
     opened-after : (cs : List Call) → Each CallFits cs → sim .view (after R ((R .opens o w) .1) cs) ≡ after S ((S .opens o (sim .lent w)) .1) cs

@@ -1,0 +1,146 @@
+-- Wrong rules, each document 01's but for one call: those that document 01 says demands 2 and 3 shut out.
+-- That a demand does not hold of them is in proofs/ShutOut.antt.
+-- Assumes nothing.
+use mathlib.Core.Bool.{false, not}
+use mathlib.Core.List.{List, [], _∷_}
+use Prim.Native.Nat.{ℕ, suc}
+use lib.ListN.{length}
+use lib.Dec.{ltb}
+use Rattle.model.specs.declared.LaneKey.{LaneKey}
+use Rattle.model.specs.declared.SenderCall.{SenderCall}
+use Rattle.model.specs.declared.SenderCall.the-variants.{RegisterSender, TrySend, TrySendUnsignaled, DropSender}
+use Rattle.model.specs.declared.ReceiveCall.{ReceiveCall}
+use Rattle.model.specs.declared.ReceiveCall.the-variants.{TryRecv, TryRecvFair, TryRecvFrom, TryRecvBatchInto}
+use Rattle.model.specs.declared.ControlCall.{ControlCall}
+use Rattle.model.specs.declared.ControlCall.the-variants.{Pause, Resume, CloseLane, ReleaseConsumed, PollAllLanes, CloseReceiver, CountHeld}
+use Rattle.model.specs.declared.Call.{Call}
+use Rattle.model.specs.declared.Call.the-variants.{Sender, Receive, Control}
+use Rattle.model.specs.declared.Refusal.the-variants.{ReceiverClosed, OutputShort, Full}
+use Rattle.model.specs.declared.Answer.the-variants.{Items, Held, Refused}
+use Rattle.model.specs.State.{State}
+use Rattle.model.specs.Changes.{withBudget}
+use Rattle.model.specs.Ready.{collectReady}
+use Rattle.model.specs.Turn.{runDown, giveFront, polled}
+use Rattle.model.specs.Outcome.{Outcome, says, unless}
+use Rattle.model.specs.Runs.{Lent, Rules}
+use Rattle.model.specs.Sender.{trySend, senderOutcome}
+use Rattle.model.specs.Receive.{answerOne, takeUpTo, releaseAll, answerItems, written, receiveOutcome}
+use Rattle.model.specs.Control.{controlOutcome}
+use Rattle.model.specs.Opening.{openingOutcome}
+
+-- Rules with these outcomes of the sender calls, the receives and the other calls.
+unfoldable pub callBy : (State → SenderCall → Outcome) → (State → ReceiveCall → Outcome) → (State → ControlCall → Outcome) → State → Call → Outcome
+callBy sending receiving controlling s (Sender c) = sending s c
+callBy sending receiving controlling s (Receive r) = receiving s r
+callBy sending receiving controlling s (Control c) = controlling s c
+
+unfoldable pub outputBy : ReceiveCall → List (LaneKey × ℕ) → List ℕ → List ℕ
+outputBy TryRecv l out = out
+outputBy TryRecvFair l out = out
+outputBy (TryRecvFrom i) l out = out
+outputBy (TryRecvBatchInto limit room) l out = written l out
+
+abbrev pub rulesBy : (State → SenderCall → Outcome) → (State → ReceiveCall → Outcome) → (State → ControlCall → Outcome) → Rules
+rulesBy sending receiving controlling = record {
+  State = State;
+  Stores = Lent;
+  lengths = λ lent. lent;
+  opens = λ o lent. (openingOutcome o lent) .1;
+  step = λ s c. (callBy sending receiving controlling s c) .1;
+  hands = λ s r. (receiving s r) .0;
+  output = λ s r out. outputBy r ((receiving s r) .0) out;
+}
+
+-- "a receiver that says Empty before looking": a plain receive takes of what is queued, and collects nothing
+unfoldable pub receiveBeforeLooking : State → ReceiveCall → Outcome
+receiveBeforeLooking s TryRecv = unless ((not (s .isOpen), ReceiverClosed) ∷ []) s (let t = giveFront false s (s .queue) in answerOne (t .0) (t .1))
+receiveBeforeLooking s TryRecvFair = receiveOutcome s TryRecvFair
+receiveBeforeLooking s (TryRecvFrom i) = receiveOutcome s (TryRecvFrom i)
+receiveBeforeLooking s (TryRecvBatchInto limit room) = receiveOutcome s (TryRecvBatchInto limit room)
+
+abbrev pub emptyBeforeLooking : Rules
+emptyBeforeLooking = rulesBy senderOutcome receiveBeforeLooking controlOutcome
+
+-- "a fair receive that serves only the front lane": it does not go to the back
+unfoldable pub receiveOfFront : State → ReceiveCall → Outcome
+receiveOfFront s TryRecvFair =
+    unless ((not (s .isOpen), ReceiverClosed) ∷ []) s
+    (let t = runDown (withBudget 64 (collectReady s)) in let g = giveFront false t (t .queue) in answerOne (g .0) (g .1))
+receiveOfFront s TryRecv = receiveOutcome s TryRecv
+receiveOfFront s (TryRecvFrom i) = receiveOutcome s (TryRecvFrom i)
+receiveOfFront s (TryRecvBatchInto limit room) = receiveOutcome s (TryRecvBatchInto limit room)
+
+abbrev pub fairServesFrontOnly : Rules
+fairServesFrontOnly = rulesBy senderOutcome receiveOfFront controlOutcome
+
+-- "a send refusing every item as full"
+unfoldable pub sendRefused : State → SenderCall → Outcome
+sendRefused s (TrySend k v) = says (Refused Full) s
+sendRefused s (RegisterSender most) = senderOutcome s (RegisterSender most)
+sendRefused s (TrySendUnsignaled k v) = senderOutcome s (TrySendUnsignaled k v)
+sendRefused s (DropSender k) = senderOutcome s (DropSender k)
+
+abbrev pub sendFullAlways : Rules
+sendFullAlways = rulesBy sendRefused receiveOutcome controlOutcome
+
+-- "or storing nothing": it answers as a send does, and leaves the state as it was
+unfoldable pub sendUnstored : State → SenderCall → Outcome
+sendUnstored s (TrySend k v) = says ((trySend s k v) .1 .0) s
+sendUnstored s (RegisterSender most) = senderOutcome s (RegisterSender most)
+sendUnstored s (TrySendUnsignaled k v) = senderOutcome s (TrySendUnsignaled k v)
+sendUnstored s (DropSender k) = senderOutcome s (DropSender k)
+
+abbrev pub sendStoresNothing : Rules
+sendStoresNothing = rulesBy sendUnstored receiveOutcome controlOutcome
+
+-- A batch with another outcome where it is not refused.
+unfoldable pub batchBy : (ℕ → State → Outcome) → State → ReceiveCall → Outcome
+batchBy batch s (TryRecvBatchInto limit room) = unless ((not (s .isOpen), ReceiverClosed) ∷ (ltb room limit, OutputShort) ∷ []) s (batch limit s)
+batchBy batch s TryRecv = receiveOutcome s TryRecv
+batchBy batch s TryRecvFair = receiveOutcome s TryRecvFair
+batchBy batch s (TryRecvFrom i) = receiveOutcome s (TryRecvFrom i)
+
+-- "a batch that moves its first chunk and only reports the others": one item goes out of its ring, and all are handed out
+unfoldable pub firstMoved : ℕ → State → Outcome
+firstMoved limit s = answerItems limit ((takeUpTo limit s) .0) (releaseAll ((takeUpTo 1 s) .1))
+
+abbrev pub batchMovesFirstOnly : Rules
+batchMovesFirstOnly = rulesBy senderOutcome (batchBy firstMoved) controlOutcome
+
+-- the same, and only the one is handed out
+unfoldable pub othersReported : ℕ → State → Outcome
+othersReported limit s = let t = takeUpTo limit s in let u = takeUpTo 1 s in (u .0, (Items (length (t .0)), releaseAll (u .1)))
+
+abbrev pub batchReportsOthers : Rules
+batchReportsOthers = rulesBy senderOutcome (batchBy othersReported) controlOutcome
+
+-- "or a count it did not move": one more than it moved
+unfoldable pub oneMoreCounted : ℕ → State → Outcome
+oneMoreCounted limit s = let t = takeUpTo limit s in (t .0, (Items (suc (length (t .0))), releaseAll (t .1)))
+
+abbrev pub batchCountsOneMore : Rules
+batchCountsOneMore = rulesBy senderOutcome (batchBy oneMoreCounted) controlOutcome
+
+-- "one item handed out for ever": a plain receive leaves the item where it is
+unfoldable pub receiveLeavesItem : State → ReceiveCall → Outcome
+receiveLeavesItem s TryRecv =
+    unless ((not (s .isOpen), ReceiverClosed) ∷ []) s (let t = polled s in answerOne ((giveFront false t (t .queue)) .0) t)
+receiveLeavesItem s TryRecvFair = receiveOutcome s TryRecvFair
+receiveLeavesItem s (TryRecvFrom i) = receiveOutcome s (TryRecvFrom i)
+receiveLeavesItem s (TryRecvBatchInto limit room) = receiveOutcome s (TryRecvBatchInto limit room)
+
+abbrev pub itemForEver : Rules
+itemForEver = rulesBy senderOutcome receiveLeavesItem controlOutcome
+
+-- "a held count of 0"
+unfoldable pub countsNone : State → ControlCall → Outcome
+countsNone s CountHeld = says (Held 0) s
+countsNone s (Pause i) = controlOutcome s (Pause i)
+countsNone s (Resume i) = controlOutcome s (Resume i)
+countsNone s (CloseLane i) = controlOutcome s (CloseLane i)
+countsNone s ReleaseConsumed = controlOutcome s ReleaseConsumed
+countsNone s PollAllLanes = controlOutcome s PollAllLanes
+countsNone s CloseReceiver = controlOutcome s CloseReceiver
+
+abbrev pub heldZero : Rules
+heldZero = rulesBy senderOutcome receiveOutcome countsNone
