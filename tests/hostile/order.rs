@@ -1,5 +1,5 @@
 //! Document 01's "A store in order", in Rust, of any words: another reading beside crate `order`, and one that shares no code with it.
-//! Quoted sentences are document 01's; the places of the words are those of crates/lane/specs/Table.antt and crates/ready/specs.
+//! Quoted sentences are document 01's; the places of the words are those of the specifications Table, Header, Queue, Registry and Ready.
 
 /// A table store read by names.
 struct Table<'a>(&'a [u64]);
