@@ -2,12 +2,13 @@
 -- Assumes nothing.
 use mathlib.Core.Path.{_≡_, refl, sym, ap, ap₂, _∙_, subst}
 use mathlib.Core.Bool.{Bool, true, false}
-use mathlib.Core.List.{List}
-use Prim.Native.Nat.{ℕ, zero, suc, _+_, _≤_, _<_}
+use mathlib.Core.List.{List, [], _∷_}
+use Prim.Native.Nat.{ℕ, zero, suc, _+_, _-_, _≤_, _<_}
 use native.Mathlib.Omega.{arith}
 use borrow.Author.Tests.{eq-eqb, ne-eqb, eqb-true, lt-ltb}
 use lib.Dec.{eqb, ltb}
-use lib.ListN.{length}
+use lib.ListN.{length, set}
+use lib.Seq.{set-comm}
 use Rattle.model.specs.State.{registeredLanes}
 use Rattle.model.specs.declared.LaneKey.{LaneKey}
 use Rattle.yring.specs.declared.ring.Ring.{Ring}
@@ -19,11 +20,12 @@ use Rattle.lane.specs.declared.lane.LanePoll.the-variants as LanePoll
 use Rattle.yring.specs.Ring.{ringOf}
 use Rattle.lane.specs.Order.{InOrder, poppedLane}
 use Rattle.lane.specs.Lane.{popFast, grantFast, openFor, closeFast, reload, popFair}
-use Rattle.lane.specs.Table.{laneAt, setHead}
+use Rattle.yring.specs.Lists.{scatter}
+use Rattle.lane.specs.Table.{laneAt, words, cellAt, putLane, setHead}
 use Rattle.lane.proofs.OrderLaws.{cond-holds, closed-reload-keeps, window-for-fits}
 use Rattle.lane.proofs.TableLaws.{frames, slot-of-lane}
 use Rattle.queues.specs.Header.{Shaped, issued, slots, queueCount, budget, capacity, fastSlot}
-use Rattle.queues.proofs.QueueLaws.{header-in, shaped-setHead}
+use Rattle.queues.proofs.QueueLaws.{header-in}
 use Rattle.queues.specs.Queue.{frontSlot}
 use Rattle.ready.specs.Ready.{collectReady}
 use Rattle.store.specs.View.{flag, slotAt, view}
@@ -226,11 +228,24 @@ pub take-lone-is : (t r : List ℕ) → queueCount t ≡ 1 → (p : Popped)
 unfolding takeLone
 take-lone-is t r h p f = sym (rw (eq-eqb (queueCount t) 1 h) (ap (openTook t) (sym f)))
 
-pub opened-room : (t : List ℕ) (p : Popped) → Shaped t × (poppedLane p .key .slot < slots t) × Affords t p → (item : ℕ) (l : Lane) → p ≡ Popped.Item item l → (v : ℕ)
-    → Shaped (setHead t 12 v) × (l .key .slot < slots (setHead t 12 v)) × (0 < budget (setHead t 12 v))
-opened-room t p k item l e v =
-    let q = subst (λ (z : Popped). Shaped t × (poppedLane z .key .slot < slots t) × Affords t z) e k in
-    (shaped-setHead t (q .0) 12 v refl refl refl refl refl refl, simp frames (q .1), simp frames (q .2))
+-- a header word stored before a lane, or after it
+scatter-after : (ws t : List ℕ) (p : ℕ → ℕ) (k v : ℕ) → ((i : ℕ) → k ≡ p i → ⊥) → scatter (set t k v) p ws ≡ set (scatter t p ws) k v
+scatter-after [] t p k v n = refl
+scatter-after (w ∷ ws) t p k v n =
+    ap (λ u. scatter u (λ i. p (suc i)) ws) (set-comm t k (p 0) v w (n 0)) ∙ scatter-after ws (set t (p 0) w) (λ i. p (suc i)) k v (λ i. n (suc i))
+
+lane-after-fast : (t : List ℕ) (l : Lane) (v : ℕ) → putLane (setHead t 12 v) l ≡ setHead (putLane t l) 12 v
+unfolding putLane
+lane-after-fast t l v = scatter-after (words l) t (λ i. cellAt i (l .key .slot)) 12 v (λ i e. omega arith)
+
+-- `fast_slot` may be stored after the item is counted
+pub fast-after : (t u : List ℕ) (took : Took) (item : ℕ) (l : Lane) (v : ℕ) → (took, u) ≡ windowTook t item l → (took, setHead u 12 v) ≡ windowTook (setHead t 12 v) item l
+unfolding windowTook
+fast-after t u took item l v e =
+    let same : budget (setHead t 12 v) ≡ budget t = simp frames in
+    ap (λ (o : Took × List ℕ). (o .0, setHead (o .1) 12 v)) e
+    ∙ ap (λ (w : List ℕ). (Took.Item item (l .key), w))
+    (set-comm (putLane t l) 5 12 (budget t - 1) v (λ z. omega arith) ∙ ap₂ (λ (w : List ℕ) (b : ℕ). setHead w 5 (b - 1)) (sym (lane-after-fast t l v)) (sym same))
 
 window-long : (t : List ℕ) (item : ℕ) (l : Lane) (v : ℕ) → length ((windowTook (setHead t 12 v) item l) .1) ≡ length t
 unfolding windowTook
@@ -248,5 +263,8 @@ take-lone-long t r = cond-holds (λ (o : Took × List ℕ). length (o .1) ≡ le
 pub fair-budget : (t : List ℕ) → Turning t → 0 < budget (setHead (collectReady true t) 5 64)
 fair-budget t k = simp (frames, header-in (collectReady true t) (collect-keeps true t k .turning .shaped)) (omega arith)
 
-pub opened-long : (t u : List ℕ) (took : Took) (item : ℕ) (l : Lane) (v : ℕ) → (took, u) ≡ windowTook (setHead t 12 v) item l → length u ≡ length t
-opened-long t u took item l v e = ap (λ (o : Took × List ℕ). length (o .1)) e ∙ window-long t item l v
+pub counted-long : (t u : List ℕ) (took : Took) (item : ℕ) (l : Lane) → (took, u) ≡ windowTook t item l → length u ≡ length t
+unfolding windowTook
+counted-long t u took item l e =
+    let same : length (setHead (putLane t l) 5 (budget t - 1)) ≡ length t = simp frames in
+    ap (λ (o : Took × List ℕ). length (o .1)) e ∙ same

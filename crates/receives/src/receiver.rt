@@ -45,8 +45,9 @@ fn took_of_new(t: &mut [u64], item: u64, l: Lane) -> Took
     requires { ⌜ Shaped (now t) × (l .key .slot < slots (now t)) × (0 < budget (now t)) ⌝ }
     ensures { λ a. ⌜ (a, now (t .exit)) ≡ openTook (now (t .entry)) (Popped.Item item l) ⌝ }
 {
+    let took = took_of_window(t, item, l);
     t[Header::FAST] = l.key.slot;
-    took_of_window(t, item, l)
+    took
 }
 
 // The item of a window that was just opened, if it has one.

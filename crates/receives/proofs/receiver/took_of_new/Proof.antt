@@ -1,29 +1,28 @@
 -- `receives::receiver::took_of_new` meets its contract.
 -- Assumes nothing.
-use mathlib.Core.Path.{refl}
-use Rattle.lane.specs.declared.lane.Popped.the-variants as Popped
+use lib.ListN.{length-set}
+use native.Mathlib.Omega.{arith}
 use Rattle.receives.specs.Receive.{openTook}
-use Rattle.receives.proofs.ReceiveLaws.{opened-room, opened-long}
+use Rattle.receives.proofs.ReceiveLaws.{fast-after, counted-long}
 use borrow.Author.Needs.{needs}
 use Rattle.receives.proofs.receiver.took_of_new.Statement.{statement}
 use Rattle.receives.proofs.receiver.took_of_new.Tie as tie
 
-took-of-window-requires : tie.Need-took-of-window-requires
-took-of-window-requires c κs =
-    opened-room (c .before .before .args .t .now) (Popped.Item (c .before .before .args .item) (c .before .before .args .l)) (c .before .before .pre) _ _ refl (c .before .before .args .l .key .slot)
+slice-write-t : tie.Need-slice-write-t
+slice-write-t c = omega (arith, counted-long _ _ _ _ _ (c .before .before .took-of-window .ensures), c .before .before .before .before .before .pre .0 .room)
 
 same-length : tie.Need-same-length
-same-length c = opened-long (c .before .before .before .before .before .args .t .now) _ _ (c .before .before .before .before .before .args .item) (c .before .before .before .before .before .args .l) (c .before .before .before .before .before .args .l .key .slot) (c .before .before .took-of-window .ensures)
+same-length c = simp length-set (counted-long _ _ _ _ _ (c .before .before .took-of-window .ensures))
 
 returns : tie.Need-returns
 unfolding openTook
-returns c = c .before .before .took-of-window .ensures
+returns c = fast-after _ _ _ _ _ _ (c .before .before .took-of-window .ensures)
 
 pub took-of-new-spec : {M : Type 1} → statement M
 took-of-new-spec =
     tie.close
     (tie.spec
-    (λ c. search needs)
-    took-of-window-requires
+    (λ c κs. search needs)
+    slice-write-t
     same-length
     returns)
