@@ -12,8 +12,8 @@ use Rattle.lane.specs.Table.{cell}
 use Rattle.ready.specs.Header.{Shaped, issued, slots, queueFront, queueCount, freeCount}
 use Rattle.ready.specs.Queue.{queueColumn, queueRow, queueOf}
 use Rattle.ready.specs.Registry.{freeColumn, freeOf}
+use Rattle.clauses.specs.Clauses.{Names}
 use Rattle.order.specs.Seen.{has, added, Seen}
-use Rattle.order.specs.Clauses.{Names}
 use Rattle.order.proofs.SeenLaws.{Noted, noted-none, noted-more, noted-no, noted-all}
 
 -- a ring's next row

@@ -6,8 +6,8 @@ ghost use Rattle.ready.specs.Header.{Shaped, issued, capacity, fastSlot, budget
 ghost use Rattle.ready.specs.Queue.{queueOf};
 ghost use Rattle.ready.specs.Ready.{pageBit};
 ghost use Rattle.store.specs.Order.{Fast};
-ghost use Rattle.order.specs.Tells.{Tells};
-ghost use Rattle.order.specs.Clauses.{RegisteredHolds, UnregisteredHolds, SlotHolds};
+ghost use Rattle.clauses.specs.Tells.{Tells};
+ghost use Rattle.clauses.specs.Clauses.{RegisteredHolds, UnregisteredHolds, SlotHolds};
 use crate::record;
 use lane::lane::Lane;
 use ready::header::Header;
@@ -105,7 +105,7 @@ fn unregistered_holds(generation: u64, named: u64, free: u64) -> bool
 }
 
 // The slot stands `queued` times in the queue and `free` times in the free list.
-pub(crate) fn slot_holds(t: &[u64], l: Lane, slot: u64, queued: u64, free: u64, batch: u64) -> bool
+pub fn slot_holds(t: &[u64], l: Lane, slot: u64, queued: u64, free: u64, batch: u64) -> bool
     requires { ⌜ Shaped (now t) × (slot < issued (now t)) × (batch ≡ releaseBatch (capacity (now t))) ⌝ }
     ensures { λ a. ⌜ Tells (SlotHolds (now (t .entry)) l slot queued free) a ⌝ }
 {

@@ -1,10 +1,10 @@
--- `order::slot::queued_holds` meets its contract.
+-- `clauses::slot::queued_holds` meets its contract.
 -- Assumes nothing.
 use native.Mathlib.Omega.{arith}
-use Rattle.order.specs.Tells.{yes, no}
-use Rattle.order.proofs.TellsLaws.{tells-eq}
-use Rattle.order.proofs.slot.queued_holds.Statement.{statement}
-use Rattle.order.proofs.slot.queued_holds.Tie as tie
+use Rattle.clauses.specs.Tells.{yes, no}
+use Rattle.clauses.proofs.TellsLaws.{tells-eq}
+use Rattle.clauses.proofs.slot.queued_holds.Statement.{statement}
+use Rattle.clauses.proofs.slot.queued_holds.Tie as tie
 
 pub queued-holds-spec : {M : Type 1} → statement M
 queued-holds-spec =

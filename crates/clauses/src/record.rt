@@ -3,7 +3,7 @@ ghost use mathlib.Core.Path.{_≡_};
 ghost use Rattle.model.specs.State.{releaseBatch};
 ghost use Rattle.lane.specs.Order.{Cursors, Counts, InOrder};
 ghost use Rattle.store.specs.Order.{Flags};
-ghost use Rattle.order.specs.Tells.{Tells};
+ghost use Rattle.clauses.specs.Tells.{Tells};
 use lane::lane::Lane;
 use lane::ring;
 

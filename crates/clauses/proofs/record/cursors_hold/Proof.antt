@@ -1,12 +1,12 @@
--- `order::record::cursors_hold` meets its contract.
+-- `clauses::record::cursors_hold` meets its contract.
 -- Assumes nothing.
 use mathlib.Core.Path.{sym}
 use borrow.Author.Needs.{needs}
-use Rattle.order.specs.Tells.{no}
-use Rattle.order.proofs.TellsLaws.{tells-le}
-use Rattle.order.proofs.LaneLaws.{over, within}
-use Rattle.order.proofs.record.cursors_hold.Statement.{statement}
-use Rattle.order.proofs.record.cursors_hold.Tie as tie
+use Rattle.clauses.specs.Tells.{no}
+use Rattle.clauses.proofs.TellsLaws.{tells-le}
+use Rattle.clauses.proofs.LaneLaws.{over, within}
+use Rattle.clauses.proofs.record.cursors_hold.Statement.{statement}
+use Rattle.clauses.proofs.record.cursors_hold.Tie as tie
 
 returns-4 : tie.Need-returns-4
 returns-4 c =

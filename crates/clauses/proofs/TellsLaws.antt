@@ -7,7 +7,7 @@ use native.Mathlib.Omega.{arith}
 use borrow.Author.Tests.{ltb-true, ltb-false, leb-true, leb-false, eqb-true, eqb-false}
 use lib.Dec.{ltb, leb, eqb}
 use Rattle.model.proofs.Counting as counting
-use Rattle.order.specs.Tells.{Tells, yes, no}
+use Rattle.clauses.specs.Tells.{Tells, yes, no}
 
 pub told : {P : Type 0} {a : Bool} → Tells P a → a ≡ true → P
 told (yes p) e = p

@@ -1,10 +1,10 @@
--- `order::record::counts_hold` meets its contract.
+-- `clauses::record::counts_hold` meets its contract.
 -- Assumes nothing.
 use native.Mathlib.Omega.{arith}
-use Rattle.order.specs.Tells.{no}
-use Rattle.order.proofs.LaneLaws.{counts-tells, cached-no}
-use Rattle.order.proofs.record.counts_hold.Statement.{statement}
-use Rattle.order.proofs.record.counts_hold.Tie as tie
+use Rattle.clauses.specs.Tells.{no}
+use Rattle.clauses.proofs.LaneLaws.{counts-tells, cached-no}
+use Rattle.clauses.proofs.record.counts_hold.Statement.{statement}
+use Rattle.clauses.proofs.record.counts_hold.Tie as tie
 
 returns-5 : tie.Need-returns-5
 returns-5 c = no (cached-no (λ e. omega (arith, e, c .if5 .taken)))

@@ -1,12 +1,12 @@
--- `order::slot::registered_holds` meets its contract.
+-- `clauses::slot::registered_holds` meets its contract.
 -- Assumes nothing.
 use native.Mathlib.Omega.{arith}
 use borrow.Author.Tests.{not-true, not-false}
 use borrow.Author.Needs.{needs}
-use Rattle.order.specs.Tells.{no}
-use Rattle.order.proofs.TellsLaws.{told, untold, tells-of}
-use Rattle.order.proofs.slot.registered_holds.Statement.{statement}
-use Rattle.order.proofs.slot.registered_holds.Tie as tie
+use Rattle.clauses.specs.Tells.{no}
+use Rattle.clauses.proofs.TellsLaws.{told, untold, tells-of}
+use Rattle.clauses.proofs.slot.registered_holds.Statement.{statement}
+use Rattle.clauses.proofs.slot.registered_holds.Tie as tie
 
 returns-2 : tie.Need-returns-2
 returns-2 c = no (λ p. untold (c .before .queued-holds .ensures) (not-true _ (c .if2 .taken)) (p .queued-is, p .unpaused))

@@ -9,8 +9,8 @@ use Rattle.model.specs.State.{releaseBatch}
 use Rattle.lane.specs.declared.lane.Lane.{Lane}
 use Rattle.lane.specs.Cursor.{distance}
 use Rattle.lane.specs.Order.{Cursors, Counts, InOrder}
-use Rattle.order.specs.Tells.{Tells}
-use Rattle.order.proofs.TellsLaws.{tells-of, tells-eq}
+use Rattle.clauses.specs.Tells.{Tells}
+use Rattle.clauses.proofs.TellsLaws.{tells-of, tells-eq}
 
 module _ {batch taken ahead cached unreleased burst window : ℕ} where
   pub cached-no : (cached ≡ ahead - window → ⊥) → Counts batch taken ahead cached unreleased burst window → ⊥

@@ -1,10 +1,10 @@
--- `order::record::flags_hold` meets its contract.
+-- `clauses::record::flags_hold` meets its contract.
 -- Assumes nothing.
 use native.Mathlib.Omega.{arith}
-use Rattle.order.specs.Tells.{no}
-use Rattle.order.proofs.TellsLaws.{tells-le}
-use Rattle.order.proofs.record.flags_hold.Statement.{statement}
-use Rattle.order.proofs.record.flags_hold.Tie as tie
+use Rattle.clauses.specs.Tells.{no}
+use Rattle.clauses.proofs.TellsLaws.{tells-le}
+use Rattle.clauses.proofs.record.flags_hold.Statement.{statement}
+use Rattle.clauses.proofs.record.flags_hold.Tie as tie
 
 returns-5 : tie.Need-returns-5
 returns-5 c =

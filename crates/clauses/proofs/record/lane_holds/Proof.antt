@@ -1,12 +1,12 @@
--- `order::record::lane_holds` meets its contract.
+-- `clauses::record::lane_holds` meets its contract.
 -- Assumes nothing.
 use borrow.Author.Tests.{not-true, not-false}
 use borrow.Author.Needs.{needs}
-use Rattle.order.specs.Tells.{no}
-use Rattle.order.proofs.TellsLaws.{told, untold}
-use Rattle.order.proofs.LaneLaws.{lane-tells}
-use Rattle.order.proofs.record.lane_holds.Statement.{statement}
-use Rattle.order.proofs.record.lane_holds.Tie as tie
+use Rattle.clauses.specs.Tells.{no}
+use Rattle.clauses.proofs.TellsLaws.{told, untold}
+use Rattle.clauses.proofs.LaneLaws.{lane-tells}
+use Rattle.clauses.proofs.record.lane_holds.Statement.{statement}
+use Rattle.clauses.proofs.record.lane_holds.Tie as tie
 
 returns : tie.Need-returns
 returns c = no (λ p. untold (c .before .cursors-hold .ensures) (not-true _ (c .if1 .taken)) (p .cursors))

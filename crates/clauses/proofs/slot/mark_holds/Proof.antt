@@ -1,14 +1,14 @@
--- `order::slot::mark_holds` meets its contract.
+-- `clauses::slot::mark_holds` meets its contract.
 -- Assumes nothing.
 use Prim.Native.Nat.{_%_}
 use mathlib.Core.Path.{_∙_, sym, ap}
 use borrow.Author.Needs.{needs}
 use Rattle.ready.specs.declared.ready.Page.{Page}
 use Rattle.ready.specs.Bits.{bit}
-use Rattle.order.specs.Tells.{yes}
-use Rattle.order.proofs.TellsLaws.{tells-eq}
-use Rattle.order.proofs.slot.mark_holds.Statement.{statement}
-use Rattle.order.proofs.slot.mark_holds.Tie as tie
+use Rattle.clauses.specs.Tells.{yes}
+use Rattle.clauses.proofs.TellsLaws.{tells-eq}
+use Rattle.clauses.proofs.slot.mark_holds.Statement.{statement}
+use Rattle.clauses.proofs.slot.mark_holds.Tie as tie
 
 returns-4 : tie.Need-returns-4
 returns-4 c =

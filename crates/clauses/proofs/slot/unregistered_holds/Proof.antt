@@ -1,9 +1,9 @@
--- `order::slot::unregistered_holds` meets its contract.
+-- `clauses::slot::unregistered_holds` meets its contract.
 -- Assumes nothing.
 use native.Mathlib.Omega.{arith}
-use Rattle.order.specs.Tells.{yes, no}
-use Rattle.order.proofs.slot.unregistered_holds.Statement.{statement}
-use Rattle.order.proofs.slot.unregistered_holds.Tie as tie
+use Rattle.clauses.specs.Tells.{yes, no}
+use Rattle.clauses.proofs.slot.unregistered_holds.Statement.{statement}
+use Rattle.clauses.proofs.slot.unregistered_holds.Tie as tie
 
 returns-4 : tie.Need-returns-4
 returns-4 c = yes (record { unqueued = omega (arith, c .before .before .if1 .left); generation-below = λ h g. omega (arith, g, c .if3 .left) })

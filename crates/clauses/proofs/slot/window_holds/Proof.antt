@@ -1,12 +1,12 @@
--- `order::slot::window_holds` meets its contract.
+-- `clauses::slot::window_holds` meets its contract.
 -- Assumes nothing.
 use mathlib.Core.Path.{_∙_, sym}
 use native.Mathlib.Omega.{arith}
 use borrow.Author.Needs.{needs}
-use Rattle.order.specs.Tells.{yes, no}
-use Rattle.order.proofs.SlotLaws.{front-alone, no-front, not-front}
-use Rattle.order.proofs.slot.window_holds.Statement.{statement}
-use Rattle.order.proofs.slot.window_holds.Tie as tie
+use Rattle.clauses.specs.Tells.{yes, no}
+use Rattle.clauses.proofs.SlotLaws.{front-alone, no-front, not-front}
+use Rattle.clauses.proofs.slot.window_holds.Statement.{statement}
+use Rattle.clauses.proofs.slot.window_holds.Tie as tie
 
 returns-2 : tie.Need-returns-2
 returns-2 c = no (λ p. omega (arith, p (omega (arith, c .before .before .if1 .left)) .at-fast, c .if2 .taken))

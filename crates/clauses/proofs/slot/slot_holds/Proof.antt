@@ -1,12 +1,12 @@
--- `order::slot::slot_holds` meets its contract.
+-- `clauses::slot::slot_holds` meets its contract.
 -- Assumes nothing.
 use borrow.Author.Tests.{not-true, not-false}
 use borrow.Author.Needs.{needs}
-use Rattle.order.specs.Tells.{no}
-use Rattle.order.proofs.TellsLaws.{told, untold}
-use Rattle.order.proofs.SlotLaws.{registered-tells, unregistered-tells}
-use Rattle.order.proofs.slot.slot_holds.Statement.{statement}
-use Rattle.order.proofs.slot.slot_holds.Tie as tie
+use Rattle.clauses.specs.Tells.{no}
+use Rattle.clauses.proofs.TellsLaws.{told, untold}
+use Rattle.clauses.proofs.SlotLaws.{registered-tells, unregistered-tells}
+use Rattle.clauses.proofs.slot.slot_holds.Statement.{statement}
+use Rattle.clauses.proofs.slot.slot_holds.Tie as tie
 
 returns : tie.Need-returns
 returns c = no (λ p. untold (c .before .flags-hold .ensures) (not-true _ (c .if1 .taken)) (p .flags))
