@@ -9,10 +9,10 @@ use Rattle.lane.specs.Table.{laneAt}
 use Rattle.queues.specs.Queue.{queueOf}
 use Rattle.queues.specs.Registry.{freeOf}
 use Rattle.store.specs.Order.{StoreInOrder}
-use Rattle.order.specs.Tells.{Tells, no}
+use Rattle.clauses.specs.Tells.{Tells, no}
+use Rattle.clauses.specs.Clauses.{SlotHolds, SlotsHold, Clauses}
+use Rattle.clauses.proofs.TellsLaws.{told, tells-true}
 use Rattle.order.specs.Seen.{has, Seen}
-use Rattle.order.specs.Clauses.{SlotHolds, SlotsHold, Clauses}
-use Rattle.order.proofs.TellsLaws.{told, tells-true}
 use Rattle.order.proofs.ClauseLaws.{in-order-holds, holds-in-order}
 
 -- the bitmaps say how often the queue and the free list name a slot

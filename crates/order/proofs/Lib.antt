@@ -1,11 +1,9 @@
 pub mod ClauseLaws
-pub mod TellsLaws
 pub mod HeaderLaws
 pub mod SeenLaws
 pub mod NamesLaws
 pub mod MarkLaws
-pub mod LaneLaws
-pub mod SlotLaws
+pub mod SlotsLaws
 pub mod AnswerLaws
 pub mod TestLaws
 pub mod InOrderLaws

@@ -7,9 +7,9 @@ use native.Mathlib.Omega.{arith}
 use lib.Dec.{ltb, leb, eqb}
 use Rattle.model.specs.Lists.{both, either}
 use Rattle.model.proofs.Counting.{equal, other, same?}
-use Rattle.order.specs.Tells.{Tells, yes, no}
+use Rattle.clauses.specs.Tells.{Tells, yes, no}
+use Rattle.clauses.proofs.TellsLaws.{tells-of, tells-lt, tells-le, tells-eq}
 use Rattle.order.specs.InOrder.{implies, allBelow, someBelow}
-use Rattle.order.proofs.TellsLaws.{tells-of, tells-lt, tells-le, tells-eq}
 
 -- two tests of the same have the same answer
 pub tells-same : {P : Type 0} {a b : Bool} → Tells P a → Tells P b → a ≡ b

@@ -1,4 +1,2 @@
-pub mod Tells
 pub mod Seen
-pub mod Clauses
 pub mod InOrder

@@ -6,9 +6,7 @@ ghost use Rattle.store.specs.Order.{StoreInOrder};
 mod header;
 mod marks;
 mod names;
-mod record;
 mod seen;
-mod slot;
 mod slots;
 
 // Any words, of any length. Nothing is read before the lengths are known, and no word is used before it is tested.

@@ -1,11 +1,11 @@
 // All issued slots, each read once.
 ghost use Rattle.yring.specs.Cursor.{Capacity};
 ghost use Rattle.queues.specs.Header.{Shaped, capacity};
-ghost use Rattle.order.specs.Tells.{Tells};
+ghost use Rattle.clauses.specs.Tells.{Tells};
+ghost use Rattle.clauses.specs.Clauses.{SlotsHold, CountsHold};
 ghost use Rattle.order.specs.Seen.{has};
-ghost use Rattle.order.specs.Clauses.{SlotsHold, CountsHold};
 use crate::seen;
-use crate::slot as each;
+use clauses::slot as each;
 use lane::lane::Lane;
 use queues::header::Header;
 use yring::release;

@@ -2,8 +2,8 @@
 -- Assumes nothing.
 use native.Mathlib.Omega.{arith}
 use borrow.Author.Needs.{needs}
-use Rattle.order.specs.Tells.{no}
-use Rattle.order.proofs.TellsLaws.{tells-le}
+use Rattle.clauses.specs.Tells.{no}
+use Rattle.clauses.proofs.TellsLaws.{tells-le}
 use Rattle.order.proofs.header.limits_hold.Statement.{statement}
 use Rattle.order.proofs.header.limits_hold.Tie as tie
 

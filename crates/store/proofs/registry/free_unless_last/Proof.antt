@@ -1,5 +1,8 @@
 -- `store::registry::free_unless_last` meets its contract.
 -- Assumes nothing.
+use mathlib.Core.Path.{sym, ap}
+use mathlib.Core.Bool.{Bool, cond}
+use Rattle.queues.specs.Registry.{freed}
 use Rattle.store.specs.Registry.{freedUnlessLast}
 use borrow.Author.Tests.{eq-eqb, ne-eqb}
 use borrow.Author.Needs.{needs}
@@ -8,7 +11,7 @@ use Rattle.store.proofs.registry.free_unless_last.Tie as tie
 
 returns : tie.Need-returns
 unfolding freedUnlessLast
-returns c = simp (eq-eqb _ _ (c .if1 .taken))
+returns c = ap (λ (b : Bool). cond b (c .before .before .before .args .t .now) (freed (c .before .before .before .args .t .now) (c .before .before .before .args .l .key .slot))) (sym (eq-eqb _ _ (c .if1 .taken)))
 
 returns-2 : tie.Need-returns-2
 unfolding freedUnlessLast

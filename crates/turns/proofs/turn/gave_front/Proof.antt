@@ -28,7 +28,7 @@ same-length c = simp length-set (omega arith)
 
 returns : tie.Need-returns
 unfolding gaveFront
-returns c = cc
+returns c = rw (c .before .before .rotate-if .ensures, c .before .before .before .before .before .before .store .ensures, c .before .before .before .before .before .before .before .before .less-one .ensures)
 
 pub gave-front-spec : {M : Type 1} → statement M
 gave-front-spec =

@@ -23,7 +23,7 @@ same-length c = search needs
 
 returns : tie.Need-returns
 unfolding leftFront
-returns c = cc
+returns c = rw (c .before .before .retire-if .ensures, c .before .before .before .before .before .before .pop-front .ensures, c .before .before .before .before .before .before .before .before .before .before .store .ensures)
 
 pub settle-empty-front-spec : {M : Type 1} → statement M
 settle-empty-front-spec =

@@ -23,7 +23,7 @@ loop-again c = counting-next _ _ (c .before .before .before .before .before .bef
 
 returns : tie.Need-returns Inv-loop μ-loop
 unfolding countHeld
-returns c = let e = counting-end _ _ _ (c .before .loop .inv) (c .loop-test .left) in cc
+returns c = rw (← counting-end _ _ _ (c .before .loop .inv) (c .loop-test .left))
 
 pub held-spec : {M : Type 1} → statement M
 held-spec =

@@ -13,10 +13,10 @@ returns-3 : tie.Need-returns-3
 returns-3 c = parse-other-length _ (c .before .before .before .before .before .if1 .left) (c .before .before .before .before .u16-at .ensures .0) (c .before .before .fields-of .ensures .0) (c .before .u16-at2 .ensures .0) (c .if3 .taken)
 
 returns-4 : tie.Need-returns-4
-returns-4 c = parse-cut _ (c .before .before .before .before .before .before .if1 .left) (c .before .before .before .before .before .u16-at .ensures .0) (c .before .before .before .fields-of .ensures .0) (c .before .before .u16-at2 .ensures .0) (c .before .before .before .before .if2 .left) (c .before .if3 .left) (c .if4 .taken)
+returns-4 c = parse-cut _ (c .before .before .before .before .before .before .if1 .left) (c .before .before .before .before .before .u16-at .ensures .0) (c .before .before .before .fields-of .ensures .0) (c .before .before .u16-at2 .ensures .0) (c .before .before .before .before .if2 .left) (c .before .if3 .left) (omega (arith, c .if4 .taken))
 
 returns-5 : tie.Need-returns-5
-returns-5 c = parse-whole _ (c .before .before .before .before .before .before .before .if1 .left) (c .before .before .before .before .before .before .u16-at .ensures .0) (c .before .before .before .before .fields-of .ensures .0) (c .before .before .before .u16-at2 .ensures .0) _ (c .record-of .ensures) (c .before .before .if3 .left) (c .before .if4 .left)
+returns-5 c = parse-whole _ (c .before .before .before .before .before .before .before .if1 .left) (c .before .before .before .before .before .before .u16-at .ensures .0) (c .before .before .before .before .fields-of .ensures .0) (c .before .before .before .u16-at2 .ensures .0) _ (c .record-of .ensures) (c .before .before .if3 .left) (omega (arith, c .before .if4 .left))
 
 pub parse-spec : {M : Type 1} → statement M
 parse-spec =

@@ -1,7 +1,9 @@
 -- `lane::lane::Lane::release_at_batch` meets its contract.
 -- Assumes nothing.
+use Rattle.model.specs.State.{releaseBatch}
 use Rattle.lane.specs.Lane.{releaseAtBatch}
-use mathlib.Core.Path.{_≡_, _∙_, ap, sym}
+use mathlib.Core.Path.{_≡_, _∙_, sym}
+use native.Mathlib.Omega.{arith}
 use borrow.Author.Tests.{eq-eqb, ne-eqb}
 use borrow.Author.Needs.{needs}
 use Rattle.lane.proofs.lane.Lane.release_at_batch.Statement.{statement}
@@ -9,7 +11,10 @@ use Rattle.lane.proofs.lane.Lane.release_at_batch.Tie as tie
 
 returns : tie.Need-returns
 unfolding releaseAtBatch
-returns c = simp (eq-eqb _ _ (c .before .if1 .taken ∙ c .before .before .before .release-batch .ensures), c .release .ensures)
+returns c =
+    let a = c .before .before .before .before .args in
+    let e : a .self .unreleased ≡ releaseBatch (a .capacity) = omega (arith, c .before .if1 .taken, c .before .before .before .release-batch .ensures) in
+    simp (eq-eqb _ _ e, c .release .ensures)
 
 returns-2 : tie.Need-returns-2
 unfolding releaseAtBatch

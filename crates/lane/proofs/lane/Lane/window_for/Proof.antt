@@ -7,7 +7,7 @@ use Rattle.lane.proofs.lane.Lane.window_for.Tie as tie
 
 returns : tie.Need-returns
 unfolding windowFor
-returns c = cc
+returns c = rw (c .least3 .ensures, c .before .least2 .ensures, c .before .before .least .ensures, c .before .before .before .saturating-sub2 .ensures, c .before .before .before .before .before .saturating-sub .ensures, c .before .before .before .before .before .before .before .release-batch .ensures)
 
 pub window-for-spec : {M : Type 1} → statement M
 window-for-spec =
