@@ -100,16 +100,18 @@ takes-one-group s i e =
     let low = i .ordered .each-slot (r .0) .marked-issued (r .2) in
     first-taken (groupsRound s) s (groupOf (r .0)) (groups-round-covers s (groupOf (r .0)) (group-low s (r .0) low)) (marks-of s (r .0) (r .1) (r .2))
 
-pub takes-all-groups : TakesAllGroups
-unfolding TakesAllGroups anyMarked
-takes-all-groups s i = go (nonEmpty (keep left (from 0 ((collectReady s) .issued)))) refl
+-- where every slot's page bit is clear, none is set
+pub none-marked : (s : State) → ((y : ℕ) → s .slotOf y .marked ≡ false) → anyMarked s ≡ false
+unfolding anyMarked
+none-marked s h = go (nonEmpty (keep (λ x. s .slotOf x .marked) (from 0 (s .issued)))) refl
   where
-    left : ℕ → Bool
-    left x = (collectReady s) .slotOf x .marked
-
-    go : (b : Bool) → nonEmpty (keep left (from 0 ((collectReady s) .issued))) ≡ b → b ≡ false
-    go true e = let r = kept-one left (from 0 ((collectReady s) .issued)) e in absurd (no (r .2) (collect-ready-unmarked s (i .ordered) (r .0)))
+    go : (b : Bool) → nonEmpty (keep (λ x. s .slotOf x .marked) (from 0 (s .issued))) ≡ b → b ≡ false
+    go true e = let r = kept-one (λ x. s .slotOf x .marked) (from 0 (s .issued)) e in absurd (no (r .2) (h (r .0)))
     go false e = refl
+
+pub takes-all-groups : TakesAllGroups
+unfolding TakesAllGroups
+takes-all-groups s i = none-marked (collectReady s) (collect-ready-unmarked s (i .ordered))
 
 collect-group-none : (s : State) (g : ℕ) → nonEmpty (marks s g) ≡ false → collectGroup s g ≡ s
 unfolding collectGroup collectMarks

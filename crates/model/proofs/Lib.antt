@@ -34,3 +34,5 @@ pub mod Collections
 pub mod Disconnected
 pub mod Signals
 pub mod ShutOut
+pub mod PollLoop
+pub mod IdleWhenEmpty

@@ -316,18 +316,22 @@ collect-ready-unmarked s o y = go (s .slotOf y .marked) refl
     go true e = let low = o .each-slot y .marked-issued e in collect-each-clears (groupsRound s) s y low (groups-round-covers s (groupOf y) (group-low s y low))
     go false e = collect-each-unmarked (groupsRound s) s y e
 
-run-down-from-unmarked : (q : List ℕ) (s : State) (y : ℕ) → s .slotOf y .marked ≡ false → (runDownFrom q s) .slotOf y .marked ≡ false
-unfolding runDownFrom beforeNextTurn settleEmpty retireLaneIf retireLane
-run-down-from-unmarked [] s y h = h
-run-down-from-unmarked (x ∷ q) s y h = go (nonEmpty (s .slotOf x .ring)) (run-down-from-unmarked q (beforeNextTurn q (settleEmpty x q s)) y (turned q (settled (not (s .slotOf x .living)))))
+pub settle-empty-unmarked : (x : ℕ) (q : List ℕ) (s : State) (y : ℕ) → s .slotOf y .marked ≡ false → (settleEmpty x q s) .slotOf y .marked ≡ false
+unfolding settleEmpty retireLaneIf retireLane
+settle-empty-unmarked x q s y h = go (not (s .slotOf x .living))
   where
     m : Slot
     m = settledEmpty (s .slotOf x)
 
-    settled : (b : Bool) → (retireLaneIf b x (withQueue q (put x m s))) .slotOf y .marked ≡ false
-    settled true = elim (same? x y) [ equal p e i ↦ rw (e, self x) (rw p h) | other d e i ↦ rw e h ]
-    settled false = elim (same? x y) [ equal p e i ↦ rw e (rw p h) | other d e i ↦ rw e h ]
+    go : (b : Bool) → (retireLaneIf b x (withQueue q (put x m s))) .slotOf y .marked ≡ false
+    go true = elim (same? x y) [ equal p e i ↦ rw (e, self x) (rw p h) | other d e i ↦ rw e h ]
+    go false = elim (same? x y) [ equal p e i ↦ rw e (rw p h) | other d e i ↦ rw e h ]
 
+pub run-down-from-unmarked : (q : List ℕ) (s : State) (y : ℕ) → s .slotOf y .marked ≡ false → (runDownFrom q s) .slotOf y .marked ≡ false
+unfolding runDownFrom beforeNextTurn
+run-down-from-unmarked [] s y h = h
+run-down-from-unmarked (x ∷ q) s y h = go (nonEmpty (s .slotOf x .ring)) (run-down-from-unmarked q (beforeNextTurn q (settleEmpty x q s)) y (turned q (settle-empty-unmarked x q s y h)))
+  where
     turned : (p : List ℕ) → (settleEmpty x q s) .slotOf y .marked ≡ false → (beforeNextTurn p (settleEmpty x q s)) .slotOf y .marked ≡ false
     turned [] h = h
     turned (z ∷ p) h = h

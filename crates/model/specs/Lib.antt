@@ -31,3 +31,5 @@ pub mod EventExamples
 pub mod BoundMet
 pub mod StretchExamples
 pub mod ShutOut
+pub mod PollLoop
+pub mod Signals
