@@ -75,7 +75,7 @@ pub window-rests : (t : List ℕ) (item : ℕ) (l : Lane) → Rests (windowTook 
 unfolding windowTook
 window-rests t item l = omega arith
 
--- and the channel's id
+-- and the channel's id as it was
 pub window-channel : (t u : List ℕ) (took : Took) (item : ℕ) (l : Lane) → (took, u) ≡ windowTook t item l → channel u ≡ channel t
 unfolding windowTook
 window-channel t u took item l e =

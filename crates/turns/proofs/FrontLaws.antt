@@ -359,7 +359,7 @@ module _ (t r : List ℕ) (fair : Bool) (k : Turning t) (u : List ℕ) where
             let q : m ≡ n = omega arith in
             rw q (ap (λ (o : Turn × List ℕ). after o (turnsWithin n (o .1) r fair)) e)
 
--- the front lane gave an item, and the slot, ring and lane are those that the code has
+-- the front lane gives an item, which ends the take
 pub gave-ends : (t r : List ℕ) (fair : Bool) (k : Turning t) → (queueCount t ≡ 0 → ⊥) → (item : ℕ) (rotate released : Bool) (l : Lane)
     → polledFront t r fair ≡ LanePoll.Item item rotate released l → (Took.Item item (l .key), gaveFront t rotate l) ≡ turns t r fair
 unfolding turnBy
