@@ -1,8 +1,4 @@
-// The calls for C and Rust to link. An answer is a tag, with its numbers in four lent words.
-mod answer;
+// The calls on any stores, for C and Rust to link.
 pub mod controlling;
-pub mod inner_controlling;
-pub mod inner_receiving;
-pub mod inner_sending;
 pub mod receiving;
 pub mod sending;

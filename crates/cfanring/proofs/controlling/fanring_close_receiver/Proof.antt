@@ -1,7 +1,7 @@
 -- `cfanring::controlling::fanring_close_receiver` meets its contract.
 -- Assumes nothing.
 use borrow.Author.Needs.{needs}
-use Rattle.cfanring.proofs.ToldLaws.{told-of}
+use Rattle.canswer.proofs.ToldLaws.{told-of}
 use Rattle.cfanring.proofs.controlling.fanring_close_receiver.Statement.{statement}
 use Rattle.cfanring.proofs.controlling.fanring_close_receiver.Tie as tie
 

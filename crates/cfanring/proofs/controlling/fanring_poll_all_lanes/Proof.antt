@@ -1,7 +1,7 @@
 -- `cfanring::controlling::fanring_poll_all_lanes` meets its contract.
 -- Assumes nothing.
 use borrow.Author.Needs.{needs}
-use Rattle.cfanring.proofs.ToldLaws.{told-of}
+use Rattle.canswer.proofs.ToldLaws.{told-of}
 use Rattle.cfanring.proofs.controlling.fanring_poll_all_lanes.Statement.{statement}
 use Rattle.cfanring.proofs.controlling.fanring_poll_all_lanes.Tie as tie
 

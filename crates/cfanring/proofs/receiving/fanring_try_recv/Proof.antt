@@ -1,7 +1,7 @@
 -- `cfanring::receiving::fanring_try_recv` meets its contract.
 -- Assumes nothing.
 use borrow.Author.Needs.{needs}
-use Rattle.cfanring.proofs.ToldLaws.{told-of}
+use Rattle.canswer.proofs.ToldLaws.{told-of}
 use Rattle.cfanring.proofs.receiving.fanring_try_recv.Statement.{statement}
 use Rattle.cfanring.proofs.receiving.fanring_try_recv.Tie as tie
 

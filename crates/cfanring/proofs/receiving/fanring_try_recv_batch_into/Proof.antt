@@ -1,7 +1,7 @@
 -- `cfanring::receiving::fanring_try_recv_batch_into` meets its contract.
 -- Assumes nothing.
 use borrow.Author.Needs.{needs}
-use Rattle.cfanring.proofs.ToldLaws.{told-into}
+use Rattle.canswer.proofs.ToldLaws.{told-into}
 use Rattle.cfanring.proofs.receiving.fanring_try_recv_batch_into.Statement.{statement}
 use Rattle.cfanring.proofs.receiving.fanring_try_recv_batch_into.Tie as tie
 

@@ -1,7 +1,7 @@
 -- `cfanring::sending::fanring_try_send_unsignaled` meets its contract.
 -- Assumes nothing.
 use borrow.Author.Needs.{needs}
-use Rattle.cfanring.proofs.ToldLaws.{told-of}
+use Rattle.canswer.proofs.ToldLaws.{told-of}
 use Rattle.cfanring.proofs.sending.fanring_try_send_unsignaled.Statement.{statement}
 use Rattle.cfanring.proofs.sending.fanring_try_send_unsignaled.Tie as tie
 
