@@ -5,3 +5,4 @@ pub mod NeverFive
 pub mod Simulation
 pub mod Demands
 pub mod CheckedExamples
+pub mod RulesOnCalls

@@ -45,7 +45,7 @@ sevenRecords =
     ∷ Call (Receive TryRecv)
     ∷ []
 
--- the answers of that example, and the texts of lines: each by its own line, the last with an output of two words
+-- the answers of that example
 abbrev pub sevenAnswers : List Answer
 sevenAnswers =
     Done
@@ -57,6 +57,7 @@ sevenAnswers =
     ∷ Disconnected
     ∷ []
 
+-- the lines of answers, each beside the same output
 abbrev pub texts : List Answer → List ℕ → List ℕ
 texts [] out = []
 texts (a ∷ l) out = answerText a out ++ texts l out

@@ -1,12 +1,14 @@
 -- `receives::receiver::take_fair` meets its contract.
 -- Assumes nothing.
 use Rattle.receives.proofs.ReceiveLaws.{take-lone-long, fair-budget}
+use mathlib.Core.Bool.{true}
 use lib.ListN.{length}
 use Rattle.turns.specs.declared.turn.Took.{Took}
 use Prim.Native.Nat.{ℕ}
 use mathlib.Core.List.{List}
 use Rattle.receives.specs.Receive.{takeFair}
 use Rattle.turns.proofs.FrontLaws.{keeps-ringed, turns-keep}
+use Rattle.receives.proofs.ReceiveLaws.{else-item, else-nothing, take-lone-unmoved, unmoved-is, fair-keeps}
 use mathlib.Core.Path.{ap, _∙_}
 use borrow.Author.Needs.{needs}
 use Rattle.receives.proofs.receiver.take_fair.Statement.{statement}
@@ -46,7 +48,7 @@ same-length-2 : tie.Need-same-length-2
 same-length-2 c =
     let k = fair-keeps _ (c .before .before .before .before .before .before .before .before .before .before .before .before .before .before .before .before .pre .0) in
     let u = unmoved-is _ _ _ (rw (c .before .before .before .before .enum-told .given .1, c .before .before .before .before .before .before .before .before .before .before .before .before .collect-if-ready .ensures) at (c .before .before .before .before .before .before .before .before .take-lone .ensures)) (take-lone-unmoved _ (c .before .before .before .before .before .before .before .before .before .before .before .before .before .before .before .before .args .r .now)) in
-    ap (λ (o : Took × List ℕ). length (o .1)) (rw u at (c .before .before .turns .ensures)) ∙ turns-keep _ (c .before .before .before .before .before .before .before .before .before .before .before .before .before .before .before .before .args .r .now) _ (k .turning) .long ∙ k .long
+    ap (λ (o : Took × List ℕ). length (o .1)) (rw u at (c .before .before .fair-turns .ensures)) ∙ turns-keep _ (c .before .before .before .before .before .before .before .before .before .before .before .before .before .before .before .before .args .r .now) true (k .turning) .long ∙ k .long
 
 returns-2 : tie.Need-returns-2
 unfolding takeFair
