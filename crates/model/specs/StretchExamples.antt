@@ -97,6 +97,13 @@ others-read :
 unfolding computeStretch
 others-read = (refl, refl, refl, refl)
 
+-- of all kinds of answers two find nothing
+answers-read :
+    map findsNothing (Done ∷ Registered (lane 2) ∷ Taken true ∷ Item 5 (laneId 0) ∷ Items 0 ∷ Empty ∷ Disconnected ∷ Held 1 ∷ Refused Full ∷ [])
+    ≡ false ∷ false ∷ false ∷ false ∷ false ∷ true ∷ true ∷ false ∷ false ∷ []
+unfolding computeStretch
+answers-read = refl
+
 -- an output of three words is the room 3
 has-room : HasRoom (TryRecvBatchInto 2 3) (90 ∷ 91 ∷ 92 ∷ []) × (HasRoom TryRecv [] × (HasRoom TryRecvFair [] × HasRoom (TryRecvFrom (laneId 0)) []))
 unfolding HasRoom
