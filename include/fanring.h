@@ -1,18 +1,19 @@
-/* The bedside receiver: the MPSC receiver of fanring.rs, one call at a time, on two stores that the caller lends.
+/* The MPSC receiver of fanring.rs, one call at a time, on two stores that the caller lends.
 
-   STORES. `table` and `rings` are arrays of words. To open a channel of S slots at capacity C the table needs at least 24 * S + 512 words and the ring store
-   at least S * C; table_len and rings_len are their lengths in words. Their words belong to the library from the opening on. There is no heap and no other state.
+   STORES. `table` and `rings` are arrays of words. To open a channel of S slots the table needs at least 24 * S + 512 words and the ring store
+   at least S * C, with C the capacity rounded up to a power of two; table_len and rings_len are their lengths in words. Their words belong to the library from the opening on. There is no heap and no other state.
 
    ANSWERS. Each call returns a tag (enum fanring_tag) and puts the answer's numbers into words[0] and on. Words that the answer does not use are as they were.
    A refusal leaves every word of both stores and of the output as it was.
 
-   WHAT EVERY CALL RELIES ON. Each pointer is to as many words as its length says, `words` to four. `table`, `rings`, `out` and `words` do not overlap.
-   Nothing else uses them during the call: one call at a time on a pair of stores.
+   WHAT EVERY CALL RELIES ON. Each pointer is to as many words as its length says, `words` to four, aligned as uint64_t is; it is not NULL, also where the length is 0.
+   `table`, `rings`, `out` and `words` do not overlap. Nothing else uses them during the call: one call at a time on a pair of stores. (Two fanring_held or two
+   fanring_inner_held, which only read the stores, may run at one time.)
 
    CHECKED CALLS (fanring_..) rely on nothing else: they take any stores and any numbers. All but fanring_open test both stores first, which goes over
    every issued slot, and answer refused 5 if they are not in order.
 
-   INNER CALLS (fanring_inner_..) make no such test, and have a premise: the stores are in order. They are if they were opened by fanring_open, with these
+   INNER CALLS (fanring_inner_..) make no such test, and have a premise: the stores are in order. They are if fanring_open has opened them and answered FANRING_DONE, with these
    lengths, and since then changed by these calls alone, checked or inner. With the premise broken, nothing is promised: not even that a call stays within the stores.
 
    The contracts are in crates/cfanring/src and crates/cinner/src, and are proved. For x86-64 Linux. */
@@ -88,7 +89,7 @@ uint64_t fanring_drop_sender(
     uint64_t words[4]);
 
 /* Receives one item (plain), in bursts of at most 64 of a lane. Answers FANRING_ITEM with words[0] item, words[1] channel, words[2] slot, words[3]
-   generation; FANRING_DISCONNECTED if there is no living sender and no registered lane; else FANRING_EMPTY; or refused 5, 6. */
+   generation; FANRING_DISCONNECTED if no sender lives and, once empty lanes have retired, no lane is registered; else FANRING_EMPTY; or refused 5, 6. */
 uint64_t fanring_try_recv(uint64_t *table, size_t table_len, const uint64_t *rings, size_t rings_len, uint64_t words[4]);
 
 /* Receives one item (fair): one of the front lane, which goes to the back. Answers as fanring_try_recv. */
@@ -162,7 +163,7 @@ uint64_t fanring_inner_drop_sender(
     uint64_t words[4]);
 
 /* Premise: the stores are in order. Receives one item (plain), in bursts of at most 64 of a lane. Answers FANRING_ITEM with words[0] item, words[1]
-   channel, words[2] slot, words[3] generation; FANRING_DISCONNECTED if there is no living sender and no registered lane; else FANRING_EMPTY; or
+   channel, words[2] slot, words[3] generation; FANRING_DISCONNECTED if no sender lives and, once empty lanes have retired, no lane is registered; else FANRING_EMPTY; or
    refused 6. */
 uint64_t fanring_inner_try_recv(uint64_t *table, size_t table_len, const uint64_t *rings, size_t rings_len, uint64_t words[4]);
 

@@ -25,9 +25,9 @@ pub struct LaneKey {
 
 /// A lane of one channel: the channel's number and the lane's key.
 ///
-/// Single receives answer with it, and the lane controls take it. Channels of one program have different numbers,
-/// unless [`Opening::channel_id`](crate::Opening::channel_id) was set by hand, so an id selects no lane of another
-/// channel.
+/// Single receives answer with it, and the lane controls take it. Each [`Opening::new`](crate::Opening::new) takes a number
+/// of its own, so an id selects no lane of another channel, unless one [`Opening`](crate::Opening) opened both or its
+/// `channel_id` was set by hand.
 ///
 /// ```
 /// use proved_fanring::{channel, LaneControlError};

@@ -11,7 +11,7 @@ pub const MAX_CAPACITY_PER_SENDER: usize = 65_536;
 /// Maximum number of slots, and so of lanes at one time.
 pub const MAX_SLOTS: usize = 8_192;
 
-// A lane's id outlives its channel, so no two channels of a program share a number.
+// A lane's id outlives its channel, so each `Opening::new` takes a number of its own.
 static NEXT_CHANNEL_ID: AtomicU64 = AtomicU64::new(0);
 
 fn allocate_channel_id(counter: &AtomicU64) -> u64 {

@@ -2,7 +2,7 @@
 //!
 //!     alike LEFT RIGHT
 //!
-//! A line `outside`, where the original has no answer, agrees with every line and is not counted. Prints `difference N`, with the number of
+//! A line `outside` of LEFT, where the original has no answer, agrees with every line and is not counted. Prints `difference N`, with the number of
 //! the first line that differs; or counts, one to a line: of lines compared, of lines outside, of lines that answer a call made with more
 //! than 4,096 slots issued, and of each answer, the refusals by their numbers.
 
@@ -57,7 +57,7 @@ fn main() -> io::Result<()> {
     for number in 1.. {
         match (left.next(), right.next()) {
             (None, None) => break,
-            (Some(a), Some(b)) if a == OUTSIDE || b == OUTSIDE => counts.outside += 1,
+            (Some(a), Some(_)) if a == OUTSIDE => counts.outside += 1,
             (Some(a), Some(b)) if a == b => counts.count(a),
             _ => {
                 println!("difference {number}");
