@@ -4,7 +4,7 @@ use mathlib.Core.Path.{_≡_, refl, ap, _∙_}
 use mathlib.Core.Logic.{_⊎_, inl, inr}
 use mathlib.Core.Bool.{Bool, true, false}
 use mathlib.Core.List.{List, [], _∷_, _++_, map}
-use Prim.Native.Nat.{ℕ, _+_}
+use Prim.Native.Nat.{ℕ, _+_, _≤_}
 use native.Mathlib.Omega.{arith}
 use lib.ListN.{length}
 use Rattle.model.specs.declared.LaneKey.{LaneKey}
@@ -14,16 +14,18 @@ use Rattle.model.specs.declared.ControlCall.{ControlCall}
 use Rattle.model.specs.declared.Call.the-variants.{Sender, Receive, Control}
 use Rattle.model.specs.declared.Answer.{Answer}
 use Rattle.model.specs.Lists.{Each, count, without}
-use Rattle.model.specs.State.{Slot, State, mayQueue}
+use Rattle.model.specs.State.{Slot, State, mayQueue, keyOf}
 use Rattle.model.specs.Changes.{withQueue, put, newLane, signalled, pushed, popped, withPaused, credited, senderDropped, retired}
 use Rattle.model.specs.Turn.{retireLane, giveItem}
 use Rattle.model.specs.Runs.{Tick, gives, ends, handed, ticks}
 use Rattle.model.specs.Receive.{queueLaneIf, releaseAll, receiveOutcome}
 use Rattle.model.specs.Rules.{outcome, theRules}
 use Rattle.model.specs.Order.{Ordered}
+use Rattle.model.specs.Events.{findsEmpty, countEvents, callEvents}
 use Rattle.model.specs.Signals.{isReceive, IdleOnlyWhenEmpty}
 use Rattle.model.proofs.Counting.{equal, other, same?, no}
 use Rattle.model.proofs.OrderKept.{first-own}
+use Rattle.model.proofs.FoundEmpty.{call-found}
 use Rattle.model.proofs.Quiet.{Quiet, stays, goes, Quietly, poll, poll-quiet, release-all-quiet, settle-empty-quiet}
 use Rattle.model.proofs.Moves.{Moves, stays-put, credits, registers-new, registers-old, sends, posts, drops-it, pauses-it, resumes, resumes-not, closes-it, polls-all, shuts-it, takes, stops, aims, aims-none, Chain, stay, move, sender-move, control-move, call-chain}
 
@@ -141,11 +143,19 @@ pub idle-only-when-empty : IdleOnlyWhenEmpty
 unfolding IdleOnlyWhenEmpty outcome isReceive
 idle-only-when-empty s (Sender c) x i r p z = absurd (no (sender-pending (i .ordered) (sender-move s c) x r p) z)
 idle-only-when-empty s (Control c) x i r p z = absurd (no (control-pending (control-move s c) x r p) z)
-idle-only-when-empty s (Receive c) x i r p z = record { by-receive = refl; no-items = go (chain-kept (receive-received s c) (call-chain s (Receive c)) x (inl p)) }
+idle-only-when-empty s (Receive c) x i r p z = record {
+  by-receive = refl;
+  found = event (call-found (keyOf s x) s c .signal refl p);
+  no-items = ring (chain-kept (receive-received s c) (call-chain s (Receive c)) x (inl p));
+}
   where
     u : State
     u = (receiveOutcome s c) .1 .1
 
-    go : PendingOrEmpty (u .slotOf x) → u .slotOf x .ring ≡ []
-    go (inl q) = absurd (no q z)
-    go (inr n) = n
+    event : (u .slotOf x .pending ≡ true) ⊎ (1 ≤ countEvents (findsEmpty (keyOf s x)) (callEvents s (Receive c))) → 1 ≤ countEvents (findsEmpty (keyOf s x)) (callEvents s (Receive c))
+    event (inl q) = absurd (no q z)
+    event (inr n) = n
+
+    ring : PendingOrEmpty (u .slotOf x) → u .slotOf x .ring ≡ []
+    ring (inl q) = absurd (no q z)
+    ring (inr n) = n

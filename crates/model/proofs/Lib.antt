@@ -35,4 +35,5 @@ pub mod Disconnected
 pub mod Signals
 pub mod ShutOut
 pub mod PollLoop
+pub mod FoundEmpty
 pub mod IdleWhenEmpty

@@ -1,7 +1,8 @@
--- The events of three runs, computed. In the first both limits of 64 are met: one turn, and one time between two collections, of 64 items.
+-- The events of three runs, computed, and which events find a lane empty. In the first run both limits of 64 are met: one turn, and one time between two collections, of 64 items.
 -- Assumes nothing.
 use mathlib.Core.Path.{_≡_, refl}
-use mathlib.Core.List.{List, [], _∷_, _++_}
+use mathlib.Core.Bool.{true, false}
+use mathlib.Core.List.{List, [], _∷_, _++_, map}
 use Prim.Native.Nat.{ℕ, zero, suc}
 use Rattle.model.specs.declared.LaneKey.{LaneKey}
 use Rattle.model.specs.declared.Opening.{Opening}
@@ -10,8 +11,8 @@ use Rattle.model.specs.declared.ReceiveCall.the-variants.{TryRecv, TryRe
 use Rattle.model.specs.declared.ControlCall.the-variants.{Pause}
 use Rattle.model.specs.declared.Call.{Call}
 use Rattle.model.specs.declared.Call.the-variants.{Sender, Receive, Control}
-use Rattle.model.specs.Runs.{Lent, accepted, after}
-use Rattle.model.specs.Events.{budgetSet, collected, noneMarked, foundEmpty, itemTaken, wentToBack, anyMarked, collectEvent, refillEvents, beforeNextTurnEvents, runDownFromEvents, runDownEvents, backEvents, giveOldestEvents, giveFrontEvents, collectIfDueEvents, collectIfNoneQueuedEvents, polledEvents, takeOneEvents, takeFairEvents, andMoreEvents, takeUpToEvents, takeFromEvents, receiveEvents, callEvents, eventsFrom, runEvents}
+use Rattle.model.specs.Runs.{Lent, accepted, after, sameKey}
+use Rattle.model.specs.Events.{budgetSet, collected, noneMarked, foundEmpty, itemTaken, wentToBack, anyMarked, collectEvent, refillEvents, beforeNextTurnEvents, runDownFromEvents, runDownEvents, backEvents, giveOldestEvents, giveFrontEvents, collectIfDueEvents, collectIfNoneQueuedEvents, polledEvents, takeOneEvents, takeFairEvents, andMoreEvents, takeUpToEvents, takeFromEvents, receiveEvents, callEvents, eventsFrom, runEvents, findsEmpty}
 use Rattle.model.specs.Budget.{itemsCountedFrom, itemsSinceSet}
 use Rattle.model.specs.Examples.{compute}
 
@@ -71,3 +72,10 @@ each-event :
     ∷ collected ∷ itemTaken (lane 1) ∷ itemTaken (lane 1) ∷ foundEmpty (lane 1) ∷ noneMarked ∷ foundEmpty (lane 0) ∷ [])
 unfolding computeEvents
 each-event = refl
+
+-- one event of each kind, and one of another lane: which finds lane 1 empty
+finds-empty-read :
+    map (findsEmpty (lane 1)) (budgetSet ∷ collected ∷ noneMarked ∷ foundEmpty (lane 0) ∷ foundEmpty (lane 1) ∷ itemTaken (lane 1) ∷ wentToBack (lane 1) ∷ [])
+    ≡ false ∷ false ∷ false ∷ false ∷ true ∷ false ∷ false ∷ []
+unfolding computeEvents findsEmpty sameKey
+finds-empty-read = refl

@@ -181,6 +181,14 @@ takesItemOf k (foundEmpty j) = false
 takesItemOf k (itemTaken j) = sameKey j k
 takesItemOf k (wentToBack j) = false
 
+unfoldable pub findsEmpty : LaneKey → Event → Bool
+findsEmpty k budgetSet = false
+findsEmpty k collected = false
+findsEmpty k noneMarked = false
+findsEmpty k (foundEmpty j) = sameKey j k
+findsEmpty k (itemTaken j) = false
+findsEmpty k (wentToBack j) = false
+
 -- How many events of a list pass a test.
 unfoldable pub countEvents : (Event → Bool) → List Event → ℕ
 countEvents p [] = 0

@@ -1,7 +1,7 @@
--- The words of demands 2 and 3 on one of each thing that can happen in a run, computed: what ends lane 1's stretch, what looks in vain, what is counted.
+-- The words of demands 2 and 3 on one of each thing that can happen in a run, computed: where lane 1's stretch may begin, what ends it, what looks in vain, what is counted.
 -- Assumes nothing.
 use mathlib.Core.Path.{_≡_, refl}
-use mathlib.Core.Bool.{true, false}
+use mathlib.Core.Bool.{Bool, true, false}
 use mathlib.Core.List.{List, [], _∷_, map}
 use Prim.Native.Nat.{ℕ}
 use Rattle.model.specs.declared.LaneKey.{LaneKey}
@@ -12,8 +12,10 @@ use Rattle.model.specs.declared.ControlCall.the-variants.{Pause, Resume,
 use Rattle.model.specs.declared.Call.the-variants.{Sender, Receive, Control}
 use Rattle.model.specs.declared.Refusal.the-variants.{ReceiverClosed, NoSuchLane, Full}
 use Rattle.model.specs.declared.Answer.the-variants.{Done, Registered, Taken, Item, Items, Empty, Disconnected, Held, Refused}
+use Rattle.model.specs.Ready.{groupsIn}
 use Rattle.model.specs.Runs.{accepted, Tick, gives, ends, sameKey}
-use Rattle.model.specs.Stretch.{endsWait, endsStretch, looks, findsNothing, looksInVain, untargeted, otherReceive, notFair}
+use Rattle.model.specs.Ledger.{Lane, Ledger, atOpening, changeLane, addItem, removeOldest, setPaused, setClosed, setDropped, addRegistered, applyCall, note, ledgerAfter, anyOrdinary, waitsIn, waits, isLive, liveLanes}
+use Rattle.model.specs.Stretch.{endsWait, endsStretch, looks, findsNothing, looksInVain, untargeted, otherReceive, notFair, afterCalls, mostLive, groupsAt}
 use Rattle.model.specs.Demand2.{outOf, into, shuts, HasRoom}
 
 lane : ℕ → LaneKey
@@ -108,3 +110,94 @@ answers-read = refl
 has-room : HasRoom (TryRecvBatchInto 2 3) (90 ∷ 91 ∷ 92 ∷ []) × (HasRoom TryRecv [] × (HasRoom TryRecvFair [] × HasRoom (TryRecvFrom (laneId 0)) []))
 unfolding HasRoom
 has-room = (refl, (tt, (tt, tt)))
+
+-- ---- where the stretch of lane 1 may begin
+
+registered : ℕ → Tick
+registered x = ends (Sender (RegisterSender 9)) (Registered (lane x))
+
+-- an item sent ordinarily to lane x, and one sent unsignalled
+sent : ℕ → Tick
+sent x = ends (Sender (TrySend (lane x) 6)) (Taken true)
+
+unsignalled : ℕ → Tick
+unsignalled x = ends (Sender (TrySendUnsignaled (lane x) 7)) (Taken false)
+
+dropped : ℕ → Tick
+dropped x = ends (Sender (DropSender (lane x))) Done
+
+paused : ℕ → Tick
+paused x = ends (Control (Pause (laneId x))) Done
+
+resumed : ℕ → Tick
+resumed x = ends (Control (Resume (laneId x))) Done
+
+closed : ℕ → Tick
+closed x = ends (Control (CloseLane (laneId x))) Done
+
+shut : Tick
+shut = ends (Control CloseReceiver) Done
+
+-- an item of lane x is handed out
+handedOut : ℕ → Tick
+handedOut x = gives TryRecv (lane x) 5
+
+-- lanes 0 and 1 are registered, and then ts happens
+pointAfter : List Tick → Ledger
+pointAfter ts = ledgerAfter atOpening (registered 0 ∷ registered 1 ∷ ts)
+
+computePoints : Unit {0}
+unfolding computeStretch registered sent unsignalled dropped paused resumed closed shut handedOut pointAfter atOpening changeLane addItem removeOldest setPaused setClosed setDropped addRegistered applyCall note ledgerAfter anyOrdinary waitsIn waits isLive liveLanes afterCalls mostLive groupsIn groupsAt
+computePoints = tt
+
+waitsAfter : List Tick → Bool
+waitsAfter ts = waits (lane 1) (pointAfter ts)
+
+-- an ordinarily sent item, whatever stands before or behind it, until it is handed out
+waits-by-items :
+    map waitsAfter
+    ([] ∷ (sent 1 ∷ []) ∷ (unsignalled 1 ∷ []) ∷ (unsignalled 1 ∷ sent 1 ∷ []) ∷ (sent 1 ∷ unsignalled 1 ∷ []) ∷ (sent 0 ∷ []) ∷ (sent 1 ∷ handedOut 1 ∷ []) ∷ (sent 1 ∷ handedOut 0 ∷ [])
+    ∷ (unsignalled 1 ∷ sent 1 ∷ handedOut 1 ∷ []) ∷ (sent 1 ∷ unsignalled 1 ∷ handedOut 1 ∷ []) ∷ (ends (Sender (TrySend (lane 1) 8)) (Refused Full) ∷ []) ∷ [])
+    ≡ false ∷ true ∷ false ∷ true ∷ true ∷ false ∷ false ∷ true ∷ true ∷ false ∷ false ∷ []
+unfolding computePoints waitsAfter
+waits-by-items = refl
+
+-- what may follow an item that waits: a pause, a resume, closing the lane or the receiver, dropping the sender; the same refused, or of another lane
+waits-by-calls :
+    map (λ ts. waitsAfter (sent 1 ∷ ts))
+    ((paused 1 ∷ []) ∷ (paused 1 ∷ resumed 1 ∷ []) ∷ (closed 1 ∷ []) ∷ (shut ∷ []) ∷ (dropped 1 ∷ []) ∷ (ends (Control (Pause (laneId 1))) (Refused NoSuchLane) ∷ [])
+    ∷ (ends (Control (CloseLane (laneId 1))) (Refused NoSuchLane) ∷ []) ∷ (ends (Control CloseReceiver) (Refused ReceiverClosed) ∷ []) ∷ (paused 0 ∷ closed 0 ∷ []) ∷ (paused 1 ∷ resumed 0 ∷ []) ∷ [])
+    ≡ false ∷ true ∷ false ∷ false ∷ true ∷ true ∷ true ∷ true ∷ true ∷ false ∷ []
+unfolding computePoints waitsAfter
+waits-by-calls = refl
+
+-- ---- R and G
+
+-- unclosed and then closed: no item and one unsignalled item, each with its sender undropped and dropped
+eightLanes : Bool → List Lane
+eightLanes p = bare false false ∷ bare false true ∷ holding false false ∷ holding false true ∷ bare true false ∷ bare true true ∷ holding true false ∷ holding true true ∷ []
+  where
+    bare : Bool → Bool → Lane
+    bare c d = record { key = lane 1; holds = []; paused = p; closed = c; dropped = d }
+
+    holding : Bool → Bool → Lane
+    holding c d = record { key = lane 1; holds = record { value = 7; ordinary = false } ∷ []; paused = p; closed = c; dropped = d }
+
+-- a pause does not matter
+live-read : (p : Bool) → map isLive (eightLanes p) ≡ true ∷ false ∷ true ∷ true ∷ false ∷ false ∷ false ∷ false ∷ []
+unfolding computePoints eightLanes
+live-read p = refl
+
+-- from two live lanes on: an empty stretch, one that ends with fewer, one with more, one with more on the way only, and two that are live one after the other
+most-live-read :
+    map (mostLive (pointAfter [])) ([] ∷ (dropped 0 ∷ []) ∷ (registered 2 ∷ []) ∷ (registered 2 ∷ dropped 2 ∷ dropped 0 ∷ []) ∷ (dropped 0 ∷ registered 2 ∷ []) ∷ [])
+    ≡ 2 ∷ 2 ∷ 3 ∷ 3 ∷ 2 ∷ []
+unfolding computePoints
+most-live-read = refl
+
+-- 1, 4,096, 4,097, 8,192 and 8,193 slots issued; slot 0, registered again after that, changes nothing
+groups-read :
+    map (λ x. groupsAt (ledgerAfter atOpening (registered x ∷ registered 0 ∷ []))) (0 ∷ 4095 ∷ 4096 ∷ 8191 ∷ 8192 ∷ [])
+    ≡ 1 ∷ 1 ∷ 2 ∷ 2 ∷ 3 ∷ []
+unfolding computePoints
+groups-read = refl
