@@ -1,6 +1,6 @@
 //! This library, by its inner calls or by its checked ones, as include/fanring.h declares them.
 
-use crate::side::{Batch, Key, Received, Sent, Side};
+use crate::side::{Batch, Key, LaneId, Received, Sent, Side};
 
 type Words = [u64; 4];
 
@@ -87,7 +87,10 @@ impl<const CHECKED: bool> Library<CHECKED> {
     #[inline(always)]
     fn received(&self, tag: u64) -> Received {
         match tag {
-            ITEM => Received::Item(self.words[0], Key { slot: self.words[2], generation: self.words[3] }),
+            ITEM => {
+                let [item, channel, slot, generation] = self.words;
+                Received::Item(item, LaneId { channel, key: Key { slot, generation } })
+            }
             EMPTY => Received::Empty,
             _ => Received::Disconnected,
         }
@@ -112,6 +115,10 @@ impl<const CHECKED: bool> Side for Library<CHECKED> {
         while new.register_sender(lanes).is_some() {}
         let Library { capacity, slots, table, rings, words, output, count } = new;
         Self { capacity, slots, table, rings, words, output, count }
+    }
+
+    fn channel(&self) -> u64 {
+        CHANNEL
     }
 
     #[inline(never)]

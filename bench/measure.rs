@@ -1,11 +1,12 @@
 //! Rounds of calls, the sides one after the other in each. What counts is a side's best round.
 
+use std::hint::black_box;
 use std::time::Instant;
 
 use crate::library::Library;
 use crate::original::Original;
 use crate::plain::Plain;
-use crate::side::{Batch, Key, Received, Sent, Side};
+use crate::side::{Batch, Key, LaneId, Received, Sent, Side};
 
 /// A side takes part in at least so many rounds, and in more until it has used so many seconds.
 #[derive(Clone, Copy)]
@@ -59,15 +60,21 @@ pub const PLACES: [Place; 9] = [
     Place { name: "8,192 lanes, 10 busy", lanes: 8192, busy: 10, capacity: 512, total: 4096, hows: LARGE },
 ];
 
+/// The sum of an id's words. They are read one by one: two at once, straight after they were written one by one, would stall for longer than a call takes.
+#[inline(always)]
+fn words(id: LaneId) -> u64 {
+    black_box(id.channel) + black_box(id.key.slot) + black_box(id.key.generation)
+}
+
 impl Place {
     /// The key of a busy lane; these are spread over the slots.
     fn key(&self, busy: usize) -> Key {
         Key { slot: (busy * (self.lanes / self.busy)) as u64, generation: 0 }
     }
 
-    /// The sum of all items of a round and of the slots that they come from.
-    fn sum(&self) -> u64 {
-        (0..self.total).map(|item| item as u64 + self.key(item % self.busy).slot).sum()
+    /// The sum of all items of a round and of the words of their lane ids.
+    fn sum(&self, channel: u64) -> u64 {
+        (0..self.total).map(|item| item as u64 + words(LaneId { channel, key: self.key(item % self.busy) })).sum()
     }
 }
 
@@ -123,11 +130,11 @@ fn send_all<S: Side>(side: &mut S, place: &Place) {
     }
 }
 
-/// Receives until nothing is left; calls, and the sum of items and slots.
+/// Receives until nothing is left; calls, and the sum of items and lane ids.
 fn drain<S: Side>(side: &mut S, mut receive: impl FnMut(&mut S) -> Received) -> (usize, u64) {
     let (mut calls, mut sum) = (1, 0);
-    while let Received::Item(item, key) = receive(side) {
-        (calls, sum) = (calls + 1, sum + item + key.slot);
+    while let Received::Item(item, id) = receive(side) {
+        (calls, sum) = (calls + 1, sum + item + words(id));
     }
     (calls, sum)
 }
@@ -135,10 +142,8 @@ fn drain<S: Side>(side: &mut S, mut receive: impl FnMut(&mut S) -> Received) -> 
 fn drain_targeted<S: Side>(side: &mut S, place: &Place) -> (usize, u64) {
     let (mut busy, mut sum) = (0, 0);
     for _ in 0..place.total {
-        match side.try_recv_from(place.key(busy)) {
-            Received::Item(item, key) => sum += item + key.slot,
-            nothing => panic!("{nothing:?}"),
-        }
+        let Received::Item(item, id) = side.try_recv_from(place.key(busy)) else { panic!("a busy lane is empty") };
+        sum += item + words(id);
         busy = if busy + 1 == place.busy { 0 } else { busy + 1 };
     }
     (place.total, sum)
@@ -166,7 +171,7 @@ fn round<S: Side>(side: &mut S, place: &Place, how: How) -> [f64; 2] {
     };
     let receives = since(start, calls);
     if !matches!(how, How::Batch(_)) {
-        assert_eq!(sum, place.sum());
+        assert_eq!(sum, place.sum(side.channel()));
     }
     // Lanes that ran empty settle, so that every round begins alike.
     assert_eq!(side.try_recv(), Received::Empty);

@@ -6,7 +6,7 @@ use std::mem;
 use crate::blocking::{Blocking, Recheck};
 use crate::compat::Arc;
 use crate::mpsc::{self, LaneId, Receiver, Sender, Shared, TryRecvError, TrySendError};
-use crate::side::{Batch, Key, Received, Sent, Side};
+use crate::side::{self, Batch, Key, Received, Sent, Side};
 use crate::teardown::Deferred;
 
 /// The most items of a batch.
@@ -24,7 +24,7 @@ pub struct Original {
 #[inline(always)]
 fn received(result: Result<(LaneId, u64), TryRecvError>) -> Received {
     match result {
-        Ok((id, item)) => Received::Item(item, key(&id)),
+        Ok((id, item)) => Received::Item(item, side::LaneId { channel: id.channel(), key: key(&id) }),
         Err(TryRecvError::Empty) => Received::Empty,
         Err(TryRecvError::Disconnected) => Received::Disconnected,
     }
@@ -67,6 +67,10 @@ impl Side for Original {
 
     fn open(capacity: usize, slots: usize) -> Self {
         Self::lent(capacity, slots, Vec::with_capacity(OUTPUT))
+    }
+
+    fn channel(&self) -> u64 {
+        self.shared.channel()
     }
 
     #[inline(never)]

@@ -4,10 +4,11 @@
 use std::collections::VecDeque;
 use std::mem;
 
-use crate::side::{Batch, Key, Received, Sent, Side};
+use crate::side::{Batch, Key, LaneId, Received, Sent, Side};
 
 const BURST: usize = 64;
 const BUDGET: usize = 64;
+const CHANNEL: u64 = 7;
 /// The most items of a batch.
 const OUTPUT: usize = 4096;
 
@@ -55,6 +56,7 @@ impl Lane {
 pub struct Plain {
     capacity: usize,
     slots: usize,
+    channel: u64,
     release_batch: usize,
     lanes: Vec<Lane>,
     /// The lanes that take turns, by slot.
@@ -77,6 +79,7 @@ impl Plain {
         let mut new = Self {
             capacity,
             slots,
+            channel: CHANNEL,
             release_batch: capacity.div_ceil(2).max(64).min(capacity),
             lanes: Vec::new(),
             queue: VecDeque::new(),
@@ -100,7 +103,7 @@ impl Plain {
     }
 
     fn received(&self, slot: usize, item: u64) -> Received {
-        Received::Item(item, Key { slot: slot as u64, generation: self.lanes[slot].generation })
+        Received::Item(item, LaneId { channel: self.channel, key: Key { slot: slot as u64, generation: self.lanes[slot].generation } })
     }
 
     /// Whether the lane's signal was idle.
@@ -284,6 +287,10 @@ impl Side for Plain {
 
     fn open(capacity: usize, slots: usize) -> Self {
         Self::lent(capacity, slots, Vec::with_capacity(OUTPUT))
+    }
+
+    fn channel(&self) -> u64 {
+        self.channel
     }
 
     #[inline(never)]

@@ -15,9 +15,24 @@ pub enum Sent {
     Disconnected,
 }
 
+/// Every side numbers its channels itself: the ids of two sides are alike if slot and generation are.
+#[derive(Clone, Copy, Debug)]
+pub struct LaneId {
+    pub channel: u64,
+    pub key: Key,
+}
+
+impl PartialEq for LaneId {
+    fn eq(&self, other: &Self) -> bool {
+        self.key == other.key
+    }
+}
+
+impl Eq for LaneId {}
+
 #[derive(Debug, PartialEq, Eq)]
 pub enum Received {
-    Item(u64, Key),
+    Item(u64, LaneId),
     Empty,
     Disconnected,
 }
@@ -46,6 +61,8 @@ pub trait Side: Sized {
         new.resume(Key { slot: 0, generation: 0 });
         new
     }
+    /// The channel's id.
+    fn channel(&self) -> u64;
     /// The same as `open` once more, in place of this one.
     fn reopen(&mut self) -> Self::Left;
     /// None where `most` lanes are registered.

@@ -1,7 +1,7 @@
 -- The search for the lane whose turn it is: what each look, and look after look, leaves.
 -- Assumes nothing.
 use mathlib.Core.Path.{_≡_, refl, sym, ap, _∙_, subst}
-use mathlib.Core.Bool.{true}
+use mathlib.Core.Bool.{Bool, true, false}
 use mathlib.Core.List.{List}
 use Prim.Native.Nat.{ℕ, zero, suc, _+_, _<_}
 use native.Mathlib.Omega.{arith}
@@ -172,11 +172,11 @@ run-down-searched t k = searched-within (queueCount t) t k refl
 -- ---- with the collections
 
 module _ (o : Front × List ℕ) (f : List ℕ → Front × List ℕ) (u : List ℕ) where
-  pub else-ready : (l : Lane) → (Front.Ready l, u) ≡ o → (Front.Ready l, u) ≡ elseFront o f
+  else-ready : (l : Lane) → (Front.Ready l, u) ≡ o → (Front.Ready l, u) ≡ elseFront o f
   unfolding elseFront
   else-ready l e = ap (λ (p : Front × List ℕ). elseFront p f) e
 
-  pub else-none : (Front.None, u) ≡ o → f u ≡ elseFront o f
+  else-none : (Front.None, u) ≡ o → f u ≡ elseFront o f
   unfolding elseFront
   else-none e = ap (λ (p : Front × List ℕ). elseFront p f) e
 
@@ -201,8 +201,29 @@ refresh-searched t k =
 pub look-as : (t : List ℕ) (slot : ℕ) (l : Lane) (p : Refill) → slot ≡ frontSlot t → l ≡ laneAt t slot → p ≡ refill l → refill (frontLane t) ≡ p
 look-as t slot l p a b e = sym (e ∙ ap refill (b ∙ ap (laneAt t) a))
 
--- and for the look that is due and the search after it
-pub due-run-keeps : (t v u : List ℕ) (front : Front) → Turning t → v ≡ collectedIfDue t → (front, u) ≡ runDown v → Keeps t u
-due-run-keeps t v u front k p e =
-    let d = due-keeps t k in
-    keeps-then d (subst (λ (o : Front × List ℕ). Keeps (collectedIfDue t) (o .1)) (sym (e ∙ ap runDown p)) (run-down-searched (collectedIfDue t) (d .turning) .keeps))
+-- what is left of the search, before and after every ready lane is collected
+pub searchRest : Bool → List ℕ → Front × List ℕ
+searchRest false t = elseFront (runDown t) (λ u. runDown (collectReady true u))
+searchRest true t = runDown t
+
+module _ (t u : List ℕ) where
+  pub rest-ready : (collected : Bool) (l : Lane) → (Front.Ready l, u) ≡ runDown t → (Front.Ready l, u) ≡ searchRest collected t
+  unfolding searchRest
+  rest-ready false l e = else-ready (runDown t) (λ u. runDown (collectReady true u)) u l e
+  rest-ready true l e = e
+
+  pub rest-none : (collected : Bool) → collected ≡ true → (Front.None, u) ≡ runDown t → (Front.None, u) ≡ searchRest collected t
+  unfolding searchRest
+  rest-none collected c e = e ∙ ap (λ (b : Bool). searchRest b t) (sym c)
+
+  pub rest-collects : (collected : Bool) → collected ≡ false → (Front.None, u) ≡ runDown t → searchRest true (collectReady true u) ≡ searchRest collected t
+  unfolding searchRest
+  rest-collects collected c e = else-none (runDown t) (λ u. runDown (collectReady true u)) u e ∙ ap (λ (b : Bool). searchRest b t) (sym c)
+
+pub rest-starts : (t : List ℕ) → searchRest false (collectedIfDue t) ≡ refreshActive t
+unfolding searchRest refreshActive
+rest-starts t = refl
+
+-- what a search that found no lane keeps
+pub run-keeps : (t u : List ℕ) (front : Front) → Turning t → (front, u) ≡ runDown t → Keeps t u
+run-keeps t u front k e = subst (λ (o : Front × List ℕ). Keeps t (o .1)) (sym e) (run-down-searched t k .keeps)

@@ -84,17 +84,25 @@ fn run_down(t: &mut [u64]) -> Front
     }
 }
 
-// The lane whose turn it is. Collects ready lanes when that is due, and when none is queued.
+// The lane whose turn it is. Collects ready lanes when that is due, and once when none is queued.
 fn refresh_active(t: &mut [u64]) -> Front
     requires { ⌜ Turning (now t) ⌝ }
     ensures { λ a. ⌜ (a, now (t .exit)) ≡ refreshActive (now (t .entry)) ⌝ }
 {
     due::collect_if_due(t);
-    match run_down(t) {
-        Front::Ready { lane } => Front::Ready { lane: lane },
-        Front::None => {
-            marks::collect_ready(t, true);
-            run_down(t)
+    let mut collected = false;
+    loop {
+        match run_down(t) {
+            Front::Ready { lane } => {
+                return Front::Ready { lane: lane };
+            }
+            Front::None => {
+                if collected {
+                    return Front::None;
+                }
+                marks::collect_ready(t, true);
+                collected = true;
+            }
         }
     }
 }

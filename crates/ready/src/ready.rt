@@ -1,6 +1,5 @@
 // The ready index: src/ready.rs, and `collect_ready` of receiver/registry.rs.
 ghost use mathlib.Core.Path.{_≡_};
-ghost use mathlib.Core.Bool.{true};
 ghost use Prim.Native.Nat.{_*_, _≤_, _<_};
 ghost use lib.ListN.{length};
 ghost use Rattle.lane.specs.Table.{HasRow};
@@ -311,12 +310,12 @@ fn has_ready(t: &[u64]) -> bool
     false
 }
 
-// Collects all groups if any is ready: with none, this is a look at each group's word and no call.
-pub fn collect_if_ready(t: &mut [u64])
+// `collect_ready` if any group has bits: with none, this is a look at each group's word and no call.
+pub fn collect_if_ready(t: &mut [u64], all: bool)
     requires { ⌜ Shaped (now t) × QueueNames (now t) × Linked (now t) ⌝ }
-    ensures { λ _. ⌜ now (t .exit) ≡ collectReady true (now (t .entry)) ⌝ }
+    ensures { λ _. ⌜ now (t .exit) ≡ collectReady all (now (t .entry)) ⌝ }
 {
     if has_ready(t) {
-        collect_ready(t, true);
+        collect_ready(t, all);
     }
 }

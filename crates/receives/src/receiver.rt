@@ -141,7 +141,7 @@ fn take_fair(t: &mut [u64], r: &[u64]) -> Took
     requires { ⌜ Turning (now t) × Ringed (now t) (now r) ⌝ }
     ensures { λ a. ⌜ (a, now (t .exit)) ≡ takeFair (now (t .entry)) (now (r .entry)) ⌝ }
 {
-    marks::collect_if_ready(t);
+    marks::collect_if_ready(t, true);
     t[Header::BUDGET] = Header::POLL_BUDGET;
     match take_lone(t, r) {
         Took::Item { item, key } => Took::Item {

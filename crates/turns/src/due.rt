@@ -16,6 +16,6 @@ pub fn collect_if_due(t: &mut [u64])
     if t[Header::QUEUED] == 0 {
         return;
     }
-    marks::collect_ready(t, false);
+    marks::collect_if_ready(t, false);
     t[Header::BUDGET] = Header::POLL_BUDGET;
 }

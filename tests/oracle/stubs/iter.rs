@@ -21,6 +21,10 @@ impl LaneId {
         Self { key, channel_id }
     }
 
+    pub(crate) fn channel(&self) -> u64 {
+        self.channel_id
+    }
+
     pub(crate) fn slot(&self) -> usize {
         self.key.slot
     }

@@ -1,7 +1,6 @@
 -- `ready::ready::collect_if_ready` meets its contract.
 -- Assumes nothing.
 use mathlib.Core.Path.{sym, _∙_}
-use mathlib.Core.Bool.{true}
 use borrow.Author.Needs.{needs}
 use Rattle.ready.proofs.NoneReady.{none-collected}
 use Rattle.ready.proofs.ready.collect_if_ready.Statement.{statement}
@@ -14,7 +13,7 @@ returns : tie.Need-returns
 returns c = c .before .before .collect-ready .ensures
 
 returns-2 : tie.Need-returns-2
-returns-2 c = sym (none-collected _ true (sym (c .before .has-ready .ensures) ∙ c .if1 .left))
+returns-2 c = sym (none-collected _ _ (sym (c .before .has-ready .ensures) ∙ c .if1 .left))
 
 pub collect-if-ready-spec : {M : Type 1} → statement M
 collect-if-ready-spec = tie.close (tie.spec

@@ -20,8 +20,8 @@ returns-2 : tie.Need-returns-2
 unfolding collectedIfDue
 returns-2 c = simp (eq-eqb _ _ (c .before .before .if1 .left), eq-eqb _ _ (c .if2 .taken))
 
-collect-ready-requires : tie.Need-collect-ready-requires
-collect-ready-requires c κs = search needs
+collect-if-ready-requires : tie.Need-collect-if-ready-requires
+collect-if-ready-requires c κs = search needs
 
 slice-write-t : tie.Need-slice-write-t
 slice-write-t c = search needs
@@ -31,7 +31,7 @@ same-length c = search needs
 
 returns-3 : tie.Need-returns-3
 unfolding collectedIfDue
-returns-3 c = simp (eq-eqb _ _ (c .before .before .before .before .before .before .if1 .left), ne-eqb _ _ (c .before .before .before .before .if2 .left), c .before .before .collect-ready .ensures)
+returns-3 c = simp (eq-eqb _ _ (c .before .before .before .before .before .before .if1 .left), ne-eqb _ _ (c .before .before .before .before .if2 .left), c .before .before .collect-if-ready .ensures)
 
 pub collect-if-due-spec : {M : Type 1} → statement M
 collect-if-due-spec =
@@ -41,7 +41,7 @@ collect-if-due-spec =
     returns
     slice-read-if2
     returns-2
-    collect-ready-requires
+    collect-if-ready-requires
     slice-write-t
     same-length
     returns-3)
