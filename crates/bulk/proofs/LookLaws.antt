@@ -224,6 +224,6 @@ pub rest-starts : (t : List ℕ) → searchRest false (collectedIfDue t) ≡ ref
 unfolding searchRest refreshActive
 rest-starts t = refl
 
--- what a search that found no lane keeps
+-- what a search keeps, whatever it found
 pub run-keeps : (t u : List ℕ) (front : Front) → Turning t → (front, u) ≡ runDown t → Keeps t u
 run-keeps t u front k e = subst (λ (o : Front × List ℕ). Keeps t (o .1)) (sym e) (run-down-searched t k .keeps)
