@@ -130,17 +130,19 @@ fn gave_chunk(t: &mut [u64], moved: u64, l: Lane)
     t[Header::BUDGET] = budget;
 }
 
-// Moves a chunk of the front lane to the output, from place `at` on, and counts it as that many receives would.
-fn give_chunk(t: &mut [u64], r: &[u64], out: &mut [u64], at: usize, left: u64, l: Lane) -> u64
-    requires { ⌜ Fronts (now t) l × Ringed (now t) (now r) × (at + left ≤ length (now out)) ⌝ }
-    ensures { λ a. ⌜ (a, now (t .exit), now (out .exit)) ≡ giveChunk (now (t .entry)) (now (r .entry)) (now (out .entry)) at left l ⌝ }
+// Moves a chunk of the front lane to the output, from place `at` on, and counts it as that many receives would. The lane is
+// loaded anew: where it is stored beside its load, the compiler leaves out the words that did not change.
+fn give_chunk(t: &mut [u64], r: &[u64], out: &mut [u64], at: usize, left: u64, slot: u64) -> u64
+    requires { ⌜ Fronts (now t) (frontFilled (now t)) × (slot ≡ frontSlot (now t)) × Ringed (now t) (now r) × (at + left ≤ length (now out)) ⌝ }
+    ensures { λ a. ⌜ (a, now (t .exit), now (out .exit)) ≡ giveChunk (now (t .entry)) (now (r .entry)) (now (out .entry)) at left (frontFilled (now (t .entry))) ⌝ }
 {
     let budget = full_budget(t[Header::BUDGET]);
     let capacity = t[Header::CAPACITY];
+    let l = Lane::load(t, slot).close_fast().reload();
     let take = num::least(num::least(left, budget), l.chunk_limit(capacity));
-    let done = l.move_chunk(Ring::new(l.key.slot, capacity), r, out, at, take);
-    gave_chunk(t, done.moved, done.lane);
-    done.moved
+    gave_chunk(t, take, l.move_chunk(capacity, take));
+    Ring::new(slot, capacity).pop_into(r, l.head, take, out, at);
+    take
 }
 
 // Moves up to `limit` items to the output, chunk by chunk.
@@ -155,7 +157,7 @@ fn drain_into(t: &mut [u64], r: &[u64], out: &mut [u64], limit: u64) -> u64
                 return received;
             }
             Front::Ready { lane } => {
-                received += give_chunk(t, r, out, received as usize, limit - received, lane);
+                received += give_chunk(t, r, out, received as usize, limit - received, lane.key.slot);
             }
         }
     }

@@ -10,8 +10,7 @@ use lib.Dec.{eqb}
 use lib.ListN.{length, set}
 use Rattle.yring.specs.Cursor.{after, distance}
 use Rattle.yring.specs.Ring.{Within, place, itemAt, items, push}
-use Rattle.yring.specs.Lists.{written}
-use Rattle.lane.specs.Lane.{held, headOn, closeFast, prefetch, reload, windowPop, openFor, grantFast, popFast, fairWindow, burstOfWindow, fairly, popFair, sent, pushAndFlush, popTargeted, targeted, charged, addBurst, endBurst, polled, pollItem, pollRefilled, poll, readyOrIdle, refill, settleEmpty, chunkLimit, movedInto, chunkMoved, moveChunk}
+use Rattle.lane.specs.Lane.{held, headOn, closeFast, prefetch, reload, windowPop, openFor, grantFast, popFast, fairWindow, burstOfWindow, fairly, popFair, sent, pushAndFlush, popTargeted, targeted, charged, addBurst, endBurst, polled, pollItem, pollRefilled, poll, readyOrIdle, refill, settleEmpty, chunkLimit, moveChunk}
 use Rattle.lane.specs.Order.{Counts, InOrder, Filled, sentLane}
 use Rattle.yring.specs.declared.ring.Ring.{Ring}
 use Rattle.lane.specs.declared.lane.Lane.{Lane}
@@ -24,7 +23,7 @@ use Rattle.lane.specs.declared.lane.Popped.the-variants as Popped
 use Rattle.yring.proofs.CursorLaws.{behind-after, ahead-after, after-distance}
 use Rattle.lane.proofs.CursorOrder.{held-adds, span-adds}
 use Rattle.yring.proofs.RingLaws.{push-appends, pop-takes-first, items-split}
-use Rattle.lane.proofs.OrderLaws.{cond-holds, at-batch-is, fair-window-keeps, refill-fills, chunk-within, chunk-whole}
+use Rattle.lane.proofs.OrderLaws.{cond-holds, at-batch-is, fair-window-keeps, refill-fills, chunk-within}
 
 -- only the head and the tail tell what a lane holds
 pub held-by-ends : (ring : Ring) (store : List ℕ) (l m : Lane) → l .head ≡ m .head → l .tail ≡ m .tail → held ring store l ≡ held ring store m
@@ -139,22 +138,17 @@ refill-is l m e = go (eqb (reload (closeFast l) .cached) 0) e
 module _ (ring : Ring) (store : List ℕ) (l : Lane) (w : Within ring (length store)) (f : Filled (ring .capacity) l) (take : ℕ) (h : take ≤ chunkLimit (ring .capacity) l) where
   chunk-held : take ≤ distance (l .tail) (l .head)
   chunk-held =
-      most (distance (l .tail) (l .known)) (f .order .counts) (chunk-within ring (w .power .most) store l f take h .0)
+      most (distance (l .tail) (l .known)) (f .order .counts) (chunk-within (ring .capacity) (w .power .most) l f take h .0)
       (held-adds (ring .capacity) (l .tail) (l .released) (l .head) (l .known) (w .power .most) (f .order .cursors))
     where
       most : {B d a c u b v n : ℕ} (k : ℕ) → Counts B d a c u b v → take ≤ c → n ≡ k + a → take ≤ n
       most k p q e = omega arith
 
-  pub move-chunk-takes-first : (out : List ℕ) (at : ℕ)
-      → (held ring store l ≡ items ring store (l .head) take ++ held ring store ((moveChunk ring store out at take l) .0 .lane))
-      × ((moveChunk ring store out at take l) .1 ≡ written out at (items ring store (l .head) take))
-  unfolding moveChunk chunkMoved movedInto held
-  move-chunk-takes-first out at =
-      rw (chunk-whole ring (w .power .most) store l f take h) (
-        at-batch-is (ring .capacity) (addBurst take (charged take (headOn take l)))
-            (λ m. held ring store l ≡ items ring store (l .head) take ++ held ring store m) here here,
-        refl,
-      )
+  pub move-chunk-takes-first : held ring store l ≡ items ring store (l .head) take ++ held ring store (moveChunk (ring .capacity) take l)
+  unfolding moveChunk held
+  move-chunk-takes-first =
+      at-batch-is (ring .capacity) (addBurst take (charged take (headOn take l)))
+      (λ m. held ring store l ≡ items ring store (l .head) take ++ held ring store m) here here
     where
       split : take + (distance (l .tail) (l .head) - take) ≡ distance (l .tail) (l .head)
       split = rest chunk-held

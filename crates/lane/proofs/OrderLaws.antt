@@ -10,12 +10,11 @@ use lib.Dec.{eqb}
 use Rattle.model.specs.State.{releaseBatch}
 use Rattle.yring.proofs.ReleaseLaws.{batch-some}
 use Rattle.yring.specs.Cursor.{after, distance, Capacity}
-use Rattle.lane.specs.Lane.{withCursors, withCounts, prefetch, reload, released, headOn, closeFast, windowFor, openWindow, openFor, grantFast, windowPop, popFast, releaseAtBatch, releaseAny, releasePending, settled, emptied, settleEmpty, readyOrIdle, refill, reloadIsEmpty, charged, addBurst, endBurst, targeted, popTargeted, polled, pollItem, pollRefilled, poll, fairWindow, burstOfWindow, fairly, popFair, endFullBurst, chunkLimit, chunkMoved, moveChunk, movedInto, sent, pushAndFlush, newLane}
+use Rattle.lane.specs.Lane.{withCursors, withCounts, prefetch, reload, released, headOn, closeFast, windowFor, openWindow, openFor, grantFast, windowPop, popFast, releaseAtBatch, releaseAny, releasePending, settled, emptied, settleEmpty, readyOrIdle, refill, reloadIsEmpty, charged, addBurst, endBurst, targeted, popTargeted, polled, pollItem, pollRefilled, poll, fairWindow, burstOfWindow, fairly, popFair, endFullBurst, chunkLimit, moveChunk, sent, pushAndFlush, newLane}
 use Rattle.lane.specs.Order.{Cursors, Counts, InOrder, Filled, FoundEmpty, Refundable, sentLane, poppedLane, refilledLane, polledLane}
 use Rattle.yring.specs.Ring.{push, itemAt}
 use Rattle.model.specs.declared.LaneKey.{LaneKey}
 use Rattle.yring.specs.declared.ring.Ring.{Ring}
-use Rattle.lane.specs.declared.consumer.Moved.{Moved}
 use Rattle.lane.specs.declared.lane.Lane.{Lane}
 use Rattle.lane.specs.declared.lane.Popped.{Popped}
 use Rattle.lane.specs.declared.lane.Popped.the-variants as Popped
@@ -306,10 +305,6 @@ module _ (ring : Ring) (small : ring .capacity ≤ 65536) (store : List ℕ) (l 
       go (Popped.Item item m) k = burst-keeps (ring .capacity) small m k (m .window) (omega arith) (most (k .counts))
       go (Popped.Nothing m) k = k
 
-  -- a chunk within its limit, and the end of a burst that it filled
-  pub chunk-fits : (take c u b B : ℕ) → u < B → b ≤ 63 → take ≤ min (min c (64 - b)) (B - u) → (take ≤ c) × (u + take ≤ B) × (b + take ≤ 64)
-  chunk-fits take c u b B h k e = (omega arith, omega arith, omega arith)
-
 -- credit at the batch and the count of the turn do not meet
 at-batch-adds : (C n : ℕ) (l : Lane) → releaseAtBatch C (addBurst n l) .lane ≡ addBurst n (releaseAtBatch C l .lane)
 unfolding releaseAtBatch
@@ -321,33 +316,24 @@ at-batch-adds C n l = go (eqb (l .unreleased) (releaseBatch C))
     go true = refl
     go false = refl
 
-module _ (ring : Ring) (small : ring .capacity ≤ 65536) (store : List ℕ) (l : Lane) (f : Filled (ring .capacity) l) (take : ℕ) (h : take ≤ chunkLimit (ring .capacity) l) where
-  pub chunk-within : (take ≤ l .cached) × (l .unreleased + take ≤ releaseBatch (ring .capacity)) × (l .burst + take ≤ 64)
+chunk-fits : {u b B : ℕ} (take c : ℕ) → u < B → b ≤ 63 → take ≤ min (min c (64 - b)) (B - u) → (take ≤ c) × (u + take ≤ B) × (b + take ≤ 64)
+chunk-fits take c h k e = (omega arith, omega arith, omega arith)
+
+-- a chunk within its limit, and the end of a burst that it filled
+module _ (C : ℕ) (small : C ≤ 65536) (l : Lane) (f : Filled C l) (take : ℕ) (h : take ≤ chunkLimit C l) where
+  pub chunk-within : (take ≤ l .cached) × (l .unreleased + take ≤ releaseBatch C) × (l .burst + take ≤ 64)
   unfolding chunkLimit
-  chunk-within = chunk-fits ring small store l (f .order) take (l .cached) (l .unreleased) (l .burst) (releaseBatch (ring .capacity)) (f .order .counts .unreleased-below) (f .order .counts .burst-most) h
+  chunk-within = chunk-fits take (l .cached) (f .order .counts .unreleased-below) (f .order .counts .burst-most) h
 
-  -- as many items are moved as were asked for
-  pub chunk-whole : min (distance (l .known) (l .head)) take ≡ take
-  chunk-whole = all (f .order .counts) (chunk-within .0)
-    where
-      all : {B d m c u b w : ℕ} → Counts B d m c u b w → take ≤ c → min m take ≡ take
-      all n k = omega arith
-
-  pub chunk-moved : (out out′ : List ℕ) (at : ℕ) (m : Moved) → (m, out′) ≡ movedInto ring store out at take l → m ≡ record { lane = headOn take l; moved = take }
-  unfolding movedInto
-  chunk-moved out out′ at m e =
-      ap (λ (p : Moved × List ℕ). p .0) e ∙ ap {A = ℕ} {B = Moved} (λ n. record { lane = headOn n l; moved = n }) chunk-whole
-
-  pub move-chunk-keeps : (out : List ℕ) (at : ℕ) → InOrder (ring .capacity) (endFullBurst ((moveChunk ring store out at take l) .0 .lane) .lane)
-  unfolding moveChunk chunkMoved movedInto endFullBurst
-  move-chunk-keeps out at =
-      let C : ℕ = ring .capacity in
+  pub move-chunk-keeps : InOrder C (endFullBurst (moveChunk C take l) .lane)
+  unfolding moveChunk endFullBurst
+  move-chunk-keeps =
       let x : Lane = charged take (headOn take l) in
       let m : Lane = releaseAtBatch C x .lane in
       let k : InOrder C m = take-keeps C small l (f .order) take (f .closed) (chunk-within .0) (chunk-within .1) in
       let w : m .window ≡ 0 = at-batch-window C x ∙ f .closed in
       let b : m .burst ≡ l .burst = at-batch-burst C x in
-      rw (chunk-whole, at-batch-adds C take x)
+      rw (at-batch-adds C take x)
       (burst-on-keeps C small m k w (eqb (m .burst + take) 64) take
       (λ g. below (rw (← b) at (chunk-within .2)) (eqb-false (m .burst + take) 64 g)))
     where

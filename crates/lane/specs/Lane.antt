@@ -5,7 +5,6 @@ use mathlib.Core.List.{List}
 use Prim.Native.Nat.{ℕ, _+_, _-_, _≤_, min}
 use lib.Dec.{eqb}
 use Rattle.model.specs.declared.LaneKey.{LaneKey}
-use Rattle.yring.specs.Lists.{written}
 use Rattle.yring.specs.Cursor.{after, distance}
 use Rattle.yring.specs.Ring.{itemAt, items, push, pushCursor}
 use Rattle.model.specs.State.{releaseBatch}
@@ -14,7 +13,6 @@ use Rattle.yring.specs.declared.ring.Push.{Push}
 use Rattle.yring.specs.declared.ring.Push.the-variants.{Pushed, Full}
 use Rattle.lane.specs.declared.consumer.Sent.{Sent}
 use Rattle.lane.specs.declared.consumer.Sent.the-variants as Sent
-use Rattle.lane.specs.declared.consumer.Moved.{Moved}
 use Rattle.lane.specs.declared.consumer.Taken.{Taken}
 use Rattle.lane.specs.declared.lane.Lane.{Lane}
 use Rattle.lane.specs.declared.lane.Popped.{Popped}
@@ -130,12 +128,6 @@ headOn n l = withCursors (l .tail) (l .released) (after (l .head) n) (l .known) 
 -- the item at the head, and the lane with the head past it
 abbrev pub pop : Ring → List ℕ → Lane → Taken
 pop ring store l = record { item = itemAt ring store (l .head); lane = headOn 1 l }
-
--- up to `limit` of the items known of go to the output
-unfoldable pub movedInto : Ring → List ℕ → List ℕ → ℕ → ℕ → Lane → Moved × List ℕ
-movedInto ring store out at limit l =
-    let n = min (distance (l .known) (l .head)) limit in
-    (record { lane = headOn n l; moved = n }, written out at (items ring store (l .head) n))
 
 -- THE WINDOW
 
@@ -286,9 +278,6 @@ endFullBurst l = record { lane = endBurst (eqb (l .burst) 64) l; ended = eqb (l 
 unfoldable pub chunkLimit : ℕ → Lane → ℕ
 chunkLimit C l = min (min (l .cached) (64 - l .burst)) (releaseBatch C - l .unreleased)
 
--- the counts go on by the items moved, and credit goes back at the batch
-unfoldable pub chunkMoved : ℕ → Moved × List ℕ → Moved × List ℕ
-chunkMoved C m = (record { lane = releaseAtBatch C (addBurst (m .0 .moved) (charged (m .0 .moved) (m .0 .lane))) .lane; moved = m .0 .moved }, m .1)
-
-unfoldable pub moveChunk : Ring → List ℕ → List ℕ → ℕ → ℕ → Lane → Moved × List ℕ
-moveChunk ring store out at take l = chunkMoved (ring .capacity) (movedInto ring store out at take l)
+-- the lane after n of its items are moved: the counts go on by them, and "Credit goes back when the unreleased count reaches the release batch"
+unfoldable pub moveChunk : ℕ → ℕ → Lane → Lane
+moveChunk C n l = releaseAtBatch C (addBurst n (charged n (headOn n l))) .lane

@@ -4,9 +4,8 @@ ghost use Prim.Native.Nat.{_+_, _≤_, _<_, min};
 ghost use lib.ListN.{length};
 ghost use Rattle.yring.specs.Cursor.{distance};
 ghost use Rattle.yring.specs.Ring.{Within};
-ghost use Rattle.lane.specs.Lane.{flushed, prefetch, reload, released, pop, movedInto};
+ghost use Rattle.lane.specs.Lane.{flushed, prefetch, reload, released, pop, headOn};
 use crate::lane::Lane;
-use yring::num;
 use yring::ring;
 use yring::ring::Push;
 use yring::ring::Ring;
@@ -19,11 +18,6 @@ pub enum Sent {
 pub struct Taken {
     pub item: u64,
     pub lane: Lane,
-}
-
-pub struct Moved {
-    pub lane: Lane,
-    pub moved: u64,
 }
 
 impl Lane {
@@ -53,7 +47,7 @@ impl Lane {
     }
 
     // Looks again once the items known of are used up.
-    pub(crate) fn reload(self) -> Lane
+    pub fn reload(self) -> Lane
         ensures { λ r. ⌜ r ≡ reload self ⌝ }
     {
         if self.cached == 0 {
@@ -86,23 +80,11 @@ impl Lane {
         }
     }
 
-    // Moves up to `limit` of the items known of to the output; the counts are the caller's.
-    pub(crate) fn pop_into(
-        mut self,
-        ring: Ring,
-        store: &[u64],
-        out: &mut [u64],
-        at: usize,
-        limit: u64,
-    ) -> Moved
-        requires { ⌜ Within ring (length (now store)) × (distance (self .known) (self .head) ≤ ring .capacity) × (at + min (distance (self .known) (self .head)) limit ≤ length (now out)) ⌝ }
-        ensures { λ r. ⌜ (r, now (out .exit)) ≡ movedInto ring (now (store .entry)) (now (out .entry)) at limit self ⌝ }
+    // The lane with the head `count` items on. The caller moves them to the output.
+    pub(crate) fn advance(mut self, count: u64) -> Lane
+        ensures { λ r. ⌜ r ≡ headOn count self ⌝ }
     {
-        let count = num::least(ring::distance(self.known, self.head), limit);
-        self.head = ring.pop_into(store, self.head, count, out, at);
-        Moved {
-            lane: self,
-            moved: count,
-        }
+        self.head = ring::after(self.head, count);
+        self
     }
 }

@@ -35,7 +35,6 @@ ghost use Rattle.lane.specs.Lane.{
   moveChunk,
   settleEmpty,
 };
-use crate::consumer::Moved;
 use crate::consumer::Taken;
 use model::LaneKey;
 use yring::num;
@@ -436,32 +435,20 @@ impl Lane {
         )
     }
 
-    // Moves `take` items of a lane that `refill` found ready to the output, from place `at` on.
-    // Every item is admitted, so that as many are moved as were asked for. A burst that it fills is
-    // ended by `end_full_burst`.
-    pub fn move_chunk(
-        self,
-        ring: Ring,
-        store: &[u64],
-        out: &mut [u64],
-        at: usize,
-        take: u64,
-    ) -> Moved
-        requires { ⌜ Within ring (length (now store)) × Filled (ring .capacity) self × (take ≤ chunkLimit (ring .capacity) self) × (at + take ≤ length (now out)) ⌝ }
-        ensures { λ r. ⌜ (r, now (out .exit)) ≡ moveChunk ring (now (store .entry)) (now (out .entry)) at take self ⌝ }
+    // The lane once `take` of its items are moved, of one that `refill` found ready. Every item is
+    // admitted, so that as many are moved as were asked for. The caller moves them, by
+    // `Ring::pop_into`, after it has stored the lane: the compiler then sees which of its words did not
+    // change. A burst that is full now is ended by `end_full_burst`.
+    pub fn move_chunk(self, capacity: u64, take: u64) -> Lane
+        requires { ⌜ Capacity capacity × Filled capacity self × (take ≤ chunkLimit capacity self) ⌝ }
+        ensures { λ r. ⌜ r ≡ moveChunk capacity take self ⌝ }
     {
-        let chunk = self.pop_into(ring, store, out, at, take);
-        let moved = chunk.moved;
-        let done = chunk
-            .lane
-            .charge(moved)
-            .add_burst(moved)
-            .release_at_batch(ring.capacity);
-        let lane = done.lane;
-        Moved {
-            lane: lane,
-            moved: moved,
-        }
+        let done = self
+            .advance(take)
+            .charge(take)
+            .add_burst(take)
+            .release_at_batch(capacity);
+        done.lane
     }
 
     // Settles a lane that was found empty: credit back, signal idle, burst 0, out of the queue.

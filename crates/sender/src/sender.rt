@@ -48,8 +48,9 @@ fn send_signaled(t: &mut [u64], r: &mut [u64], key: LaneKey, item: u64) -> Answe
     match l.push_and_flush(ring) {
         Sent::Full { lane: _ } => Answer::Refused { why: Refusal::Full },
         Sent::Taken { lane } => {
+            let at = ring.index(l.tail);
             let answer = take_signaled(t, lane);
-            ring.put(r, l.tail, item);
+            r[at] = item;
             answer
         }
     }

@@ -3,15 +3,15 @@
 use mathlib.Core.Path.{_≡_, sym, ap, ap₂, _∙_}
 use mathlib.Core.List.{List, [], _∷_, _++_}
 use Prim.Native.Nat.{ℕ, zero, suc, _+_, _-_, _*_, _/_, _%_, _^_, _≤_, _<_}
-use native.Mathlib.Nat.{mod-lt, mod-eq-of-lt, mod-add-mod, add-mod-left}
+use native.Mathlib.Nat.{zero-add, mod-lt, mod-eq-of-lt, mod-add-mod, add-mod-left}
 use native.Mathlib.Omega.{arith}
 use lib.Arith.{digits-div}
-use lib.ListN.{length, getD, set}
+use lib.ListN.{length, getD, set, drop, List·getD-append}
 use Rattle.yring.specs.Lists.{tab, written}
 use Rattle.yring.specs.Cursor.{after, Capacity}
 use Rattle.yring.specs.Ring.{Within, ringOf, place, itemAt, items, run}
 use Rattle.yring.specs.declared.ring.Ring.{Ring}
-use Rattle.yring.proofs.ListLaws.{length-tab, tab-ext, tab-add, tab-out, tab-push, tab-more, tab-pop, apart, written-step, written-twice}
+use Rattle.yring.proofs.ListLaws.{length-tab, tab-ext, tab-self, tab-add, tab-out, tab-push, tab-more, tab-pop, apart, written-step, written-twice}
 use Rattle.yring.proofs.CursorLaws.{wraps, some}
 
 pub length-items : (ring : Ring) (store : List ℕ) (head n : ℕ) → length (items ring store head n) ≡ n
@@ -35,6 +35,17 @@ run-written-step src start i out at h =
     ap (λ (n : ℕ). set (written out at ws) (at + n) (getD src (start + i) 0)) (sym l)
     ∙ written-step out ws at (getD src (start + i) 0) (rw l h)
     ∙ ap (written out at) (sym (run-more src start i))
+
+-- the first words of a list
+run-front : (ws rest : List ℕ) → run (ws ++ rest) 0 (length ws) ≡ ws
+unfolding run
+run-front ws rest = tab-ext (length ws) _ _ (λ i h. ap (λ (x : ℕ). getD (ws ++ rest) x 0) (zero-add i) ∙ List·getD-append ws rest 0 i h) ∙ tab-self ws
+
+-- a run written at the start of a list, read from there
+pub run-read-back : (src : List ℕ) (start n : ℕ) (o : List ℕ) → run (written o 0 (run src start n)) 0 n ≡ run src start n
+run-read-back src start n o =
+    let ws : List ℕ = run src start n in
+    ap (run (written o 0 ws) 0) (sym (length-run src start n)) ∙ run-front ws (drop (0 + length ws) o)
 
 -- the first m items, and those after them
 pub items-split : (ring : Ring) (store : List ℕ) (head m n : ℕ) → items ring store head (m + n) ≡ items ring store head m ++ items ring store (after head m) n

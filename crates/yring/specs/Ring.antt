@@ -47,9 +47,9 @@ pushCursor ring cursor released = cond (eqb (distance cursor released) (ring .ca
 abbrev pub putItem : Ring → List ℕ → ℕ → ℕ → List ℕ
 putItem ring store cursor item = set store (place ring cursor) item
 
--- the head after n items, and the output with them from place `at` on
-unfoldable pub popInto : Ring → List ℕ → ℕ → ℕ → List ℕ → ℕ → ℕ × List ℕ
-popInto ring store head n out at = (after head n, written out at (items ring store head n))
+-- the output with the n items from the head on, from place `at` on
+unfoldable pub popInto : Ring → List ℕ → ℕ → ℕ → List ℕ → ℕ → List ℕ
+popInto ring store head n out at = written out at (items ring store head n)
 
 -- the n words of a list from a place on
 unfoldable pub run : List ℕ → ℕ → ℕ → List ℕ

@@ -44,7 +44,7 @@ impl Ring {
     }
 
     // Where a cursor's item stands. The capacity is a power of two, so the mask is the remainder.
-    fn index(self, cursor: u64) -> usize
+    pub fn index(self, cursor: u64) -> usize
         requires { ⌜ Capacity (self .capacity) × (self .base + self .capacity < 2 ^ 64) ⌝ }
         ensures { λ r. ⌜ (r ≡ place self cursor) × (r < self .base + self .capacity) ⌝ }
     {
@@ -83,28 +83,37 @@ impl Ring {
     }
 
     // Moves the `count` items from the head on to the output: up to the ring's end, then from its start.
-    pub fn pop_into(self, store: &[u64], head: u64, count: u64, out: &mut [u64], at: usize) -> u64
-        requires { ⌜ Within self (length (now store)) × (count ≤ self .capacity) × (at + count ≤ length (now out)) ⌝ }
-        ensures { λ r. ⌜ (r, now (out .exit)) ≡ popInto self (now (store .entry)) head count (now (out .entry)) at ⌝ }
+    pub fn pop_into(self, store: &[u64], head: u64, count: u64, out: &mut [u64], at: usize)
+        requires { ⌜ Within self (length (now store)) × (count ≤ self .capacity) × (count ≤ 64) × (at + count ≤ length (now out)) ⌝ }
+        ensures { λ _. ⌜ now (out .exit) ≡ popInto self (now (store .entry)) head count (now (out .entry)) at ⌝ }
     {
-        let next = after(head, count);
         let n = count as usize;
         let start = self.index(head);
         let base = self.base as usize;
         let end = base + self.capacity as usize;
         if n <= end - start {
             move_slots(store, start, n, out, at);
-            return next;
+            return;
         }
         let first = end - start;
         move_slots(store, start, first, out, at);
         move_slots(store, base, n - first, out, at + first);
-        next
     }
 }
 
-// Moves `len` words that stand together.
+// Moves `len` words that stand together. They go through a block of its own, which overlaps neither: the compiler
+// then leaves the block out, and calls the C library to move them.
 fn move_slots(src: &[u64], start: usize, len: usize, out: &mut [u64], at: usize)
+    requires { ⌜ (start + len ≤ length (now src)) × (len ≤ 64) × (at + len ≤ length (now out)) ⌝ }
+    ensures { λ _. ⌜ now (out .exit) ≡ written (now (out .entry)) at (run (now (src .entry)) start len) ⌝ }
+{
+    let mut block = [0; 64];
+    copy_words(src, start, len, &mut block, 0);
+    copy_words(&block, 0, len, out, at);
+}
+
+// Copies words one by one.
+fn copy_words(src: &[u64], start: usize, len: usize, out: &mut [u64], at: usize)
     requires { ⌜ (start + len ≤ length (now src)) × (at + len ≤ length (now out)) ⌝ }
     ensures { λ _. ⌜ now (out .exit) ≡ written (now (out .entry)) at (run (now (src .entry)) start len) ⌝ }
 {
