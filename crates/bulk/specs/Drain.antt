@@ -16,7 +16,7 @@ use Rattle.lane.specs.declared.lane.Refill.{Refill}
 use Rattle.lane.specs.declared.lane.Refill.the-variants as Refill
 use Rattle.yring.specs.Lists.{written}
 use Rattle.yring.specs.Ring.{ringOf, items}
-use Rattle.lane.specs.Lane.{headOn, charged, addBurst, releaseAtBatch, refill, endFullBurst, chunkLimit}
+use Rattle.lane.specs.Lane.{refill, endFullBurst, chunkLimit, moveChunk}
 use Rattle.lane.specs.Table.{putLane, setHead}
 use Rattle.queues.specs.Header.{queueCount, budget, capacity}
 use Rattle.ready.specs.Ready.{collectReady}
@@ -88,18 +88,15 @@ chunkSize t left l = min (min left (fullBudget (budget t))) (chunkLimit (capacit
 unfoldable pub chunkItems : List ℕ → List ℕ → ℕ → Lane → List ℕ
 chunkItems t r n l = items (ringOf (l .key .slot) (capacity t)) r (l .head) n
 
--- the lane after them: "Credit goes back when the unreleased count reaches the release batch"
-unfoldable pub chunkLane : ℕ → ℕ → Lane → Lane
-chunkLane C n l = releaseAtBatch C (addBurst n (charged n (headOn n l))) .lane
-
 -- "A lane that reaches a burst of 64 goes to the back." The n items are charged to the budget.
 unfoldable pub gaveChunk : List ℕ → ℕ → Lane → List ℕ
 gaveChunk t n l =
     let e = endFullBurst l in
     setHead (rotatedIf (e .ended) (putLane t (e .lane))) 5 (fullBudget (budget t) - n)
 
+-- the table after them, with the lane counted on
 unfoldable pub chunkGiven : List ℕ → ℕ → Lane → List ℕ
-chunkGiven t n l = gaveChunk t n (chunkLane (capacity t) n l)
+chunkGiven t n l = gaveChunk t n (moveChunk (capacity t) n l)
 
 -- the items moved, the table, and the output with the items from place `at` on
 unfoldable pub giveChunk : List ℕ → List ℕ → List ℕ → ℕ → ℕ → Lane → ℕ × List ℕ × List ℕ

@@ -2,7 +2,9 @@
 ghost use mathlib.Core.Path.{_≡_};
 ghost use Prim.Native.Nat.{_+_, _≤_, _<_};
 ghost use lib.ListN.{length};
-ghost use Rattle.queues.specs.Header.{Shaped, slots, queueCount, budget};
+ghost use Rattle.yring.specs.Cursor.{Capacity};
+ghost use Rattle.lane.specs.Order.{InOrder};
+ghost use Rattle.queues.specs.Header.{Shaped, slots, queueCount, budget, capacity};
 ghost use Rattle.store.specs.Order.{StoreInOrder};
 ghost use Rattle.turns.specs.Turn.{Turning, Ringed};
 ghost use Rattle.bulk.specs.Drain.{
@@ -11,6 +13,7 @@ ghost use Rattle.bulk.specs.Drain.{
   runDown,
   refreshActive,
   fullBudget,
+  chunkSize,
   gaveChunk,
   giveChunk,
   drainInto,
@@ -130,18 +133,29 @@ fn gave_chunk(t: &mut [u64], moved: u64, l: Lane)
     t[Header::BUDGET] = budget;
 }
 
-// Moves a chunk of the front lane to the output, from place `at` on, and counts it as that many receives would. The lane is
-// loaded anew: where it is stored beside its load, the compiler leaves out the words that did not change.
-fn give_chunk(t: &mut [u64], r: &[u64], out: &mut [u64], at: usize, left: u64, slot: u64) -> u64
-    requires { ⌜ Fronts (now t) (frontFilled (now t)) × (slot ≡ frontSlot (now t)) × Ringed (now t) (now r) × (at + left ≤ length (now out)) ⌝ }
-    ensures { λ a. ⌜ (a, now (t .exit), now (out .exit)) ≡ giveChunk (now (t .entry)) (now (r .entry)) (now (out .entry)) at left (frontFilled (now (t .entry))) ⌝ }
+// As many items as are left of the limit, as the budget has, and as the lane may give before credit is due or its turn ends.
+fn chunk_size(t: &[u64], left: u64, l: Lane) -> u64
+    requires { ⌜ Shaped (now t) × Capacity (capacity (now t)) × InOrder (capacity (now t)) l ⌝ }
+    ensures { λ n. ⌜ n ≡ chunkSize (now (t .entry)) left l ⌝ }
 {
     let budget = full_budget(t[Header::BUDGET]);
+    num::least(
+        num::least(left, budget),
+        l.chunk_limit(t[Header::CAPACITY]),
+    )
+}
+
+// Moves a chunk of the front lane to the output, from place `at` on, and counts it as that many receives would. The lane is
+// loaded anew: beside its load the compiler leaves out the stores of words that did not change.
+fn give_chunk(t: &mut [u64], r: &[u64], out: &mut [u64], at: usize, left: u64, front: Lane) -> u64
+    requires { ⌜ Fronts (now t) front × Ringed (now t) (now r) × (at + left ≤ length (now out)) ⌝ }
+    ensures { λ a. ⌜ (a, now (t .exit), now (out .exit)) ≡ giveChunk (now (t .entry)) (now (r .entry)) (now (out .entry)) at left front ⌝ }
+{
     let capacity = t[Header::CAPACITY];
-    let l = Lane::load(t, slot).close_fast().reload();
-    let take = num::least(num::least(left, budget), l.chunk_limit(capacity));
+    let l = Lane::load(t, front.key.slot).close_fast().reload();
+    let take = chunk_size(t, left, l);
     gave_chunk(t, take, l.move_chunk(capacity, take));
-    Ring::new(slot, capacity).pop_into(r, l.head, take, out, at);
+    Ring::new(l.key.slot, capacity).pop_into(r, l.head, take, out, at);
     take
 }
 
@@ -157,7 +171,7 @@ fn drain_into(t: &mut [u64], r: &[u64], out: &mut [u64], limit: u64) -> u64
                 return received;
             }
             Front::Ready { lane } => {
-                received += give_chunk(t, r, out, received as usize, limit - received, lane.key.slot);
+                received += give_chunk(t, r, out, received as usize, limit - received, lane);
             }
         }
     }

@@ -17,6 +17,7 @@ use ready::ready as marks;
 use store::refusal;
 use store::refusal::Verdict;
 use store::signal;
+use yring::ring;
 use yring::ring::Ring;
 
 fn with_sender(mut l: Lane, pending: u64, living: u64) -> Lane
@@ -48,9 +49,10 @@ fn send_signaled(t: &mut [u64], r: &mut [u64], key: LaneKey, item: u64) -> Answe
     match l.push_and_flush(ring) {
         Sent::Full { lane: _ } => Answer::Refused { why: Refusal::Full },
         Sent::Taken { lane } => {
+            // Known before the lane is stored, the place is one number to keep meanwhile.
             let at = ring.index(l.tail);
             let answer = take_signaled(t, lane);
-            r[at] = item;
+            ring::put_at(r, at, item);
             answer
         }
     }

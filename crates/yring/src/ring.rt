@@ -1,7 +1,7 @@
 // A ring of items in a lent store: yring/src/ring.rs, serially, with u64 cursors that wrap.
 ghost use mathlib.Core.Path.{_≡_};
 ghost use Prim.Native.Nat.{_+_, _*_, _^_, _≤_, _<_};
-ghost use lib.ListN.{length};
+ghost use lib.ListN.{length, set};
 ghost use Rattle.yring.specs.Lists.{tab, written};
 ghost use Rattle.yring.specs.Cursor.{after, distance, Capacity};
 ghost use Rattle.yring.specs.Ring.{Within, ringOf, place, itemAt, run, pushCursor, putItem, popInto};
@@ -69,8 +69,7 @@ impl Ring {
         requires { ⌜ Within self (length (now store)) ⌝ }
         ensures { λ _. ⌜ now (store .exit) ≡ putItem self (now (store .entry)) cursor item ⌝ }
     {
-        let at = self.index(cursor);
-        store[at] = item;
+        put_at(store, self.index(cursor), item);
     }
 
     // The item at a cursor.
@@ -99,6 +98,14 @@ impl Ring {
         move_slots(store, start, first, out, at);
         move_slots(store, base, n - first, out, at + first);
     }
+}
+
+// Stores an item at its place.
+pub fn put_at(store: &mut [u64], at: usize, item: u64)
+    requires { ⌜ at < length (now store) ⌝ }
+    ensures { λ _. ⌜ now (store .exit) ≡ set (now (store .entry)) at item ⌝ }
+{
+    store[at] = item;
 }
 
 // Moves `len` words that stand together. They go through a block of its own, which overlaps neither: the compiler
