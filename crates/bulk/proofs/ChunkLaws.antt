@@ -13,7 +13,7 @@ use Rattle.yring.specs.Ring.{ringOf, Within}
 use Rattle.lane.specs.Order.{Counts, InOrder, Filled}
 use Rattle.lane.specs.Lane.{closeFast, reload, headOn, charged, addBurst, endFullBurst, chunkLimit, moveChunk}
 use Rattle.lane.specs.Table.{laneAt, putLane, setHead}
-use Rattle.lane.proofs.OrderLaws.{cond-holds, refill-fills, chunk-within, move-chunk-keeps}
+use Rattle.lane.proofs.OrderLaws.{cond-holds, refill-fills, move-chunk-keeps}
 use Rattle.lane.proofs.HeldLaws.{refill-is}
 use Rattle.lane.proofs.TableLaws.{frames, slot-of-lane}
 use Rattle.queues.specs.Header.{slots, budget, capacity}
@@ -84,19 +84,13 @@ module _ (t : List ℕ) (l : Lane) (f : Fronts t l) where
   chunk-ring r g = subst (λ (x : ℕ). Within (ringOf x (capacity t)) (length r)) (sym chunk-slot) (ring-in t k (frontSlot t) (front-issued t k (f .some)) r g)
 
   -- the lane loaded anew
-  pub loaded-is : reload (closeFast (laneAt t (l .key .slot))) ≡ l
-  loaded-is = ap (λ (x : ℕ). reload (closeFast (laneAt t x))) chunk-slot ∙ refill-is (frontLane t) l (f .filled)
+  pub loaded-again : (a b m : Lane) → a ≡ laneAt t (l .key .slot) → b ≡ closeFast a → m ≡ reload b → m ≡ l
+  loaded-again a b m p q e =
+      e ∙ ap reload (q ∙ ap (λ (x : Lane). closeFast x) (p ∙ ap (laneAt t) chunk-slot)) ∙ refill-is (frontLane t) l (f .filled)
 
   module _ (n : ℕ) (h : n ≤ chunkLimit (capacity t) l) where
     abbrev C : ℕ
     C = capacity t
-
-    -- the room that its items have in the ring, and in a move
-    pub chunk-room : (n ≤ C) × (n ≤ 64)
-    chunk-room = let w = chunk-within C (k .power .most) l chunk-filled n h in (fits (chunk-filled .order .counts) (chunk-filled .order .cursors .known-on) (w .0), omega (arith, w .2))
-      where
-        fits : {B d a c u b v : ℕ} → Counts B d a c u b v → a ≤ C → n ≤ c → n ≤ C
-        fits p q e = omega arith
 
     pub end-ordered : InOrder C (chunkEnd C n l .lane)
     end-ordered = move-chunk-keeps C (k .power .most) l chunk-filled n h

@@ -325,6 +325,13 @@ module _ (C : ℕ) (small : C ≤ 65536) (l : Lane) (f : Filled C l) (take : ℕ
   unfolding chunkLimit
   chunk-within = chunk-fits take (l .cached) (f .order .counts .unreleased-below) (f .order .counts .burst-most) h
 
+  -- its items are in the ring, and no more than one move takes
+  pub chunk-room : (take ≤ C) × (take ≤ 64)
+  chunk-room = (room (f .order .counts) (f .order .cursors .known-on) (chunk-within .0), omega (arith, chunk-within .2))
+    where
+      room : {B d a c u b w : ℕ} → Counts B d a c u b w → a ≤ C → take ≤ c → take ≤ C
+      room k p q = omega arith
+
   pub move-chunk-keeps : InOrder C (endFullBurst (moveChunk C take l) .lane)
   unfolding moveChunk endFullBurst
   move-chunk-keeps =

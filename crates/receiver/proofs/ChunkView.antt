@@ -15,11 +15,10 @@ use Rattle.model.specs.Changes.{withQueue, withBudget, put, popped}
 use Rattle.model.specs.Order.{Ordered}
 use Rattle.model.specs.Turn as rules
 use Rattle.model.proofs.WholeChunk.{firstOf, given, ChunkFits, given-ordered}
-use Rattle.lane.specs.declared.consumer.Moved.{Moved}
 use Rattle.lane.specs.declared.lane.Lane.{Lane}
 use Rattle.lane.specs.declared.lane.Released.{Released}
 use Rattle.yring.specs.Ring.{ringOf, items}
-use Rattle.lane.specs.Lane.{headOn, charged, addBurst, endBurst, released, held, releaseAtBatch, endFullBurst, chunkLimit}
+use Rattle.lane.specs.Lane.{headOn, charged, addBurst, endBurst, released, held, releaseAtBatch, endFullBurst, chunkLimit, moveChunk}
 use Rattle.lane.specs.Table.{laneAt}
 use Rattle.lane.proofs.OrderLaws.{chunk-within}
 use Rattle.lane.proofs.HeldLaws.{move-chunk-takes-first, refill-is}
@@ -27,7 +26,7 @@ use Rattle.queues.specs.Header.{budget, capacity}
 use Rattle.queues.specs.Queue.{queueOf, frontSlot, poppedFront}
 use Rattle.store.specs.View.{slotAt, view}
 use Rattle.store.specs.Order.{Stores, StoreInOrder}
-use Rattle.bulk.specs.Drain.{Fronts, fullBudget, chunkItems, chunkLane, gaveChunk, chunkGiven}
+use Rattle.bulk.specs.Drain.{Fronts, fullBudget, chunkItems, gaveChunk, chunkGiven}
 use Rattle.store.proofs.ViewLaws.{slot-in}
 use Rattle.store.proofs.LaneView.{looked-counts}
 use Rattle.receiver.proofs.SameFlags.{key-by}
@@ -35,7 +34,7 @@ use Rattle.store.proofs.BetweenTurns.{FrontLane, front-lane}
 use Rattle.turns.proofs.TurnLaws.{queue-is}
 use Rattle.turns.proofs.DueLaws.{ringed-of}
 use Rattle.receiver.proofs.FrontBack.{Back, back-view, back-stores}
-use Rattle.bulk.proofs.ChunkLaws.{chunkEnd, chunk-filled, chunk-flags, chunk-slot, chunk-ring, moved-is, end-ordered, end-flags}
+use Rattle.bulk.proofs.ChunkLaws.{chunkEnd, chunk-filled, chunk-flags, chunk-slot, chunk-ring, end-ordered, end-flags}
 use Rattle.bulk.proofs.DrainLaws.{length-chunk, chunkHanded}
 use Rattle.receiver.proofs.LookView.{ready-holds}
 
@@ -59,8 +58,8 @@ full-alike (suc n) = rw (ne-eqb (suc n) 0 (λ z. omega arith))
 
 -- the counts of a lane after n items: "Credit goes back when the unreleased count reaches the release batch"
 lane-counts : (C n : ℕ) (l : Lane)
-    → (chunkLane C n l .unreleased ≡ if (eqb (l .unreleased + n) (releaseBatch C)) 0 (l .unreleased + n)) × (chunkLane C n l .burst ≡ l .burst + n) × (chunkLane C n l .window ≡ l .window)
-unfolding chunkLane releaseAtBatch
+    → (moveChunk C n l .unreleased ≡ if (eqb (l .unreleased + n) (releaseBatch C)) 0 (l .unreleased + n)) × (moveChunk C n l .burst ≡ l .burst + n) × (moveChunk C n l .window ≡ l .window)
+unfolding moveChunk releaseAtBatch
 lane-counts C n l = go (eqb (l .unreleased + n) (releaseBatch C))
   where
     after : Bool → Released
@@ -128,9 +127,8 @@ module _ (t r : List ℕ) (o : StoreInOrder t r) (l : Lane) (f : Fronts t l) (n 
   lane-holds : held (ringOf (l .key .slot) C) r l ≡ chunkItems t r n l ++ held (ringOf (l .key .slot) C) r m
   unfolding chunkItems
   lane-holds =
-      move-chunk-takes-first (ringOf (l .key .slot) C) r l (chunk-ring t l f r (ringed-of t r o)) (chunk-filled t l f) n h [] 0 .0
-      ∙ ap (λ (z : Moved × List ℕ). items (ringOf (l .key .slot) C) r (l .head) n ++ held (ringOf (l .key .slot) C) r (z .0 .lane)) (moved-is t l f n h r [] 0)
-      ∙ ap (λ (vs : List ℕ). items (ringOf (l .key .slot) C) r (l .head) n ++ vs) (sym (end-holds (l .key .slot) C r (chunkLane C n l)))
+      move-chunk-takes-first (ringOf (l .key .slot) C) r l (chunk-ring t l f r (ringed-of t r o)) (chunk-filled t l f) n h
+      ∙ ap (λ (vs : List ℕ). items (ringOf (l .key .slot) C) r (l .head) n ++ vs) (sym (end-holds (l .key .slot) C r (moveChunk C n l)))
 
   -- the chunk's items are the first of the rules' items of the lane
   ring-splits : slot .ring ≡ chunkItems t r n l ++ held (ringOf x C) r m
@@ -149,7 +147,7 @@ module _ (t r : List ℕ) (o : StoreInOrder t r) (l : Lane) (f : Fronts t l) (n 
   pub chunk-fits : ChunkFits (view t r) x n
   unfolding view
   chunk-fits =
-      let w = chunk-within (ringOf x C) (o .stores .power .most) r l (chunk-filled t l f) n h in
+      let w = chunk-within C (o .stores .power .most) l (chunk-filled t l f) n h in
       let c = seen-counts in
       record {
         some = some;
@@ -168,18 +166,18 @@ module _ (t r : List ℕ) (o : StoreInOrder t r) (l : Lane) (f : Fronts t l) (n 
       record {
         same-flags = end-flags t l f n h;
         order = end-ordered t l f n h;
-        closed = end-counts (chunkLane C n l) .2 ∙ lane-counts C n l .2 ∙ chunk-filled t l f .closed;
+        closed = end-counts (moveChunk C n l) .2 ∙ lane-counts C n l .2 ∙ chunk-filled t l f .closed;
       }
 
   unreleased-after : m .unreleased ≡ if (eqb (slot .unreleased + n) (releaseBatch C)) 0 (slot .unreleased + n)
   unreleased-after =
-      end-counts (chunkLane C n l) .0 ∙ lane-counts C n l .0 ∙ ap (λ (u : ℕ). if (eqb (u + n) (releaseBatch C)) 0 (u + n)) (sym (seen-counts .0))
+      end-counts (moveChunk C n l) .0 ∙ lane-counts C n l .0 ∙ ap (λ (u : ℕ). if (eqb (u + n) (releaseBatch C)) 0 (u + n)) (sym (seen-counts .0))
 
-  burst-on : chunkLane C n l .burst ≡ slot .burst + n
+  burst-on : moveChunk C n l .burst ≡ slot .burst + n
   burst-on = lane-counts C n l .1 ∙ ap (λ (u : ℕ). u + n) (sym (seen-counts .1))
 
   burst-after : m .burst ≡ if (eqb (slot .burst + n) 64) 0 (slot .burst + n)
-  burst-after = end-counts (chunkLane C n l) .1 ∙ ap (λ (u : ℕ). if (eqb u 64) 0 u) burst-on
+  burst-after = end-counts (moveChunk C n l) .1 ∙ ap (λ (u : ℕ). if (eqb u 64) 0 u) burst-on
 
   turn-over : chunkEnd C n l .ended ≡ eqb (slot .burst + n) 64
   unfolding endFullBurst

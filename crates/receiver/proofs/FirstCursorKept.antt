@@ -21,7 +21,7 @@ use Rattle.lane.specs.declared.lane.LanePoll.{LanePoll}
 use Rattle.lane.specs.declared.lane.LanePoll.the-variants as LanePoll
 use Rattle.lane.specs.declared.lane.EmptyLane.{EmptyLane}
 use Rattle.yring.specs.Ring.{ringOf}
-use Rattle.lane.specs.Lane.{reloadIsEmpty, refill, popTargeted, poll, endFullBurst}
+use Rattle.lane.specs.Lane.{reloadIsEmpty, refill, popTargeted, poll, endFullBurst, moveChunk}
 use Rattle.lane.specs.Table.{setHead, laneAt, putLane}
 use Rattle.lane.proofs.OrderLaws.{cond-holds}
 use Rattle.queues.specs.Header.{issued, queueCount, budget, capacity, firstCursor, channel, fastSlot, livingCount}
@@ -47,7 +47,7 @@ use Rattle.turns.specs.Drained.{retireEmptyPaused, retireEmptyPausedLanes, empt
 use Rattle.receives.specs.Receive.{elseTake, windowTook, fastTook, takeFast, openTook, takeWindow, pollLoop, refillTake, takeOne, takeLone, takeFair, answerOne, tryRecv, tryRecvFair}
 use Rattle.turns.specs.Due.{collectedIfDue}
 use Rattle.targeted.specs.Target.{targetSettled, targetQueued, targetKept, targetTook, takeFrom, tryRecvFrom}
-use Rattle.bulk.specs.Drain.{lookBy, lookFront, afterLook, runDownWithin, runDown, elseFront, refreshActive, fullBudget, chunkSize, chunkLane, gaveChunk, chunkGiven, Drained, chunkThen, drainedWithin, drained, answerItems, batchAnswer, tryRecvBatchInto}
+use Rattle.bulk.specs.Drain.{lookBy, lookFront, afterLook, runDownWithin, runDown, elseFront, refreshActive, fullBudget, chunkSize, gaveChunk, chunkGiven, Drained, chunkThen, drainedWithin, drained, answerItems, batchAnswer, tryRecvBatchInto}
 use Rattle.receiver.specs.Runs.{receiveWords, callWords, theStores}
 use Rattle.receiver.specs.Demands.{StaysInOrder}
 use Rattle.receiver.specs.FirstCursor.{RingsStartAtFirstCursor}
@@ -235,7 +235,7 @@ module _ {c : ℕ} where
   at-chunk : (t : List ℕ) → At c t → (n : ℕ) (l : Lane) → At c (chunkGiven t n l)
   unfolding chunkGiven gaveChunk rotatedIf
   at-chunk t h n l =
-      let e = endFullBurst (chunkLane (capacity t) n l) in
+      let e = endFullBurst (moveChunk (capacity t) n l) in
       let p = at-put t h (e .lane) in
       at-head (rotatedIf (e .ended) (putLane t (e .lane)))
       (cond-holds (At c) (e .ended) (rotated (putLane t (e .lane))) (putLane t (e .lane)) (λ d. head-rotated (putLane t (e .lane)) 10 refl refl ∙ p) (λ d. p)) 5 (fullBudget (budget t) - n) refl

@@ -11,7 +11,7 @@ use lib.ListN.{set}
 use Rattle.model.specs.State.{releaseBatch}
 use Rattle.yring.specs.Cursor.{after, distance}
 use Rattle.yring.specs.Ring.{place, push}
-use Rattle.lane.specs.Lane.{pushAndFlush, sent, poll, pollRefilled, pollItem, polled, popTargeted, targeted, refill, readyOrIdle, reload, prefetch, closeFast, settleEmpty, emptied, settled, releasePending, releaseAny, released, releaseAtBatch, charged, headOn, addBurst, endBurst, endFullBurst, chunkLimit, chunkMoved, moveChunk, movedInto}
+use Rattle.lane.specs.Lane.{pushAndFlush, sent, poll, pollRefilled, pollItem, polled, popTargeted, targeted, refill, readyOrIdle, reload, prefetch, closeFast, settleEmpty, emptied, settled, releasePending, releaseAny, released, releaseAtBatch, charged, headOn, addBurst, endBurst, endFullBurst, chunkLimit, moveChunk}
 use Rattle.lane.specs.Order.{Counts, InOrder, Filled, sentLane, polledLane, refilledLane}
 use Rattle.yring.specs.declared.ring.Ring.{Ring}
 use Rattle.yring.specs.declared.ring.Push.the-variants.{Pushed, Full}
@@ -22,12 +22,11 @@ use Rattle.lane.specs.declared.lane.Refill.{Refill}
 use Rattle.lane.specs.declared.lane.Refill.the-variants as Refill
 use Rattle.lane.specs.declared.lane.LanePoll.{LanePoll}
 use Rattle.lane.specs.declared.lane.LanePoll.the-variants as LanePoll
-use Rattle.lane.specs.declared.consumer.Moved.{Moved}
 use Rattle.lane.specs.declared.consumer.Sent.{Sent}
 use Rattle.lane.specs.declared.consumer.Sent.the-variants as Sent
 use Rattle.yring.proofs.CursorLaws.{behind-after, ahead-after}
 use Rattle.lane.proofs.CursorOrder.{held-adds}
-use Rattle.lane.proofs.OrderLaws.{closed-reload-keeps, reload-window, refill-fills, push-and-flush-keeps, poll-keeps, refill-keeps, move-chunk-keeps, chunk-within, chunk-whole}
+use Rattle.lane.proofs.OrderLaws.{closed-reload-keeps, reload-window, refill-fills, push-and-flush-keeps, poll-keeps, refill-keeps, move-chunk-keeps, chunk-within}
 
 -- what a lane holds
 abbrev pub held : Lane → ℕ
@@ -203,26 +202,24 @@ module _ (ring : Ring) (small : ring .capacity ≤ 65536) (store : List ℕ) (l 
   unfolding chunkLimit
   chunk-most = omega arith
 
-  chunk-less : (out : List ℕ) (at : ℕ) → held (endFullBurst ((moveChunk ring store out at (chunkLimit (ring .capacity) l) l) .0 .lane) .lane) < held l
-  unfolding moveChunk chunkMoved movedInto endFullBurst
-  chunk-less out at =
+  chunk-less : held (endFullBurst (moveChunk (ring .capacity) (chunkLimit (ring .capacity) l) l) .lane) < held l
+  unfolding moveChunk endFullBurst
+  chunk-less =
       let take : ℕ = chunkLimit (ring .capacity) l in
       let x : Lane = addBurst take (charged take (headOn take l)) in
       let y : Lane = releaseAtBatch (ring .capacity) x .lane in
       let a : Still x y = at-batch-still (ring .capacity) x in
       let b : Still y (endBurst (eqb (y .burst) 64) y) = end-burst-still (eqb (y .burst) 64) y in
-      rw (chunk-whole ring small store l f take (omega arith))
-      (on-less (ring .capacity) l (endBurst (eqb (y .burst) 64) y) take small (f .order) chunk-some
-      (cached-ahead (f .order .counts) take (chunk-within ring small store l f take (omega arith) .0)) (b .0 ∙ a .0) (b .1 ∙ a .1))
+      on-less (ring .capacity) l (endBurst (eqb (y .burst) 64) y) take small (f .order) chunk-some
+      (cached-ahead (f .order .counts) take (chunk-within (ring .capacity) small l f take (omega arith) .0)) (b .0 ∙ a .0) (b .1 ∙ a .1)
 
   -- a chunk taken leaves fewer
-  pub chunk-taken : (out after-out : List ℕ) (at take : ℕ) (moved : Moved) (m : Lane) → take ≡ chunkLimit (ring .capacity) l → (moved, after-out) ≡ moveChunk ring store out at take l
-      → m ≡ endFullBurst (moved .lane) .lane → InOrder (ring .capacity) m × (held m < held l)
-  chunk-taken out after-out at take moved m t e g =
+  pub chunk-taken : (take : ℕ) (moved m : Lane) → take ≡ chunkLimit (ring .capacity) l → moved ≡ moveChunk (ring .capacity) take l
+      → m ≡ endFullBurst moved .lane → InOrder (ring .capacity) m × (held m < held l)
+  chunk-taken take moved m t e g =
       let limit : ℕ = chunkLimit (ring .capacity) l in
-      let p : moved ≡ (moveChunk ring store out at limit l) .0 = ap (λ (x : Moved × List ℕ). x .0) e ∙ ap (λ (n : ℕ). (moveChunk ring store out at n l) .0) t in
-      let q : m ≡ endFullBurst ((moveChunk ring store out at limit l) .0 .lane) .lane = g ∙ ap (λ (n : Moved). endFullBurst (n .lane) .lane) p in
-      rw q (move-chunk-keeps ring small store l f limit (omega arith) out at, chunk-less out at)
+      let q : m ≡ endFullBurst (moveChunk (ring .capacity) limit l) .lane = g ∙ ap (λ (n : Lane). endFullBurst n .lane) (e ∙ ap (λ (n : ℕ). moveChunk (ring .capacity) n l) t) in
+      rw q (move-chunk-keeps (ring .capacity) small l f limit (omega arith), chunk-less)
 
 module _ (ring : Ring) (small : ring .capacity ≤ 65536) (store : List ℕ) (l : Lane) (o : InOrder (ring .capacity) l) where
   -- a receive that hands out an item leaves fewer

@@ -107,10 +107,10 @@ fn receive_chunk(run: Run, lane: Lane, ring: Ring, store: &[u64; 64]) -> Run
 {
     let mut out = [0; 64];
     let take = lane.chunk_limit(ring.capacity);
-    let moved = lane.move_chunk(ring, store, &mut out, 0, take);
+    let moved = lane.move_chunk(ring.capacity, take);
+    ring.pop_into(store, lane.head, take, &mut out, 0);
     let good = numbered(&out, take as usize, run.due);
-    let chunk = moved.lane;
-    let ended = chunk.end_full_burst();
+    let ended = moved.end_full_burst();
     let next = ended.lane;
     Run {
         lane: next,
