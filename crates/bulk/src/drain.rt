@@ -139,10 +139,7 @@ fn chunk_size(t: &[u64], left: u64, l: Lane) -> u64
     ensures { λ n. ⌜ n ≡ chunkSize (now (t .entry)) left l ⌝ }
 {
     let budget = full_budget(t[Header::BUDGET]);
-    num::least(
-        num::least(left, budget),
-        l.chunk_limit(t[Header::CAPACITY]),
-    )
+    num::least(num::least(left, budget), l.chunk_limit(t[Header::CAPACITY]))
 }
 
 // Moves a chunk of the front lane to the output, from place `at` on, and counts it as that many receives would. The lane is

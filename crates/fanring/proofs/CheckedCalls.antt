@@ -1,6 +1,6 @@
 -- Every call on any two stores: on stores in order it is the inner call; refused, it leaves every word and the output as they were.
 -- Assumes nothing.
-use mathlib.Core.Path.{_≡_, refl, sym, subst}
+use mathlib.Core.Path.{_≡_, refl}
 use mathlib.Core.Bool.{Bool, true, false, cond}
 use mathlib.Core.List.{List}
 use Prim.Native.Nat.{ℕ}
@@ -14,34 +14,26 @@ use Rattle.model.specs.declared.Refusal.the-variants.{StoreNotInOrder}
 use Rattle.model.specs.declared.Answer.{Answer}
 use Rattle.model.specs.declared.Answer.the-variants.{Refused}
 use Rattle.model.specs.Demand2.{HasRoom}
-use Rattle.store.specs.Order.{StoreInOrder}
 use Rattle.store.specs.Words.{Words}
 use Rattle.bulk.specs.Drain.{batchInto}
 use Rattle.receiver.specs.Runs.{receiveWords, callWords, handsWords, outputWords}
 use Rattle.receiver.proofs.RefusedUnmoved.{Unmoved}
-use Rattle.receiver.proofs.CallLaws.{call-unmoved, output-unmoved, call-keeps}
+use Rattle.receiver.proofs.CallLaws.{call-unmoved, output-unmoved}
+use Rattle.receiver.proofs.AsInner.{AsInner}
 use Rattle.order.specs.InOrder.{inOrder}
 use Rattle.fanring.specs.Checked.{checked, checkedInto}
-use Rattle.fanring.specs.Runs.{checkedWords, checkedHands, checkedOutput}
+use Rattle.fanring.specs.Runs.{checkedWords, checkedHands, checkedOutput, checkedCalls}
 use Rattle.fanring.proofs.CheckedLaws.{if-in-order, checked-inner}
 
 -- ---- on stores in order
 
-module _ (t r : List ℕ) (o : StoreInOrder t r) where
-  pub words-inner : (c : Call) → checkedWords t r c ≡ callWords t r c
-  unfolding checkedWords
-  words-inner c = checked-inner t r o (callWords t r c)
-
-  pub hands-inner : (c : ReceiveCall) → checkedHands t r c ≡ handsWords t r c
-  unfolding checkedHands
-  hands-inner c = if-in-order t r o (handsWords t r c) _
-
-  pub output-inner : (c : ReceiveCall) (out : List ℕ) → checkedOutput t r c out ≡ outputWords t r c out
-  unfolding checkedOutput
-  output-inner c out = if-in-order t r o (outputWords t r c out) _
-
-  pub words-keep : (c : Call) → StoreInOrder ((checkedWords t r c) .1) ((checkedWords t r c) .2)
-  words-keep c = subst (λ (w : Words). StoreInOrder (w .1) (w .2)) (sym (words-inner c)) (call-keeps t r o c)
+pub checked-as-inner : AsInner checkedCalls
+unfolding checkedWords checkedHands checkedOutput
+checked-as-inner = record {
+  same-words = λ t r o c. checked-inner t r o (callWords t r c);
+  same-hands = λ t r o c. if-in-order t r o (handsWords t r c) _;
+  same-output = λ t r o c out. if-in-order t r o (outputWords t r c out) _;
+}
 
 -- ---- refused, on any
 

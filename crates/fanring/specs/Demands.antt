@@ -1,5 +1,5 @@
 -- What is claimed of the calls: of each on any two stores, and of lists of them from an accepted opening on.
--- Most claims are crate `model`'s (its specs/Demand2.antt, Demand3.antt, Closed.antt, Held.antt), here of the words that the calls' contracts name.
+-- Most claims are crate `model`'s (its specs/Demand2.antt, Demand3.antt, Closed.antt, Held.antt), here of the words that the calls' contracts name; the last is crate `receiver`'s (its specs/RulesOnWords.antt, DisconnectedOnWords.antt).
 -- Assumes nothing.
 use mathlib.Core.Path.{_≡_}
 use mathlib.Core.List.{List}
@@ -13,7 +13,7 @@ use Rattle.model.specs.declared.Refusal.the-variants.{StoreNotInOrder}
 use Rattle.model.specs.declared.Answer.{Answer}
 use Rattle.model.specs.declared.Answer.the-variants.{Done, Refused}
 use Rattle.model.specs.State.{State}
-use Rattle.model.specs.Runs.{RunsOf, after}
+use Rattle.model.specs.Runs.{RunsOf}
 use Rattle.model.specs.Rules.{outcome}
 use Rattle.model.specs.Words.{runsThatFit}
 use Rattle.model.specs.Demand2.{Demand2In, HasRoom, HandsAsAnsweredIn}
@@ -23,8 +23,10 @@ use Rattle.model.specs.Held.{HeldAsCountedIn}
 use Rattle.store.specs.View.{view}
 use Rattle.store.specs.Order.{StoreInOrder}
 use Rattle.opening.specs.Opening.{openStore}
+use Rattle.receiver.specs.Runs.{Run, storesAfter}
 use Rattle.receiver.specs.Demands.{itemsIn}
-use Rattle.fanring.specs.Runs.{checkedWords, checkedOutput, theCalls}
+use Rattle.receiver.specs.RulesOnWords.{KeepsRules}
+use Rattle.fanring.specs.Runs.{checkedWords, checkedOutput, checkedCalls, theCalls}
 
 -- ---- one call, on any two stores
 
@@ -61,9 +63,7 @@ runs = runsThatFit theCalls
 
 -- after an accepted opening no call is refused for its stores
 abbrev pub NeverFive : Type 0
-NeverFive =
-    (o : Opening) (t r : List ℕ) → (openStore o t r) .0 ≡ Done → (calls : List Call) → runs o (t, r) calls
-    → (c : Call) → let end = after theCalls ((theCalls .opens o (t, r)) .1) calls in (checkedWords (end .0) (end .1) c) .0 ≡ Refused StoreNotInOrder → ⊥
+NeverFive = (x : Run) (c : Call) → let end = storesAfter checkedCalls x in (checkedWords (end .0) (end .1) c) .0 ≡ Refused StoreNotInOrder → ⊥
 
 -- demand 2: "In a run from an opening, the stores otherwise untouched, items handed out of a lane never closed and then items still in its ring are its accepted sends, in order."
 abbrev pub ItemsInOrder : Type 0
@@ -84,3 +84,7 @@ NoneAfterClose = NoneAfterCloseIn theCalls runs
 -- held is the number of accepted sends less items handed out, of lanes not closed
 abbrev pub HeldIsCounted : Type 0
 HeldIsCounted = HeldAsCountedIn theCalls runs
+
+-- document 01's sentences on order kept, the poll budget, turns of 64, collections, Disconnected and Empty, first cursors and queued keys, one field for each
+abbrev pub RulesKept : Type 0
+RulesKept = KeepsRules checkedCalls

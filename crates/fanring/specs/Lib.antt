@@ -1,4 +1,3 @@
 pub mod Checked
 pub mod Runs
 pub mod Demands
-pub mod RulesOnCalls

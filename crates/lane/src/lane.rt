@@ -443,8 +443,7 @@ impl Lane {
         requires { ⌜ Capacity capacity × Filled capacity self × (take ≤ chunkLimit capacity self) ⌝ }
         ensures { λ r. ⌜ r ≡ moveChunk capacity take self ⌝ }
     {
-        let done = self
-            .advance(take)
+        let done = self.advance(take)
             .charge(take)
             .add_burst(take)
             .release_at_batch(capacity);

@@ -2,16 +2,13 @@
 -- Assumes nothing.
 use mathlib.Core.Path.{_≡_, refl, subst}
 use mathlib.Core.Bool.{Bool, true, false, cond}
-use mathlib.Core.List.{List, [], _∷_}
+use mathlib.Core.List.{List, []}
 use Prim.Native.Nat.{ℕ}
 use lib.Dec.{eqb, ltb}
 use Rattle.model.specs.declared.LaneKey.{LaneKey}
-use Rattle.model.specs.declared.Call.{Call}
 use Rattle.model.specs.Lists.{if, both}
 use Rattle.model.specs.State as rules
 use Rattle.model.specs.State.{vacant, hasLane}
-use Rattle.model.specs.Runs.{after}
-use Rattle.model.specs.Words.{runsThatFit}
 use Rattle.model.specs.Demand1.{RefusalChangesNothing}
 use Rattle.model.specs.Demand2.{Demand2In}
 use Rattle.model.proofs.Words.{words-demand2, words-demand3, words-none-after-close, words-held-as-counted, words-hands-as-answered}
@@ -20,12 +17,11 @@ use Rattle.lane.specs.Lane.{held}
 use Rattle.lane.specs.Table.{laneAt}
 use Rattle.queues.specs.Header.{issued, capacity}
 use Rattle.store.specs.View.{flag, slotAt, view}
-use Rattle.store.specs.Order.{StoreInOrder}
 use Rattle.receiver.specs.Runs.{theStores}
-use Rattle.receiver.specs.Demands.{itemsIn, runs, StaysInOrder, RefusalsChangeNothing, ItemsInOrder, AnswersTell, LanesWaitBounded, NoneAfterClose, HeldIsCounted}
+use Rattle.receiver.specs.Demands.{itemsIn, runs, RefusalsChangeNothing, ItemsInOrder, AnswersTell, LanesWaitBounded, NoneAfterClose, HeldIsCounted}
 use Rattle.receiver.proofs.RefusedUnmoved.{open-unmoved}
-use Rattle.receiver.proofs.CallLaws.{call-unmoved, output-unmoved, call-keeps}
-use Rattle.receiver.proofs.Simulation.{stores-simulate}
+use Rattle.receiver.proofs.CallLaws.{call-unmoved, output-unmoved}
+use Rattle.receiver.proofs.Simulation.{simulates, stores-simulate}
 
 -- a lane's ring in the words is the ring that the rules see
 pub ring-seen : (t r : List ℕ) (k : LaneKey) → rules.ringOf (view t r) k ≡ itemsIn t r k
@@ -52,19 +48,8 @@ refusals-change-nothing = record {
   of-openings = λ o w why e. open-unmoved (w .0) (w .1) o why e;
 }
 
-calls-keep : (w : theStores .State) (calls : List Call) → StoreInOrder (w .0) (w .1)
-    → let end = after theStores w calls in StoreInOrder (end .0) (end .1)
-unfolding after
-calls-keep w [] k = k
-calls-keep w (c ∷ cs) k = calls-keep ((theStores .step w c) .1) cs (call-keeps (w .0) (w .1) k c)
-
-pub stays-in-order : StaysInOrder
-unfolding StaysInOrder runsThatFit stores-simulate
-stays-in-order o t r d calls f =
-    calls-keep ((theStores .opens o (t, r)) .1) calls (stores-simulate .opens-ok o (t, r) (f .0) d)
-
 pub items-in-order : ItemsInOrder
-unfolding stores-simulate
+unfolding stores-simulate simulates
 items-in-order = subst (Demand2In theStores runs) (λ i w k. ring-seen (w .0) (w .1) k i) (words-demand2 theStores stores-simulate)
 
 pub answers-tell : AnswersTell

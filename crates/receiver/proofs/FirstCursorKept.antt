@@ -1,11 +1,12 @@
 -- No call changes the header's first cursor, and so every ring registered in a run starts at the cursor that the opening was given.
 -- Assumes nothing.
-use mathlib.Core.Path.{_≡_, refl, sym, ap, _∙_, subst}
+use mathlib.Core.Path.{_≡_, refl, ap, _∙_}
 use mathlib.Core.Bool.{Bool, true, false}
 use mathlib.Core.List.{List, [], _∷_}
 use Prim.Native.Nat.{ℕ, zero, suc, _-_}
 use lib.Dec.{eqb, ltb}
 use lib.ListN.{length}
+use Rattle.model.specs.declared.SenderCall.the-variants.{RegisterSender}
 use Rattle.model.specs.declared.ReceiveCall.{ReceiveCall}
 use Rattle.model.specs.declared.ReceiveCall.the-variants.{TryRecv, TryRecvFair, TryRecvFrom, TryRecvBatchInto}
 use Rattle.model.specs.declared.Call.{Call}
@@ -29,8 +30,8 @@ use Rattle.queues.specs.Queue.{frontSlot, rotated}
 use Rattle.ready.specs.Ready.{collectReady}
 use Rattle.queues.proofs.QueueLaws.{head-rotated}
 use Rattle.store.specs.Order.{StoreInOrder}
-use Rattle.sender.specs.Sender.{registerSender}
-use Rattle.opening.specs.FirstCursor.{StartsAt}
+use Rattle.store.specs.Words.{Words}
+use Rattle.sender.specs.Sender.{senderWords}
 use Rattle.opening.proofs.FirstCursor.{opening-puts-cursor, registered-starts}
 use Rattle.walk.specs.Batch.{releaseAll}
 use Rattle.control.specs.Control.{withTurn}
@@ -48,12 +49,11 @@ use Rattle.receives.specs.Receive.{elseTake, windowTook, fastTook, takeFast, op
 use Rattle.turns.specs.Due.{collectedIfDue}
 use Rattle.targeted.specs.Target.{targetSettled, targetQueued, targetKept, targetTook, takeFrom, tryRecvFrom}
 use Rattle.bulk.specs.Drain.{lookBy, lookFront, afterLook, runDownWithin, runDown, elseFront, refreshActive, fullBudget, chunkSize, gaveChunk, chunkGiven, Drained, chunkThen, drainedWithin, drained, answerItems, batchAnswer, tryRecvBatchInto}
-use Rattle.receiver.specs.Runs.{receiveWords, callWords, theStores}
-use Rattle.receiver.specs.Demands.{StaysInOrder}
-use Rattle.receiver.specs.FirstCursor.{RingsStartAtFirstCursor}
+use Rattle.receiver.specs.Runs.{receiveWords, callWords, StoreCalls, listsOf, opened, storesAfter}
+use Rattle.receiver.specs.RulesOnWords.{StaysInOrder, RingsStartAtFirstCursor}
 use Rattle.turns.proofs.FrontLaws.{head-left, head-met, head-gave}
 use Rattle.receiver.proofs.FirstCursorSteps.{At, at-put, at-head, at-pushed-back, at-removed, at-marked-if-idle, at-retired, at-slots, at-collected, unless-at, sender-keeps-cursor, control-keeps-cursor, at-release-all}
-use Rattle.receiver.proofs.Demands.{stays-in-order}
+use Rattle.receiver.proofs.AsInner.{AsInner, opened-in-order, words-keep, stays-in-order}
 
 -- of an answer with a table
 abbrev TableAt : {A : Type 0} → ℕ → A × List ℕ → Type 0
@@ -279,17 +279,18 @@ call-keeps-cursor t r (Sender s) = sender-keeps-cursor t r s
 call-keeps-cursor t r (Receive s) = receive-keeps-cursor t r s
 call-keeps-cursor t r (Control s) = control-keeps-cursor t r s
 
-pub calls-keep-cursor : (w : theStores .State) (calls : List Call) → firstCursor ((after theStores w calls) .0) ≡ firstCursor (w .0)
-unfolding after
-calls-keep-cursor w [] = refl
-calls-keep-cursor w (s ∷ calls) = calls-keep-cursor ((theStores .step w s) .1) calls ∙ call-keeps-cursor (w .0) (w .1) s
+module _ (M : StoreCalls) (i : AsInner M) where
+  calls-keep-cursor : (w : List ℕ × List ℕ) (calls : List Call) → StoreInOrder (w .0) (w .1) → firstCursor ((after (listsOf M) w calls) .0) ≡ firstCursor (w .0)
+  unfolding after
+  calls-keep-cursor w [] o = refl
+  calls-keep-cursor w (s ∷ calls) o =
+      calls-keep-cursor ((listsOf M .step w s) .1) calls (words-keep M i (w .0) (w .1) o s)
+      ∙ ap (λ (z : Words). firstCursor (z .1)) (i .same-words (w .0) (w .1) o s) ∙ call-keeps-cursor (w .0) (w .1) s
 
-pub rings-start-at-first-cursor : RingsStartAtFirstCursor
-unfolding RingsStartAtFirstCursor StaysInOrder
-rings-start-at-first-cursor o t r d calls f w e most k a =
-    let opened = (theStores .opens o (t, r)) .1 in
-    let ok : StoreInOrder (w .0) (w .1) = subst (λ (z : theStores .State). StoreInOrder (z .0) (z .1)) e (stays-in-order o t r d calls f) in
-    let here : firstCursor (w .0) ≡ o .cursor =
-    ap (λ (z : theStores .State). firstCursor (z .0)) (sym e) ∙ calls-keep-cursor opened calls ∙ opening-puts-cursor o t r d in
-    let l : Lane = laneAt ((registerSender (w .0) (w .1) most) .1) (k .slot) in
-    subst (λ (z : ℕ). StartsAt z l) here (registered-starts (w .0) (w .1) ok most k a)
+  pub rings-start-at-first-cursor : RingsStartAtFirstCursor M
+  unfolding RingsStartAtFirstCursor StaysInOrder callWords senderWords
+  rings-start-at-first-cursor x most k =
+      let v = storesAfter M x in
+      let o = stays-in-order M i x in
+      let here : firstCursor (v .0) ≡ x .opening .cursor = calls-keep-cursor (opened x) (x .calls) (opened-in-order x) ∙ opening-puts-cursor (x .opening) (x .table) (x .rings) (x .accepted) in
+      rw (i .same-words (v .0) (v .1) o (Sender (RegisterSender most))) (rw here at (registered-starts (v .0) (v .1) o most k))

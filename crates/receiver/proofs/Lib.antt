@@ -25,6 +25,7 @@ pub mod DrainView
 pub mod TryRecvBatchLaws
 pub mod RefusedUnmoved
 pub mod CallLaws
+pub mod AsInner
 pub mod Simulation
 pub mod Demands
 pub mod RulesOnWords
@@ -32,3 +33,4 @@ pub mod SlotsSeen
 pub mod DisconnectedOnWords
 pub mod FirstCursorSteps
 pub mod FirstCursorKept
+pub mod RulesKept

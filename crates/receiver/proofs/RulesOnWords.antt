@@ -1,4 +1,4 @@
--- The poll budget, turns of 64 and collections, of every list of calls on the two stores: the words show the rules' run with the same calls.
+-- The poll budget, turns of 64 and collections, of calls on two stores: the words show the rules' run with the same calls.
 -- Assumes nothing.
 use mathlib.Core.Path.{_≡_, refl, sym, ap, _∙_}
 use mathlib.Core.Bool.{Bool, true, false}
@@ -6,7 +6,6 @@ use mathlib.Core.List.{List, [], _∷_, _++_, map}
 use Prim.Native.Nat.{ℕ}
 use lib.ListN.{length}
 use Rattle.model.specs.declared.LaneKey.{LaneKey}
-use Rattle.model.specs.declared.Opening.{Opening}
 use Rattle.model.specs.declared.Call.{Call}
 use Rattle.model.specs.declared.Answer.{Answer}
 use Rattle.model.specs.declared.Answer.the-variants.{Done}
@@ -16,7 +15,6 @@ use Rattle.model.specs.Order.{InOrder}
 use Rattle.model.specs.Runs.{Lent, after}
 use Rattle.model.specs.Rules.{theRules}
 use Rattle.model.specs.Opening.{openingOutcome}
-use Rattle.model.specs.Words.{runsThatFit}
 use Rattle.model.specs.Events as rules
 use Rattle.model.specs.Events.{Event, budgetSet, callEvents, anyMarked}
 use Rattle.model.specs.Budget as rules-budget
@@ -32,89 +30,83 @@ use Rattle.store.specs.View.{view}
 use Rattle.store.specs.Order.{StoreInOrder}
 use Rattle.store.proofs.StoreLaws.{rings-fit}
 use Rattle.store.proofs.CollectedView.{view-collect-all, view-collect-group}
-use Rattle.opening.specs.Opening.{openStore}
-use Rattle.opening.proofs.OpeningLaws.{open-answers-alike, open-view, open-in-order}
-use Rattle.receiver.specs.Runs.{theStores}
-use Rattle.receiver.specs.Demands.{runs}
+use Rattle.opening.proofs.OpeningLaws.{open-answers-alike, open-view}
+use Rattle.receiver.specs.Runs.{StoreCalls, listsOf, Run, opened, storesAfter}
 use Rattle.receiver.specs.RulesOnWords.{eventsFrom, runEvents, EventsTell, BudgetCountsItems, AtMost64InOneTurn, AtMost64BetweenCollections, Collecting}
-use Rattle.receiver.proofs.CallLaws.{call-alike, call-keeps, hands-alike}
-use Rattle.receiver.proofs.Simulation.{cursor-fits}
+use Rattle.receiver.proofs.AsInner.{AsInner, opened-in-order, words-alike, words-keep, hands-alike}
 
 -- a store in order shows a state in order
 pub shows-in-order : (t r : List ℕ) → StoreInOrder t r → InOrder (view t r)
 shows-in-order t r o = record { ordered = o .ordered; rings-fit = rings-fit t r (o .stores) (o .ordered) }
 
--- ---- calls on a store in order
+-- ---- the opening of a run
 
-pub seen-after : (w : theStores .State) (calls : List Call) → StoreInOrder (w .0) (w .1)
-    → let end = after theStores w calls in view (end .0) (end .1) ≡ after theRules (view (w .0) (w .1)) calls
-unfolding after
-seen-after w [] o = refl
-seen-after w (c ∷ cs) o =
-    seen-after ((theStores .step w c) .1) cs (call-keeps (w .0) (w .1) o c)
-    ∙ ap (λ (z : Answer × State). after theRules (z .1) cs) (call-alike (w .0) (w .1) o c)
+-- what the rules are lent
+abbrev pub lent : Run → Lent
+lent x = record { rings = length (x .rings); table = length (x .table) }
 
-pub events-alike : (w : theStores .State) (calls : List Call) → StoreInOrder (w .0) (w .1) → eventsFrom w calls ≡ rules.eventsFrom (view (w .0) (w .1)) calls
-unfolding eventsFrom rules.eventsFrom
-events-alike w [] o = refl
-events-alike w (c ∷ cs) o =
-    ap (λ (es : List Event). callEvents (view (w .0) (w .1)) c ++ es)
-    (events-alike ((theStores .step w c) .1) cs (call-keeps (w .0) (w .1) o c)
-    ∙ ap (λ (z : Answer × State). rules.eventsFrom (z .1) cs) (call-alike (w .0) (w .1) o c))
+pub rules-accept : (x : Run) → (openingOutcome (x .opening) (lent x)) .1 .0 ≡ Done
+rules-accept x = sym (open-answers-alike (x .opening) (x .table) (x .rings)) ∙ x .accepted
 
--- ---- a run from an accepted opening
+shows-opened : (x : Run) → view ((opened x) .0) ((opened x) .1) ≡ (openingOutcome (x .opening) (lent x)) .1 .1
+shows-opened x = open-view (x .opening) (x .table) (x .rings) (x .accepted) ∙ sym (opens-as (x .opening) (lent x))
 
-module _ (o : Opening) (t r : List ℕ) (d : (openStore o t r) .0 ≡ Done) (calls : List Call) (f : runs o (t, r) calls) where
-  -- what the rules are lent
-  abbrev pub lent : Lent
-  lent = record { rings = length r; table = length t }
+-- ---- calls that on stores in order are the inner calls
 
-  abbrev pub opened : theStores .State
-  opened = (theStores .opens o (t, r)) .1
+module _ (M : StoreCalls) (i : AsInner M) where
+  seen-after : (w : List ℕ × List ℕ) (calls : List Call) → StoreInOrder (w .0) (w .1)
+      → let end = after (listsOf M) w calls in view (end .0) (end .1) ≡ after theRules (view (w .0) (w .1)) calls
+  unfolding after
+  seen-after w [] o = refl
+  seen-after w (c ∷ cs) o =
+      seen-after ((listsOf M .step w c) .1) cs (words-keep M i (w .0) (w .1) o c)
+      ∙ ap (λ (z : Answer × State). after theRules (z .1) cs) (words-alike M i (w .0) (w .1) o c)
 
-  pub rules-accept : (openingOutcome o lent) .1 .0 ≡ Done
-  rules-accept = sym (open-answers-alike o t r) ∙ d
-
-  in-order : StoreInOrder (opened .0) (opened .1)
-  unfolding runsThatFit
-  in-order = open-in-order o t r (cursor-fits o lent (f .0)) d
-
-  shows-opened : view (opened .0) (opened .1) ≡ (openingOutcome o lent) .1 .1
-  shows-opened = open-view o t r d ∙ sym (opens-as o lent)
+  events-alike : (w : List ℕ × List ℕ) (calls : List Call) → StoreInOrder (w .0) (w .1) → eventsFrom M w calls ≡ rules.eventsFrom (view (w .0) (w .1)) calls
+  unfolding eventsFrom rules.eventsFrom
+  events-alike w [] o = refl
+  events-alike w (c ∷ cs) o =
+      ap (λ (es : List Event). callEvents (view (w .0) (w .1)) c ++ es)
+      (events-alike ((listsOf M .step w c) .1) cs (words-keep M i (w .0) (w .1) o c)
+      ∙ ap (λ (z : Answer × State). rules.eventsFrom (z .1) cs) (words-alike M i (w .0) (w .1) o c))
 
   -- the words show the state that the rules' run with the same calls reaches
-  pub run-seen : let end = after theStores opened calls in view (end .0) (end .1) ≡ after theRules ((openingOutcome o lent) .1 .1) calls
-  run-seen = seen-after opened calls in-order ∙ ap (λ (s : State). after theRules s calls) shows-opened
+  pub run-seen : (x : Run) → let end = storesAfter M x in view (end .0) (end .1) ≡ after theRules ((openingOutcome (x .opening) (lent x)) .1 .1) (x .calls)
+  run-seen x = seen-after (opened x) (x .calls) (opened-in-order x) ∙ ap (λ (s : State). after theRules s (x .calls)) (shows-opened x)
 
   -- and its events are theirs
-  pub run-events-alike : runEvents o t r calls ≡ rules.runEvents o lent calls
+  run-events-alike : (x : Run) → runEvents M x ≡ rules.runEvents (x .opening) (lent x) (x .calls)
   unfolding runEvents rules.runEvents
-  run-events-alike = ap (λ (es : List Event). budgetSet ∷ es) (events-alike opened calls in-order ∙ ap (λ (s : State). rules.eventsFrom s calls) shows-opened)
+  run-events-alike x =
+      ap (λ (es : List Event). budgetSet ∷ es)
+      (events-alike (opened x) (x .calls) (opened-in-order x) ∙ ap (λ (s : State). rules.eventsFrom s (x .calls)) (shows-opened x))
 
--- ---- the sentences
+  -- ---- the sentences
 
-pub events-tell : EventsTell
-unfolding rules-budget.ItemsAsHanded rules-budget.AsManyAsHanded
-events-tell = record {
-  lanes-handed = λ t r o c. items-as-handed (view t r) c ∙ ap (λ (l : List (LaneKey × ℕ)). if (isTargeted c) [] (map (λ g. g .0) l)) (sym (hands-alike t r o c));
-  as-many = λ t r o c. as-many-as-handed (view t r) c ∙ ap (λ (l : List (LaneKey × ℕ)). if (isTargeted c) 0 (length l)) (sym (hands-alike t r o c));
-}
+  pub events-tell : EventsTell M
+  unfolding rules-budget.ItemsAsHanded rules-budget.AsManyAsHanded
+  events-tell = record {
+    lanes-handed = λ t r o c. items-as-handed (view t r) c ∙ ap (λ (l : List (LaneKey × ℕ)). if (isTargeted c) [] (map (λ g. g .0) l)) (sym (hands-alike M i t r o c));
+    as-many = λ t r o c. as-many-as-handed (view t r) c ∙ ap (λ (l : List (LaneKey × ℕ)). if (isTargeted c) 0 (length l)) (sym (hands-alike M i t r o c));
+  }
 
-pub budget-is-count : BudgetCountsItems
-unfolding BudgetCountsItems rules-budget.BudgetCountsItems view
-budget-is-count o t r d calls f =
-    let b = budget-counts-items o (lent o t r d calls f) (rules-accept o t r d calls f) calls in
-    rw (run-events-alike o t r d calls f) (ap (λ (s : State). s .budget) (run-seen o t r d calls f) ∙ b .0, b .1)
+  pub budget-is-count : BudgetCountsItems M
+  unfolding BudgetCountsItems rules-budget.BudgetCountsItems view
+  budget-is-count x =
+      let b = budget-counts-items (x .opening) (lent x) (rules-accept x) (x .calls) in
+      rw (run-events-alike x) (ap (λ (s : State). s .budget) (run-seen x) ∙ b .0, b .1)
 
-pub at-most-64-in-turn : AtMost64InOneTurn
-unfolding AtMost64InOneTurn rules-turn.AtMost64InOneTurn
-at-most-64-in-turn o t r d calls f before part rest e =
-    at-most-64-in-one-turn o (lent o t r d calls f) (rules-accept o t r d calls f) calls before part rest (sym (run-events-alike o t r d calls f) ∙ e)
+  pub at-most-64-in-turn : AtMost64InOneTurn M
+  unfolding AtMost64InOneTurn rules-turn.AtMost64InOneTurn
+  at-most-64-in-turn x before part rest e =
+      at-most-64-in-one-turn (x .opening) (lent x) (rules-accept x) (x .calls) before part rest (sym (run-events-alike x) ∙ e)
 
-pub at-most-64-between : AtMost64BetweenCollections
-unfolding AtMost64BetweenCollections rules-collections.AtMost64BetweenCollections
-at-most-64-between o t r d calls f before part rest e =
-    at-most-64-between-collections o (lent o t r d calls f) (rules-accept o t r d calls f) calls before part rest (sym (run-events-alike o t r d calls f) ∙ e)
+  pub at-most-64-between : AtMost64BetweenCollections M
+  unfolding AtMost64BetweenCollections rules-collections.AtMost64BetweenCollections
+  at-most-64-between x before part rest e =
+      at-most-64-between-collections (x .opening) (lent x) (rules-accept x) (x .calls) before part rest (sym (run-events-alike x) ∙ e)
+
+-- ---- a collection
 
 pub collecting : Collecting
 unfolding rules-collections.TakesOneGroup rules-collections.TakesAllGroups rules-collections.NothingToCollect

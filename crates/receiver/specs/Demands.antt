@@ -9,11 +9,10 @@ use lib.Dec.{eqb, ltb}
 use Rattle.model.specs.declared.LaneKey.{LaneKey}
 use Rattle.model.specs.declared.Opening.{Opening}
 use Rattle.model.specs.declared.ReceiveCall.{ReceiveCall}
-use Rattle.model.specs.declared.Call.{Call}
 use Rattle.model.specs.declared.Call.the-variants.{Receive}
 use Rattle.model.specs.declared.Refusal.{Refusal}
-use Rattle.model.specs.declared.Answer.the-variants.{Done, Refused}
-use Rattle.model.specs.Runs.{RunsOf, after}
+use Rattle.model.specs.declared.Answer.the-variants.{Refused}
+use Rattle.model.specs.Runs.{RunsOf}
 use Rattle.model.specs.Words.{runsThatFit}
 use Rattle.model.specs.Demand1.{RefusalChangesNothing}
 use Rattle.model.specs.Demand2.{Demand2In, HasRoom, HandsAsAnsweredIn}
@@ -24,8 +23,6 @@ use Rattle.yring.specs.Ring.{ringOf}
 use Rattle.lane.specs.Lane.{held}
 use Rattle.lane.specs.Table.{laneAt}
 use Rattle.queues.specs.Header.{issued, capacity}
-use Rattle.store.specs.Order.{StoreInOrder}
-use Rattle.opening.specs.Opening.{openStore}
 use Rattle.receiver.specs.Runs.{theStores}
 
 -- The items in the ring of the lane with this key, oldest first; none if no lane has it.
@@ -40,12 +37,6 @@ itemsIn t r k =
 -- All runs of code: an opening and calls whose numbers are u64, and whatever words the two stores hold before the opening.
 abbrev pub runs : RunsOf theStores
 runs = runsThatFit theStores
-
--- "An accepted opening leaves a store in order, whatever the lent words held", and every call after it keeps it so.
-unfoldable pub StaysInOrder : Type 0
-StaysInOrder =
-    (o : Opening) (t r : List ℕ) → (openStore o t r) .0 ≡ Done → (calls : List Call) → runs o (t, r) calls
-    → let end = after theStores ((theStores .opens o (t, r)) .1) calls in StoreInOrder (end .0) (end .1)
 
 -- "a refusal leaves state, both stores and the output unchanged", of any words, in order or not
 pub record RefusalsChangeNothing : Type 0 where

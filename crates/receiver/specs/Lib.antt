@@ -1,6 +1,5 @@
 pub mod Hands
 pub mod Runs
 pub mod Demands
-pub mod RulesOnWords
 pub mod DisconnectedOnWords
-pub mod FirstCursor
+pub mod RulesOnWords

@@ -191,16 +191,12 @@ module _ (ring : Ring) (small : ring .capacity ≤ 65536) (store : List ℕ) (l 
       (ap (λ (n : Lane). n .tail) (sym same) ∙ b .0 ∙ a .0) (ap (λ (n : Lane). n .head) (sym same) ∙ b .1 ∙ a .1)
 
   -- a chunk takes some
-  pub chunk-some : 0 < chunkLimit (ring .capacity) l
+  chunk-some : 0 < chunkLimit (ring .capacity) l
   unfolding chunkLimit
   chunk-some = go (f .order .counts) (f .some)
     where
       go : {B d m c u b w : ℕ} → Counts B d m c u b w → 0 < c → 0 < min (min c (64 - b)) (B - u)
       go q h = omega arith
-
-  pub chunk-most : chunkLimit (ring .capacity) l ≤ 64
-  unfolding chunkLimit
-  chunk-most = omega arith
 
   chunk-less : held (endFullBurst (moveChunk (ring .capacity) (chunkLimit (ring .capacity) l) l) .lane) < held l
   unfolding moveChunk endFullBurst
