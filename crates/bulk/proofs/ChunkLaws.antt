@@ -9,9 +9,10 @@ use lib.Dec.{eqb}
 use lib.ListN.{length, set}
 use Rattle.lane.specs.declared.lane.Lane.{Lane}
 use Rattle.lane.specs.declared.lane.BurstEnd.{BurstEnd}
+use Rattle.lane.specs.declared.lane.Reloaded.{Reloaded}
 use Rattle.yring.specs.Ring.{ringOf, Within}
 use Rattle.lane.specs.Order.{Counts, InOrder, Filled}
-use Rattle.lane.specs.Lane.{closeFast, reload, headOn, charged, addBurst, endFullBurst, chunkLimit, moveChunk}
+use Rattle.lane.specs.Lane.{reloadIsEmpty, headOn, charged, addBurst, endFullBurst, chunkLimit, moveChunk}
 use Rattle.lane.specs.Table.{laneAt, putLane, setHead}
 use Rattle.lane.proofs.OrderLaws.{cond-holds, refill-fills, move-chunk-keeps}
 use Rattle.lane.proofs.HeldLaws.{refill-is}
@@ -84,9 +85,9 @@ module _ (t : List ℕ) (l : Lane) (f : Fronts t l) where
   chunk-ring r g = subst (λ (x : ℕ). Within (ringOf x (capacity t)) (length r)) (sym chunk-slot) (ring-in t k (frontSlot t) (front-issued t k (f .some)) r g)
 
   -- the lane loaded anew
-  pub loaded-again : (a b m : Lane) → a ≡ laneAt t (l .key .slot) → b ≡ closeFast a → m ≡ reload b → m ≡ l
-  loaded-again a b m p q e =
-      e ∙ ap reload (q ∙ ap (λ (x : Lane). closeFast x) (p ∙ ap (laneAt t) chunk-slot)) ∙ refill-is (frontLane t) l (f .filled)
+  pub loaded-again : (a : Lane) (m : Reloaded) → a ≡ laneAt t (l .key .slot) → m ≡ reloadIsEmpty a → m .lane ≡ l
+  unfolding reloadIsEmpty
+  loaded-again a m p e = ap (λ (x : Reloaded). x .lane) (e ∙ ap reloadIsEmpty (p ∙ ap (laneAt t) chunk-slot)) ∙ refill-is (frontLane t) l (f .filled)
 
   module _ (n : ℕ) (h : n ≤ chunkLimit (capacity t) l) where
     abbrev C : ℕ

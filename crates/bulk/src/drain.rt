@@ -149,7 +149,8 @@ fn give_chunk(t: &mut [u64], r: &[u64], out: &mut [u64], at: usize, left: u64, f
     ensures { λ a. ⌜ (a, now (t .exit), now (out .exit)) ≡ giveChunk (now (t .entry)) (now (r .entry)) (now (out .entry)) at left front ⌝ }
 {
     let capacity = t[Header::CAPACITY];
-    let l = Lane::load(t, front.key.slot).close_fast().reload();
+    let looked = Lane::load(t, front.key.slot).reload_is_empty();
+    let l = looked.lane;
     let take = chunk_size(t, left, l);
     gave_chunk(t, take, l.move_chunk(capacity, take));
     Ring::new(l.key.slot, capacity).pop_into(r, l.head, take, out, at);

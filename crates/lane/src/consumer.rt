@@ -47,7 +47,7 @@ impl Lane {
     }
 
     // Looks again once the items known of are used up.
-    pub fn reload(self) -> Lane
+    pub(crate) fn reload(self) -> Lane
         ensures { λ r. ⌜ r ≡ reload self ⌝ }
     {
         if self.cached == 0 {
