@@ -30,8 +30,10 @@
 //!
 //! # What is proved, and what is not
 //!
-//! Every call of a [`Channel`] is one call of the library, with the numbers that it was given. Of those the
-//! repository proves, among other things, by the names in its docs/CLAIMS.md:
+//! Every call of a [`Channel`] is one call of the library, with the numbers that it was given; but
+//! [`try_recv_batch_into`](Channel::try_recv_batch_into) may count the items first, and lower its limit to one with which
+//! the library does and answers the same. Of the library's calls the repository proves, among other things, by the names
+//! in its docs/CLAIMS.md:
 //!
 //! - each call does what the rules of document 01, the customer's scope paper, say (`call-alike`, `calls-as-rules`);
 //! - a refusal changes nothing (`refusals-change-nothing`);
