@@ -211,8 +211,8 @@ impl Error for NoSuchSender {}
 pub enum TryRecvError {
     /// No item is visible right now. A result, and no refusal.
     Empty,
-    /// All senders are gone and no item is left. From a targeted receive: the sender of that lane is gone and no item is
-    /// left in it, while other senders may live. A result, and no refusal.
+    /// All senders are gone and no item is left. From a targeted receive: the sender of that lane is gone and no item
+    /// is left in it, while other senders may live. A result, and no refusal.
     ///
     /// It is not final: a channel with no sender yet answers it too, and a sender may still be registered.
     Disconnected,

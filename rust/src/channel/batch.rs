@@ -13,9 +13,9 @@ impl Channel {
     /// disconnected. Existing items of the vector are preserved.
     ///
     /// The vector grows as needed, and any limit may be given: `usize::MAX` takes all that is there. For the call it is
-    /// made longer by the limit, but where that is more than 16 for each slot, by no more than the items that the channel
-    /// holds and one; afterwards it is cut to what was appended.
-    /// [`try_recv_batch_into_slice`](Self::try_recv_batch_into_slice) needs no vector.
+    /// made longer by the limit, but where that is more than 16 for each slot, by no more than the items held and one;
+    /// afterwards it is cut to what was appended. [`try_recv_batch_into_slice`](Self::try_recv_batch_into_slice) needs
+    /// no vector.
     ///
     /// # Errors
     ///
@@ -100,6 +100,10 @@ impl Channel {
     }
 
     /// Release the places of all items that were taken, in all lanes, so that senders can use them again.
+    ///
+    /// Otherwise a lane's places come back in batches: when as many were taken as the release batch (half the capacity or
+    /// 64, whichever is more, but at most the capacity), when a receive finds the lane empty, on [`pause`](Self::pause),
+    /// and with every [`try_recv_batch_into`](Self::try_recv_batch_into).
     ///
     /// # Errors
     ///

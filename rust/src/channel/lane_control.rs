@@ -8,7 +8,9 @@ impl Channel {
     /// Exclude a lane from all receives but targeted ones.
     ///
     /// Releases the places of items already taken from the lane, so that its sender can fill the whole ring. Repeated
-    /// pauses are harmless.
+    /// pauses are harmless. While no sender lives and a paused lane has items, receives answer
+    /// [`Empty`](crate::TryRecvError::Empty), and not `Disconnected`, until it is resumed, closed or emptied by targeted
+    /// ones.
     ///
     /// # Errors
     ///
@@ -51,7 +53,8 @@ impl Channel {
 
     /// Disconnect and retire one lane, including a paused lane with items, which are lost.
     ///
-    /// Its sender's sends are refused from then on. The slot can be used again once that sender is dropped.
+    /// Its sender's sends are refused from then on. That sender still counts as living, and must be dropped: until then
+    /// the slot cannot be used again, and receives do not answer [`Disconnected`](crate::TryRecvError::Disconnected).
     ///
     /// # Errors
     ///

@@ -68,8 +68,8 @@ impl Channel {
     /// # Errors
     ///
     /// [`Empty`](TryRecvError::Empty) when this lane is empty and its sender is alive,
-    /// [`Disconnected`](TryRecvError::Disconnected) when it is empty and its own sender is dropped, whether or not others
-    /// live, [`NoSuchLane`](TryRecvError::NoSuchLane) for a retired lane or an id of another channel, and
+    /// [`Disconnected`](TryRecvError::Disconnected) when it is empty and its own sender is dropped, whether or not
+    /// others live, [`NoSuchLane`](TryRecvError::NoSuchLane) for a retired lane or an id of another channel, and
     /// [`ReceiverClosed`](TryRecvError::ReceiverClosed). With `Disconnected` the lane retires.
     ///
     /// ```
