@@ -60,7 +60,7 @@ impl Run {
     /// Most often the key of a lane that is in use; or one that was; or one that never was.
     fn any_key(&mut self) -> LaneKey {
         let which = self.random.below(50);
-        let in_use = |lane: &Lane| !lane.closed && !(lane.sender_dropped && lane.items.is_empty());
+        let in_use = |lane: &Lane| !(lane.closed || lane.sender_dropped && lane.items.is_empty());
         let keys: Vec<LaneKey> =
             self.lanes.iter().filter(|(_, lane)| which < 5 || in_use(lane)).map(|(key, _)| *key).collect();
         if which == 0 || keys.is_empty() {

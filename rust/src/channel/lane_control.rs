@@ -8,9 +8,10 @@ impl Channel {
     /// Exclude a lane from all receives but targeted ones.
     ///
     /// Releases the places of items already taken from the lane, so that its sender can fill the whole ring. Repeated
-    /// pauses are harmless. While no sender lives and a paused lane has items, receives answer
-    /// [`Empty`](crate::TryRecvError::Empty), and not `Disconnected`, until it is resumed, closed or emptied by targeted
-    /// ones.
+    /// pauses are harmless.
+    ///
+    /// While no sender lives and a paused lane has items, receives answer [`Empty`](crate::TryRecvError::Empty), until
+    /// it is resumed, closed or emptied by targeted ones.
     ///
     /// # Errors
     ///
