@@ -130,8 +130,8 @@ uint64_t fanring_resume(
     uint64_t *table, size_t table_len, const uint64_t *rings, size_t rings_len,
     uint64_t channel, uint64_t slot, uint64_t generation, uint64_t words[4]);
 
-/* Retires the lane with this id, with the items that it holds: none of them is handed out. Its sender still counts as living, with its sends refused 12,
-   and must be dropped. Answers FANRING_DONE; or refused 5, 6, 13. */
+/* Retires the lane with this id, with the items that it holds: none of them is handed out. A sender not dropped yet still counts as living, with its
+   sends refused 12, and must be dropped. Answers FANRING_DONE; or refused 5, 6, 13. */
 uint64_t fanring_close_lane(
     uint64_t *table, size_t table_len, const uint64_t *rings, size_t rings_len,
     uint64_t channel, uint64_t slot, uint64_t generation, uint64_t words[4]);
@@ -152,13 +152,12 @@ uint64_t fanring_held(const uint64_t *table, size_t table_len, const uint64_t *r
 /* ---- Inner calls: each does and answers what the checked call of its name does, without the test of the stores. Premise of each: the stores are in order,
    opened by fanring_open and since then changed by these calls alone ---- */
 
-/* Premise: the stores are in order. As fanring_register_sender: registers a sender with a lane of its own. Answers FANRING_REGISTERED; or refused 6,
-   7, 8, 9. */
+/* Premise: the stores are in order. As fanring_register_sender: registers a sender with a lane of its own. Answers FANRING_REGISTERED;
+   or refused 6, 7, 8, 9. */
 uint64_t fanring_inner_register_sender(
     uint64_t *table, size_t table_len, const uint64_t *rings, size_t rings_len, uint64_t most, uint64_t words[4]);
 
-/* Premise: the stores are in order. As fanring_try_send: sends an item through the sender with this key. Answers FANRING_TAKEN; or refused 10, 12,
-   11. */
+/* Premise: the stores are in order. As fanring_try_send: sends an item through the sender with this key. Answers FANRING_TAKEN; or refused 10, 12, 11. */
 uint64_t fanring_inner_try_send(
     uint64_t *table, size_t table_len, uint64_t *rings, size_t rings_len, uint64_t slot, uint64_t generation,
     uint64_t item, uint64_t words[4]);
@@ -173,28 +172,28 @@ uint64_t fanring_inner_drop_sender(
     uint64_t *table, size_t table_len, const uint64_t *rings, size_t rings_len, uint64_t slot, uint64_t generation,
     uint64_t words[4]);
 
-/* Premise: the stores are in order. As fanring_try_recv: receives one item (plain). Answers FANRING_ITEM, FANRING_EMPTY, FANRING_DISCONNECTED; or
-   refused 6. */
+/* Premise: the stores are in order. As fanring_try_recv: receives one item (plain). Answers FANRING_ITEM, FANRING_EMPTY, FANRING_DISCONNECTED;
+   or refused 6. */
 uint64_t fanring_inner_try_recv(uint64_t *table, size_t table_len, const uint64_t *rings, size_t rings_len, uint64_t words[4]);
 
-/* Premise: the stores are in order. As fanring_try_recv_fair: receives one item (fair). Answers FANRING_ITEM, FANRING_EMPTY, FANRING_DISCONNECTED; or
-   refused 6. */
+/* Premise: the stores are in order. As fanring_try_recv_fair: receives one item (fair). Answers FANRING_ITEM, FANRING_EMPTY, FANRING_DISCONNECTED;
+   or refused 6. */
 uint64_t fanring_inner_try_recv_fair(uint64_t *table, size_t table_len, const uint64_t *rings, size_t rings_len, uint64_t words[4]);
 
-/* Premise: the stores are in order. As fanring_try_recv_from: receives one item of the lane with this id (targeted). Answers FANRING_ITEM,
-   FANRING_EMPTY, FANRING_DISCONNECTED; or refused 6, 13. */
+/* Premise: the stores are in order. As fanring_try_recv_from: receives one item of the lane with this id (targeted). Answers FANRING_ITEM, FANRING_EMPTY,
+   FANRING_DISCONNECTED; or refused 6, 13. */
 uint64_t fanring_inner_try_recv_from(
     uint64_t *table, size_t table_len, const uint64_t *rings, size_t rings_len,
     uint64_t channel, uint64_t slot, uint64_t generation, uint64_t words[4]);
 
-/* Premise: the stores are in order. As fanring_try_recv_batch_into: receives items into out[0], out[1], ... Answers FANRING_ITEMS, FANRING_EMPTY,
-   FANRING_DISCONNECTED; or refused 6, 14. */
+/* Premise: the stores are in order. As fanring_try_recv_batch_into: receives items into out. Answers FANRING_ITEMS, FANRING_EMPTY, FANRING_DISCONNECTED;
+   or refused 6, 14. */
 uint64_t fanring_inner_try_recv_batch_into(
     uint64_t *table, size_t table_len, const uint64_t *rings, size_t rings_len, uint64_t *out, size_t out_len,
     uint64_t limit, uint64_t words[4]);
 
-/* Premise: the stores are in order. As fanring_pause: takes the lane with this id out of all receives but targeted ones. Answers FANRING_DONE; or
-   refused 6, 13. */
+/* Premise: the stores are in order. As fanring_pause: takes the lane with this id out of all receives but targeted ones. Answers FANRING_DONE;
+   or refused 6, 13. */
 uint64_t fanring_inner_pause(
     uint64_t *table, size_t table_len, const uint64_t *rings, size_t rings_len,
     uint64_t channel, uint64_t slot, uint64_t generation, uint64_t words[4]);
@@ -212,8 +211,7 @@ uint64_t fanring_inner_close_lane(
 /* Premise: the stores are in order. As fanring_release_consumed: every lane gives back its credit. Answers FANRING_DONE; or refused 6. */
 uint64_t fanring_inner_release_consumed(uint64_t *table, size_t table_len, const uint64_t *rings, size_t rings_len, uint64_t words[4]);
 
-/* Premise: the stores are in order. As fanring_poll_all_lanes: queues every lane that is neither queued nor paused. Answers FANRING_DONE; or refused
-   6. */
+/* Premise: the stores are in order. As fanring_poll_all_lanes: queues every lane that is neither queued nor paused. Answers FANRING_DONE; or refused 6. */
 uint64_t fanring_inner_poll_all_lanes(uint64_t *table, size_t table_len, const uint64_t *rings, size_t rings_len, uint64_t words[4]);
 
 /* Premise: the stores are in order. As fanring_close_receiver: closes the receiver. Answers FANRING_DONE; or refused 6. */

@@ -33,6 +33,8 @@ impl Channel {
 
     /// Restore a paused lane to ordinary receives, at the back of the rotation. Repeated resumes are harmless.
     ///
+    /// If the receiver sleeps, wake it, as fanring does: the lane may have items.
+    ///
     /// # Errors
     ///
     /// As [`pause`](Self::pause).
@@ -54,8 +56,9 @@ impl Channel {
 
     /// Disconnect and retire one lane, including a paused lane with items, which are lost.
     ///
-    /// Its sender's sends are refused from then on. That sender still counts as living, and must be dropped: until then
-    /// the slot cannot be used again, and receives do not answer [`Disconnected`](crate::TryRecvError::Disconnected).
+    /// Its sender's sends are refused from then on. A sender not dropped yet still counts as living, and must be
+    /// dropped: until then the slot cannot be used again, and receives do not answer
+    /// [`Disconnected`](crate::TryRecvError::Disconnected).
     ///
     /// # Errors
     ///
