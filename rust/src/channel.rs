@@ -27,13 +27,13 @@ use crate::{LaneId, LaneKey, Opening, Stores};
 /// - Every inner call, refused or not, leaves the words that its definition gives (its contract, in crates/cinner/src),
 ///   and these are in order again (`call-keeps` in crates/receiver/proofs/CallLaws.antt); so they are after every list
 ///   of calls from an accepted opening on (`stays-in-order` in crates/receiver/proofs/Demands.antt).
-/// - Nothing else writes to the words, and their number stays. The `Channel` owns both stores, the fields are private to
-///   the one module that calls the library, that module hands out no reference to them, and no function that this crate
-///   exports is `unsafe`. [`into_stores`](Self::into_stores) gives them back only as the channel ends.
-/// - A call that writes takes `&mut self`, so nothing else runs on the stores at that time. A `Channel` may move to another thread, or stand
-///   behind a lock.
+/// - Nothing else writes to the words, and their number stays. The `Channel` owns both stores, the fields are private
+///   to the one module that calls the library, that module hands out no reference to them, and no function that this
+///   crate exports is `unsafe`. [`into_stores`](Self::into_stores) gives them back only as the channel ends.
+/// - A call that writes takes `&mut self`, so nothing else runs on the stores at that time. A `Channel` may move to
+///   another thread, or stand behind a lock.
 ///
-/// It is not `Clone`: the two channels would share their id, and each would take the other's lane ids.
+/// Neither it nor [`Opening`] is `Clone`: two channels would share their id, and each would take the other's lane ids.
 pub struct Channel {
     stores: StoresInOrder,
     capacity_per_sender: usize,

@@ -211,7 +211,10 @@ impl Error for NoSuchSender {}
 pub enum TryRecvError {
     /// No item is visible right now. A result, and no refusal.
     Empty,
-    /// All senders are gone and no item is left. A result, and no refusal.
+    /// All senders are gone and no item is left. From a targeted receive: the sender of that lane is gone and no item
+    /// is left in it, while other senders may live. A result, and no refusal.
+    ///
+    /// It is not final: a channel with no sender yet answers it too, and a sender may still be registered.
     Disconnected,
     /// The receiver is closed. Refusal 6.
     ReceiverClosed,
@@ -239,13 +242,16 @@ impl TryRecvError {
         matches!(self, Self::Empty)
     }
 
-    /// Return whether every sender was dropped and no item was left.
+    /// Return whether every sender was dropped and no item was left; of a targeted receive, the lane's own sender and
+    /// items.
     #[must_use]
     pub const fn is_disconnected(&self) -> bool {
         matches!(self, Self::Disconnected)
     }
 }
 
+/// The texts of `Empty` and `Disconnected` are fanring's, and name the channel. From a targeted receive they are of its
+/// lane alone.
 impl fmt::Display for TryRecvError {
     fn fmt(&self, f: &mut fmt::Formatter<'_>) -> fmt::Result {
         f.write_str(match self {

@@ -25,8 +25,8 @@ pub struct LaneKey {
 
 /// A lane of one channel: the channel's number and the lane's key.
 ///
-/// Single receives answer with it, and the lane controls take it. Each [`Opening::new`](crate::Opening::new) takes a number
-/// of its own, so an id selects no lane of another channel, unless one [`Opening`](crate::Opening) opened both or its
+/// Single receives answer with it, and the lane controls take it. Each [`Opening::new`](crate::Opening::new) takes a
+/// number of its own, and an opening opens one channel. So an id selects no lane of another channel, unless a
 /// `channel_id` was set by hand.
 ///
 /// ```

@@ -28,10 +28,36 @@
 //! # Ok::<(), Box<dyn std::error::Error>>(())
 //! ```
 //!
+//! # From fanring to this crate
+//!
+//! Of the same name, and by a sender's key or a lane's id: `try_send`, `try_send_unsignaled`, `try_recv`,
+//! `try_recv_fair`, `try_recv_from`, `try_recv_batch_into`, `release_consumed`, `poll_all_lanes`, `pause`, `resume`,
+//! `close_lane`, `capacity_per_sender`. Of another name or form:
+//!
+//! | fanring's mpsc | here |
+//! |---|---|
+//! | `channel(capacity)`, which has a sender | [`channel`]`(capacity, slots)`, which has none yet |
+//! | `try_register_bounded(n)`; `try_clone`, `try_register` | [`register_sender(n)`](Channel::register_sender); with `usize::MAX` |
+//! | `Sender::lane`, `lane_id`, `capacity` | [`Channel::lane`], [`LaneKey::slot`], [`Channel::capacity_per_sender`] |
+//! | `with_lane_ids` | [`try_recv`](Channel::try_recv) and [`try_recv_fair`](Channel::try_recv_fair) always answer the lane's id |
+//! | a `Sender` or the `Receiver` is dropped | [`drop_sender`](Channel::drop_sender), [`close_receiver`](Channel::close_receiver) |
+//!
+//! Absent:
+//!
+//! - all that waits: `send`, `send_timeout`, `send_deadline`, `recv`, `recv_timeout`, `recv_deadline`,
+//!   `recv_batch_into`, iterators, async calls, wakers and wait strategies. A caller that sleeps does its own waking:
+//!   see [`try_send`](Channel::try_send);
+//! - admit predicates: `try_recv_batch_into_while`, `try_recv_scan_into_while` (without a predicate,
+//!   [`poll_all_lanes`](Channel::poll_all_lanes) and then [`try_recv_batch_into`](Channel::try_recv_batch_into));
+//! - `try_send_deferred` and `flush`; `try_register_with_capacity`; teardown policies other than `Deferred`;
+//! - `is_full`, `is_disconnected`, `registered_lanes`, `sender_count`, `receiver_count`, `same_channel`.
+//!
 //! # What is proved, and what is not
 //!
-//! Every call of a [`Channel`] is one call of the library, with the numbers that it was given. Of those the
-//! repository proves, among other things, by the names in its docs/CLAIMS.md:
+//! Every call of a [`Channel`] is one call of the library, with the numbers that it was given; but
+//! [`try_recv_batch_into`](Channel::try_recv_batch_into) may count the items first, and lower its limit to one with
+//! which the library does and answers the same. Of the library's calls the repository proves, among other things, by
+//! the names in its docs/CLAIMS.md:
 //!
 //! - each call does what the rules of document 01, the customer's scope paper, say (`call-alike`, `calls-as-rules`);
 //! - a refusal changes nothing (`refusals-change-nothing`);

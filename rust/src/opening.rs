@@ -63,7 +63,7 @@ pub struct Stores {
     pub rings: Vec<u64>,
 }
 
-/// What a channel is opened with.
+/// What a channel is opened with. One opening opens one channel.
 ///
 /// ```
 /// use proved_fanring::Opening;
@@ -77,13 +77,22 @@ pub struct Stores {
 ///     assert_eq!(channel.try_recv(), Ok((channel.lane(key), item)));
 /// }
 /// ```
-#[derive(Debug, Clone, Copy, PartialEq, Eq)]
+///
+/// It is not `Clone`: the two channels would share their id, and each would take the other's lane ids.
+///
+/// ```compile_fail,E0382
+/// let opening = proved_fanring::Opening::new(4, 2);
+/// let one = opening.open().unwrap();
+/// let other = opening.open().unwrap();
+/// ```
+#[derive(Debug, PartialEq, Eq)]
 pub struct Opening {
     /// Items that a lane holds, from 1 to [`MAX_CAPACITY_PER_SENDER`]; rounded up to a power of two.
     pub capacity_per_sender: usize,
     /// Lanes at one time, from 1 to [`MAX_SLOTS`].
     pub slots: usize,
-    /// The channel's number, which is part of every [`LaneId`](crate::LaneId).
+    /// The channel's number, which is part of every [`LaneId`](crate::LaneId). [`new`](Self::new) takes one of its own;
+    /// who sets it, or takes it over from another opening by `..`, sees to it that no other channel has it.
     pub channel_id: u64,
     /// Where the cursors of every ring start. 0 in fanring.
     pub first_cursor: u64,

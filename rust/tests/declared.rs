@@ -1,5 +1,5 @@
 //! The functions that this crate declares are those of include/fanring.h, parameter by parameter. tests/header of the
-//! repository holds that file to crate `cfanring`.
+//! repository holds that file to crates `cfanring` and `cinner`.
 
 use std::collections::BTreeMap;
 use std::fs;

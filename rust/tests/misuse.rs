@@ -137,9 +137,7 @@ fn an_output_that_is_short() {
     assert_eq!(channel.try_recv_batch_into_slice(&mut output, 3), Err(TryRecvError::OutputShort));
     assert_eq!(channel.try_recv_batch_into_slice(&mut [], 1), Err(TryRecvError::OutputShort));
     assert_eq!(channel.try_recv_batch_into_slice(&mut [], 0), Ok(0));
-    let mut grown = vec![7];
-    assert_eq!(channel.try_recv_batch_into(&mut grown, usize::MAX), Err(TryRecvError::OutputShort));
-    assert_eq!((channel.held(), &output[..], &grown[..]), (1, &[7, 7][..], &[7][..]));
+    assert_eq!((channel.held(), output), (1, [7, 7]));
     assert_eq!(channel.try_recv_batch_into_slice(&mut output, 2), Ok(1));
     assert_eq!(output, [5, 7]);
 }

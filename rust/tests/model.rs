@@ -27,6 +27,8 @@ struct Lane {
     sender_dropped: bool,
     paused: bool,
     closed: bool,
+    /// A receive found nothing since the lane was last marked: the next ordinary send wakes.
+    quiet: bool,
 }
 
 struct Run {
@@ -35,8 +37,9 @@ struct Run {
     sends: u64,
     receiver_closed: bool,
     random: Random,
-    /// Items handed out, and the refusals that there were: a run that shows little is no test.
+    /// Items handed out, sends that woke, and the refusals that there were: a run that shows little is no test.
     handed_out: u64,
+    woken: u64,
     refusals: BTreeSet<u64>,
 }
 
@@ -53,6 +56,7 @@ impl Run {
             receiver_closed: false,
             random,
             handed_out: 0,
+            woken: 0,
             refusals: BTreeSet::new(),
         }
     }
@@ -60,7 +64,7 @@ impl Run {
     /// Most often the key of a lane that is in use; or one that was; or one that never was.
     fn any_key(&mut self) -> LaneKey {
         let which = self.random.below(50);
-        let in_use = |lane: &Lane| !lane.closed && !(lane.sender_dropped && lane.items.is_empty());
+        let in_use = |lane: &Lane| !(lane.closed || lane.sender_dropped && lane.items.is_empty());
         let keys: Vec<LaneKey> =
             self.lanes.iter().filter(|(_, lane)| which < 5 || in_use(lane)).map(|(key, _)| *key).collect();
         if which == 0 || keys.is_empty() {
@@ -92,16 +96,19 @@ impl Run {
         // The lane can be told from the item, for the batch, which answers with items alone.
         let item = key.slot << 48 | key.generation << 24 | self.sends;
         let result = if ordinary {
-            self.channel.try_send(key, item).map(|_| ())
+            self.channel.try_send(key, item)
         } else {
-            self.channel.try_send_unsignaled(key, item)
+            self.channel.try_send_unsignaled(key, item).map(|()| false)
         };
         self.refusals.extend(result.err().map(|error| error.refusal()));
         let capacity = self.channel.capacity_per_sender();
         let lane = self.lanes.get_mut(&key);
         match (result, lane) {
-            (Ok(()), Some(lane)) => {
+            (Ok(woken), Some(lane)) => {
                 assert!(!lane.sender_dropped && !lane.closed && !self.receiver_closed && lane.items.len() < capacity);
+                assert!(woken || !lane.quiet || !ordinary, "{key:?} is not woken");
+                self.woken += u64::from(woken && lane.quiet);
+                lane.quiet &= !ordinary;
                 lane.items.push_back((item, ordinary));
             }
             (Err(TrySendError::Full(back)), Some(lane)) => {
@@ -140,8 +147,8 @@ impl Run {
         self.handed_out += 1;
     }
 
-    /// A receive took nothing.
-    fn nothing(&self, error: TryRecvError) {
+    /// An untargeted receive took nothing.
+    fn nothing(&mut self, error: TryRecvError) {
         assert_eq!(error == TryRecvError::ReceiverClosed, self.receiver_closed);
         if self.receiver_closed {
             return;
@@ -152,6 +159,7 @@ impl Run {
         }
         let gone = self.lanes.values().all(|lane| lane.sender_dropped && lane.items.is_empty());
         assert_eq!(error, if gone { TryRecvError::Disconnected } else { TryRecvError::Empty });
+        self.lanes.values_mut().filter(|lane| !lane.paused).for_each(|lane| lane.quiet = true);
     }
 
     fn receive(&mut self, fair: bool) {
@@ -167,7 +175,10 @@ impl Run {
     fn receive_from(&mut self) {
         let key = self.any_key();
         match self.channel.try_recv_from(&self.channel.lane(key)) {
-            Ok(item) => self.handed_out(key, item, true),
+            Ok(item) => {
+                self.handed_out(key, item, true);
+                self.lanes.get_mut(&key).expect("a lane that was given out").quiet = false;
+            }
             Err(error) => {
                 assert_eq!(error == TryRecvError::ReceiverClosed, self.receiver_closed);
                 let empty = self.lanes.get(&key).is_none_or(|lane| lane.items.is_empty());
@@ -219,7 +230,7 @@ impl Run {
                 match which {
                     0 => *lane = Lane { closed: true, sender_dropped: lane.sender_dropped, ..Lane::default() },
                     1..=3 => (lane.paused, lane.taken) = (true, 0),
-                    _ => lane.paused = false,
+                    _ => (lane.paused, lane.quiet) = (false, lane.quiet && !lane.paused),
                 }
             }
             (Err(LaneControlError::ReceiverClosed), _) => assert!(self.receiver_closed),
@@ -266,7 +277,7 @@ impl Run {
 
 #[test]
 fn items_come_out_as_they_went_in() {
-    let mut handed_out = 0;
+    let (mut handed_out, mut woken) = (0, 0);
     let mut refusals = BTreeSet::new();
     for seed in 1..=400 {
         let mut run = Run::new(seed);
@@ -274,8 +285,10 @@ fn items_come_out_as_they_went_in() {
             run.call();
         }
         handed_out += run.handed_out;
+        woken += run.woken;
         refusals.append(&mut run.refusals);
     }
     assert!(handed_out > 50_000, "only {handed_out} items");
+    assert!(woken > 5_000, "only {woken} sends that woke");
     assert!((6..=13).all(|number| refusals.contains(&number)), "only refusals {refusals:?}");
 }

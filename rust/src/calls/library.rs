@@ -1,8 +1,8 @@
 //! What the library exports, as far as it is called here.
 
-// Crate `cfanring` has these functions, with their contracts: the opening is for any stores, the inner calls are for
-// stores in order. A slice is a pointer and its length in words; `words` points at four. The slices and `words` must
-// not overlap. The result is the answer's tag; its numbers go to `words`.
+// The contracts are in the repository's crates: the opening, for any stores, in `cfanring`; the inner calls, for stores
+// in order, in `cinner`. A slice is a pointer and its length in words; `words` points at four. The slices and `words`
+// must not overlap. The result is the answer's tag; its numbers go to `words`.
 extern "C" {
     pub(super) fn fanring_open(
         table: *mut u64,

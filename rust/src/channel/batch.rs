@@ -10,16 +10,18 @@ impl Channel {
     ///
     /// Lanes have the same turns as with [`try_recv`](Self::try_recv). In the end every lane's places of items already
     /// taken are released. A zero limit receives nothing, releases, and returns `Ok(0)` even if the channel is
-    /// disconnected.
+    /// disconnected. Existing items of the vector are preserved.
     ///
-    /// For the call the vector is made `limit` longer, and afterwards it is cut to what was appended: ask for no more
-    /// than there is memory for. [`try_recv_batch_into_slice`](Self::try_recv_batch_into_slice) needs no vector.
+    /// The vector grows as needed, and any limit may be given: `usize::MAX` takes all that is there. For the call it is
+    /// made longer by the limit, but where that is more than 16 for each slot, by no more than the items held and one;
+    /// afterwards it is cut to what was appended. [`try_recv_batch_into_slice`](Self::try_recv_batch_into_slice) needs
+    /// no vector.
     ///
     /// # Errors
     ///
     /// [`Empty`](TryRecvError::Empty) and [`Disconnected`](TryRecvError::Disconnected) when `limit` is not zero and
     /// nothing was received, [`ReceiverClosed`](TryRecvError::ReceiverClosed), and
-    /// [`OutputShort`](TryRecvError::OutputShort) when the vector cannot grow so far; then nothing was taken.
+    /// [`OutputShort`](TryRecvError::OutputShort) when there is no memory for the vector; then nothing was taken.
     ///
     /// ```
     /// use proved_fanring::{channel, TryRecvError};
@@ -32,13 +34,14 @@ impl Channel {
     ///     channel.try_send(key, item).unwrap();
     /// }
     /// assert_eq!(channel.try_recv_batch_into(&mut batch, 2), Ok(2));
-    /// assert_eq!(channel.try_recv_batch_into(&mut batch, 2), Ok(1));
+    /// assert_eq!(channel.try_recv_batch_into(&mut batch, usize::MAX), Ok(1));
     /// assert_eq!(batch, [0, 1, 2]);
     /// channel.drop_sender(key).unwrap();
     /// assert_eq!(channel.try_recv_batch_into(&mut batch, 1), Err(TryRecvError::Disconnected));
     /// ```
     pub fn try_recv_batch_into(&mut self, output: &mut Vec<u64>, limit: usize) -> Result<usize, TryRecvError> {
         let before = output.len();
+        let limit = self.limit_that_counts(limit);
         // The receiver may be closed as well, which goes first: then the call answers so, for any output.
         if output.try_reserve(limit).is_err() {
             return self.try_recv_batch_into_slice(&mut [], limit);
@@ -47,6 +50,22 @@ impl Channel {
         let result = self.try_recv_batch_into_slice(&mut output[before..], limit);
         output.truncate(before + result.unwrap_or(0));
         result
+    }
+
+    /// The limit, or a smaller one with which a batch does and answers the same.
+    ///
+    /// A batch hands out no more than the rings hold, and nothing is added meanwhile. So a limit of one more is never
+    /// reached, and neither is a larger one. (The one more matters: a batch that reaches its limit stops there, and one
+    /// that does not finds its lanes empty.)
+    fn limit_that_counts(&self, limit: usize) -> usize {
+        // At most 2^29 + 1.
+        let limit = limit.min(self.slots * self.capacity_per_sender + 1);
+        // To count the items goes over all slots, up to 2 ns for each; to fill a word with zero takes about 0.1 ns.
+        if limit > 16 * self.slots {
+            limit.min(self.held() as usize + 1)
+        } else {
+            limit
+        }
     }
 
     /// Receive up to `limit` immediately available items into the front of `output`, returning the number received.
@@ -81,6 +100,10 @@ impl Channel {
     }
 
     /// Release the places of all items that were taken, in all lanes, so that senders can use them again.
+    ///
+    /// Otherwise a lane's places come back in batches: when as many were taken as the release batch (half the capacity
+    /// or 64, whichever is more, but at most the capacity), when a receive finds the lane empty, on
+    /// [`pause`](Self::pause), and with every [`try_recv_batch_into`](Self::try_recv_batch_into).
     ///
     /// # Errors
     ///

@@ -10,6 +10,9 @@ impl Channel {
     /// Releases the places of items already taken from the lane, so that its sender can fill the whole ring. Repeated
     /// pauses are harmless.
     ///
+    /// While no sender lives and a paused lane has items, receives answer [`Empty`](crate::TryRecvError::Empty), until
+    /// it is resumed, closed or emptied by targeted ones.
+    ///
     /// # Errors
     ///
     /// [`NoSuchLane`](LaneControlError::NoSuchLane) for a retired lane or an id of another channel, and
@@ -29,6 +32,8 @@ impl Channel {
     }
 
     /// Restore a paused lane to ordinary receives, at the back of the rotation. Repeated resumes are harmless.
+    ///
+    /// If the receiver sleeps, wake it, as fanring does: the lane may have items.
     ///
     /// # Errors
     ///
@@ -51,7 +56,9 @@ impl Channel {
 
     /// Disconnect and retire one lane, including a paused lane with items, which are lost.
     ///
-    /// Its sender's sends are refused from then on. The slot can be used again once that sender is dropped.
+    /// Its sender's sends are refused from then on. A sender not dropped yet still counts as living, and must be
+    /// dropped: until then the slot cannot be used again, and receives do not answer
+    /// [`Disconnected`](crate::TryRecvError::Disconnected).
     ///
     /// # Errors
     ///

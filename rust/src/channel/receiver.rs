@@ -8,12 +8,14 @@ impl Channel {
     /// Receive one item, and the lane it is from.
     ///
     /// A lane gives up to 64 items before the next one has its turn. Places of items that were taken are released in
-    /// batches: see [`release_consumed`](Self::release_consumed).
+    /// batches, so a send may still find the lane [`Full`](crate::TrySendError::Full): see
+    /// [`release_consumed`](Self::release_consumed).
     ///
     /// # Errors
     ///
-    /// [`Empty`](TryRecvError::Empty) when no item is ready, [`Disconnected`](TryRecvError::Disconnected) after all
-    /// senders and items are gone, and [`ReceiverClosed`](TryRecvError::ReceiverClosed).
+    /// [`Empty`](TryRecvError::Empty) when no item is ready, [`Disconnected`](TryRecvError::Disconnected) when all
+    /// senders and items are gone, or no sender was registered yet, and
+    /// [`ReceiverClosed`](TryRecvError::ReceiverClosed). After `Disconnected` a sender may still be registered.
     ///
     /// ```
     /// use proved_fanring::{channel, TryRecvError};
@@ -59,20 +61,23 @@ impl Channel {
 
     /// Receive only from this lane, including while it is paused.
     ///
-    /// Never resumes it or takes another lane's item. Finds items sent without a signal too.
+    /// Never resumes it or takes another lane's item. Finds items sent without a signal too. A lane that gave an item
+    /// and is neither paused nor queued goes to the back of the rotation. Places are released in batches, as by
+    /// [`try_recv`](Self::try_recv).
     ///
     /// # Errors
     ///
     /// [`Empty`](TryRecvError::Empty) when this lane is empty and its sender is alive,
-    /// [`Disconnected`](TryRecvError::Disconnected) when it is empty and its sender is dropped, with which the lane
-    /// retires, [`NoSuchLane`](TryRecvError::NoSuchLane) for a retired lane or an id of another channel, and
-    /// [`ReceiverClosed`](TryRecvError::ReceiverClosed).
+    /// [`Disconnected`](TryRecvError::Disconnected) when it is empty and its own sender is dropped, whether or not
+    /// others live, [`NoSuchLane`](TryRecvError::NoSuchLane) for a retired lane or an id of another channel, and
+    /// [`ReceiverClosed`](TryRecvError::ReceiverClosed). With `Disconnected` the lane retires.
     ///
     /// ```
     /// use proved_fanring::{channel, TryRecvError};
     ///
     /// let mut channel = channel(4, 2);
     /// let key = channel.register_sender(2).unwrap();
+    /// let other = channel.register_sender(2).unwrap();
     /// let lane = channel.lane(key);
     /// channel.pause(&lane).unwrap();
     /// channel.try_send(key, 5).unwrap();
@@ -82,6 +87,7 @@ impl Channel {
     /// channel.drop_sender(key).unwrap();
     /// assert_eq!(channel.try_recv_from(&lane), Err(TryRecvError::Disconnected));
     /// assert_eq!(channel.try_recv_from(&lane), Err(TryRecvError::NoSuchLane));
+    /// assert_eq!(channel.try_send(other, 6), Ok(true));
     /// ```
     #[inline]
     pub fn try_recv_from(&mut self, id: &LaneId) -> Result<u64, TryRecvError> {

@@ -8,15 +8,15 @@ impl Channel {
     /// Register a sender, with a lane of its own, if fewer than `max_lanes` lanes are registered.
     ///
     /// Includes dropped senders whose lanes the receiver has not yet observed empty, whether or not items remain.
-    /// Closed lanes stop counting immediately. The slot freed last is issued first.
+    /// Closed lanes stop counting immediately. The slot freed last is issued first, else the next unused one.
     ///
     /// # Errors
     ///
     /// [`Disconnected`](TryRegisterBoundedError::Disconnected) when the receiver is closed,
     /// [`AtCapacity`](TryRegisterBoundedError::AtCapacity) when the limit is reached,
-    /// [`NoFreeSlot`](TryRegisterBoundedError::NoFreeSlot) when all slots are in use, and
+    /// [`NoFreeSlot`](TryRegisterBoundedError::NoFreeSlot) when no slot is free and all have been issued, and
     /// [`OlderSenderLives`](TryRegisterBoundedError::OlderSenderLives) when the lane of the slot due was closed and its
-    /// sender is not dropped yet.
+    /// sender is not dropped yet, even with unused slots: drop that sender.
     ///
     /// ```
     /// use proved_fanring::{channel, LaneKey, TryRegisterBoundedError};
@@ -45,11 +45,11 @@ impl Channel {
 
     /// Send one item.
     ///
-    /// `Ok` says whether the lane's signal went from idle to pending, which is where fanring would wake a receiver that
-    /// sleeps.
+    /// The lane is marked: its signal becomes pending, and is idle again when a receive finds the lane empty. `Ok` says
+    /// whether it was idle. Where it was, wake the receiver if it sleeps, as fanring does; there is nothing else to do.
     ///
-    /// Places of items that were taken remain occupied until the receiver releases them: see
-    /// [`release_consumed`](Self::release_consumed).
+    /// Places of items that were taken remain occupied until the receiver releases them, so a send may be refused as
+    /// `Full` after a receive: see [`release_consumed`](Self::release_consumed).
     ///
     /// # Errors
     ///
@@ -105,7 +105,10 @@ impl Channel {
         }
     }
 
-    /// Drop a sender. Its items stay; its lane retires when a receive finds it empty.
+    /// Drop a sender. Items already sent can still be received; the lane counts as registered until a receive finds it
+    /// empty, and it retires.
+    ///
+    /// If the receiver sleeps, wake it, as fanring does: the sender may have been the last.
     ///
     /// # Errors
     ///

@@ -1,0 +1,173 @@
+//! What the documentation of the calls and include/fanring.h say of credit, waking, Disconnected and lanes, by running.
+
+use proved_fanring::{
+    channel, Channel, LaneControlError, LaneKey, TryRecvError, TryRegisterBoundedError, TrySendError,
+};
+
+fn with_senders(capacity: usize, slots: usize, senders: usize) -> (Channel, Vec<LaneKey>) {
+    let mut channel = channel(capacity, slots);
+    let keys = (0..senders).map(|_| channel.register_sender(slots).unwrap()).collect();
+    (channel, keys)
+}
+
+/// Fills a ring of 4 and takes two items; the places are not free yet.
+fn two_taken() -> (Channel, LaneKey) {
+    let (mut channel, keys) = with_senders(4, 2, 2);
+    for item in 0..4 {
+        channel.try_send(keys[0], item).unwrap();
+    }
+    for item in 0..2 {
+        assert_eq!(channel.try_recv(), Ok((channel.lane(keys[0]), item)));
+        assert_eq!(channel.try_send(keys[0], 9), Err(TrySendError::Full(9)));
+    }
+    (channel, keys[0])
+}
+
+/// How many sends are taken before the ring is full.
+fn free_places(channel: &mut Channel, key: LaneKey) -> usize {
+    (0..).take_while(|_| channel.try_send(key, 9).is_ok()).count()
+}
+
+#[test]
+fn places_come_back_in_batches() {
+    let (mut channel, key) = two_taken();
+    channel.release_consumed().unwrap();
+    assert_eq!(free_places(&mut channel, key), 2);
+
+    let (mut channel, key) = two_taken();
+    channel.pause(&channel.lane(key)).unwrap();
+    assert_eq!(free_places(&mut channel, key), 2);
+
+    let (mut channel, key) = two_taken();
+    assert_eq!(channel.try_recv_batch_into(&mut Vec::new(), 0), Ok(0));
+    assert_eq!(free_places(&mut channel, key), 2);
+
+    // The release batch, which is 4 here.
+    let (mut channel, key) = two_taken();
+    channel.try_recv().unwrap();
+    assert_eq!(free_places(&mut channel, key), 0);
+    channel.try_recv_from(&channel.lane(key)).unwrap();
+    assert_eq!(free_places(&mut channel, key), 4);
+
+    // A lane found empty, by an untargeted receive or by a targeted one.
+    for targeted in [false, true] {
+        let (mut channel, keys) = with_senders(4, 1, 1);
+        channel.try_send(keys[0], 0).unwrap();
+        channel.try_recv().unwrap();
+        let lane = channel.lane(keys[0]);
+        let nothing = if targeted { channel.try_recv_from(&lane).map(|_| ()) } else { channel.try_recv().map(|_| ()) };
+        assert_eq!(nothing, Err(TryRecvError::Empty));
+        assert_eq!(free_places(&mut channel, keys[0]), 4);
+    }
+}
+
+#[test]
+fn woken_once_until_the_lane_is_found_empty() {
+    let (mut channel, keys) = with_senders(4, 1, 1);
+    assert_eq!(channel.try_send(keys[0], 1), Ok(true));
+    assert_eq!(channel.try_send(keys[0], 2), Ok(false));
+    channel.try_recv().unwrap();
+    channel.try_recv().unwrap();
+    assert_eq!(channel.try_send(keys[0], 3), Ok(false));
+    channel.try_recv().unwrap();
+    assert_eq!(channel.try_recv(), Err(TryRecvError::Empty));
+    assert_eq!(channel.try_send(keys[0], 4), Ok(true));
+}
+
+#[test]
+fn disconnected_is_not_final() {
+    let mut channel = channel(4, 2);
+    for _ in 0..2 {
+        assert_eq!(channel.try_recv(), Err(TryRecvError::Disconnected));
+        assert_eq!(channel.try_recv_fair(), Err(TryRecvError::Disconnected));
+        assert_eq!(channel.try_recv_batch_into(&mut Vec::new(), 1), Err(TryRecvError::Disconnected));
+        let key = channel.register_sender(2).unwrap();
+        assert_eq!(channel.try_recv(), Err(TryRecvError::Empty));
+        channel.drop_sender(key).unwrap();
+    }
+}
+
+#[test]
+fn targeted_disconnected_is_of_its_lane() {
+    let (mut channel, keys) = with_senders(4, 2, 2);
+    channel.drop_sender(keys[0]).unwrap();
+    let lane = channel.lane(keys[0]);
+    assert_eq!(channel.try_recv_from(&lane), Err(TryRecvError::Disconnected));
+    assert_eq!(channel.try_recv_from(&lane), Err(TryRecvError::NoSuchLane));
+    assert_eq!(channel.try_recv(), Err(TryRecvError::Empty));
+    assert_eq!(channel.try_send(keys[1], 5), Ok(true));
+}
+
+#[test]
+fn an_older_sender_with_slots_unused() {
+    let (mut channel, keys) = with_senders(4, 8, 1);
+    channel.close_lane(&channel.lane(keys[0])).unwrap();
+    assert_eq!(channel.register_sender(8), Err(TryRegisterBoundedError::OlderSenderLives));
+    // The closed lane's sender counts as living.
+    assert_eq!(channel.try_recv(), Err(TryRecvError::Empty));
+    channel.drop_sender(keys[0]).unwrap();
+    assert_eq!(channel.try_recv(), Err(TryRecvError::Disconnected));
+    assert_eq!(channel.register_sender(8), Ok(LaneKey { slot: 0, generation: 1 }));
+    assert_eq!(channel.register_sender(8), Ok(LaneKey { slot: 1, generation: 0 }));
+}
+
+#[test]
+fn a_dropped_sender_counts_until_its_lane_is_found_empty() {
+    let (mut channel, keys) = with_senders(4, 2, 1);
+    channel.try_send(keys[0], 5).unwrap();
+    channel.drop_sender(keys[0]).unwrap();
+    assert_eq!(channel.register_sender(1), Err(TryRegisterBoundedError::AtCapacity));
+    assert_eq!(channel.try_recv(), Ok((channel.lane(keys[0]), 5)));
+    assert_eq!(channel.register_sender(1), Err(TryRegisterBoundedError::AtCapacity));
+    assert_eq!(channel.try_recv(), Err(TryRecvError::Disconnected));
+    assert_eq!(channel.register_sender(1), Ok(LaneKey { slot: 0, generation: 1 }));
+}
+
+#[test]
+fn a_targeted_receive_queues_at_the_back() {
+    let (mut channel, keys) = with_senders(4, 2, 2);
+    for item in [1, 2] {
+        channel.try_send_unsignaled(keys[0], item).unwrap();
+    }
+    for item in [3, 4] {
+        channel.try_send(keys[1], item).unwrap();
+    }
+    assert_eq!(channel.try_recv(), Ok((channel.lane(keys[1]), 3)));
+    // Not queued until then: no plain receive would have found it.
+    assert_eq!(channel.try_recv_from(&channel.lane(keys[0])), Ok(1));
+    assert_eq!(channel.try_recv(), Ok((channel.lane(keys[1]), 4)));
+    assert_eq!(channel.try_recv(), Ok((channel.lane(keys[0]), 2)));
+    assert_eq!(channel.try_recv(), Err(TryRecvError::Empty));
+
+    // A paused lane is not queued, and a lane that is queued keeps its place.
+    for (key, item) in [(keys[0], 1), (keys[1], 2), (keys[0], 3), (keys[1], 4)] {
+        channel.try_send(key, item).unwrap();
+    }
+    channel.pause(&channel.lane(keys[1])).unwrap();
+    assert_eq!(channel.try_recv_from(&channel.lane(keys[1])), Ok(2));
+    assert_eq!(channel.try_recv_fair(), Ok((channel.lane(keys[0]), 1)));
+    assert_eq!(channel.try_recv_fair(), Ok((channel.lane(keys[0]), 3)));
+    assert_eq!(channel.try_recv_fair(), Err(TryRecvError::Empty));
+}
+
+#[test]
+fn a_paused_lane_with_items_and_no_sender() {
+    for end in 0..3 {
+        let (mut channel, keys) = with_senders(4, 1, 1);
+        let lane = channel.lane(keys[0]);
+        channel.try_send(keys[0], 5).unwrap();
+        channel.pause(&lane).unwrap();
+        channel.drop_sender(keys[0]).unwrap();
+        assert_eq!(channel.try_recv(), Err(TryRecvError::Empty));
+        match end {
+            0 => {
+                channel.resume(&lane).unwrap();
+                assert_eq!(channel.try_recv(), Ok((lane, 5)));
+            }
+            1 => assert_eq!(channel.try_recv_from(&lane), Ok(5)),
+            _ => channel.close_lane(&lane).unwrap(),
+        }
+        assert_eq!(channel.try_recv(), Err(TryRecvError::Disconnected));
+        assert_eq!(channel.resume(&lane), Err(LaneControlError::NoSuchLane));
+    }
+}
