@@ -40,6 +40,11 @@ pub enum ChannelError {
 
 impl ChannelError {
     /// Document 01's number.
+    ///
+    /// ```
+    /// let error = proved_fanring::try_channel(0, 2).unwrap_err();
+    /// assert_eq!(error.refusal(), 1);
+    /// ```
     #[must_use]
     pub const fn refusal(&self) -> u64 {
         match self {
@@ -51,12 +56,21 @@ impl ChannelError {
     }
 
     /// Return whether capacity was zero.
+    ///
+    /// ```
+    /// assert!(proved_fanring::try_channel(0, 2).unwrap_err().is_zero_capacity());
+    /// assert!(!proved_fanring::try_channel(4, 0).unwrap_err().is_zero_capacity());
+    /// ```
     #[must_use]
     pub const fn is_zero_capacity(&self) -> bool {
         matches!(self, Self::ZeroCapacity)
     }
 
     /// Return whether capacity exceeded the supported maximum.
+    ///
+    /// ```
+    /// assert!(proved_fanring::try_channel(65_537, 2).unwrap_err().is_capacity_too_large());
+    /// ```
     #[must_use]
     pub const fn is_capacity_too_large(&self) -> bool {
         matches!(self, Self::CapacityTooLarge { .. })
@@ -98,6 +112,12 @@ pub enum TryRegisterBoundedError {
 
 impl TryRegisterBoundedError {
     /// Document 01's number.
+    ///
+    /// ```
+    /// let mut channel = proved_fanring::channel(4, 2);
+    /// let error = channel.register_sender(0).unwrap_err();
+    /// assert_eq!(error.refusal(), 7);
+    /// ```
     #[must_use]
     pub const fn refusal(&self) -> u64 {
         match self {
@@ -109,6 +129,13 @@ impl TryRegisterBoundedError {
     }
 
     /// Return whether the receiver is closed.
+    ///
+    /// ```
+    /// let mut channel = proved_fanring::channel(4, 2);
+    /// assert!(!channel.register_sender(0).unwrap_err().is_disconnected());
+    /// channel.close_receiver().unwrap();
+    /// assert!(channel.register_sender(2).unwrap_err().is_disconnected());
+    /// ```
     #[must_use]
     pub const fn is_disconnected(&self) -> bool {
         matches!(self, Self::Disconnected)
@@ -141,6 +168,13 @@ pub enum TrySendError {
 
 impl TrySendError {
     /// Document 01's number.
+    ///
+    /// ```
+    /// let mut channel = proved_fanring::channel(1, 2);
+    /// let key = channel.register_sender(2).unwrap();
+    /// channel.try_send(key, 11).unwrap();
+    /// assert_eq!(channel.try_send(key, 12).unwrap_err().refusal(), 11);
+    /// ```
     #[must_use]
     pub const fn refusal(&self) -> u64 {
         match self {
@@ -151,6 +185,13 @@ impl TrySendError {
     }
 
     /// Return the unsent item.
+    ///
+    /// ```
+    /// let mut channel = proved_fanring::channel(1, 2);
+    /// let key = channel.register_sender(2).unwrap();
+    /// channel.try_send(key, 11).unwrap();
+    /// assert_eq!(channel.try_send(key, 12).unwrap_err().into_inner(), 12);
+    /// ```
     #[must_use]
     pub const fn into_inner(self) -> u64 {
         match self {
@@ -159,12 +200,26 @@ impl TrySendError {
     }
 
     /// Return whether this sender's ring was full.
+    ///
+    /// ```
+    /// let mut channel = proved_fanring::channel(1, 2);
+    /// let key = channel.register_sender(2).unwrap();
+    /// channel.try_send(key, 11).unwrap();
+    /// assert!(channel.try_send(key, 12).unwrap_err().is_full());
+    /// ```
     #[must_use]
     pub const fn is_full(&self) -> bool {
         matches!(self, Self::Full(_))
     }
 
     /// Return whether the lane or the receiver was closed.
+    ///
+    /// ```
+    /// let mut channel = proved_fanring::channel(1, 2);
+    /// let key = channel.register_sender(2).unwrap();
+    /// channel.close_receiver().unwrap();
+    /// assert!(channel.try_send(key, 11).unwrap_err().is_disconnected());
+    /// ```
     #[must_use]
     pub const fn is_disconnected(&self) -> bool {
         matches!(self, Self::Disconnected(_))
@@ -189,6 +244,13 @@ pub struct NoSuchSender;
 
 impl NoSuchSender {
     /// Document 01's number.
+    ///
+    /// ```
+    /// let mut channel = proved_fanring::channel(4, 2);
+    /// let key = channel.register_sender(2).unwrap();
+    /// channel.drop_sender(key).unwrap();
+    /// assert_eq!(channel.drop_sender(key).unwrap_err().refusal(), 10);
+    /// ```
     #[must_use]
     pub const fn refusal(&self) -> u64 {
         10
@@ -226,6 +288,14 @@ pub enum TryRecvError {
 
 impl TryRecvError {
     /// Document 01's number; none for the results `Empty` and `Disconnected`.
+    ///
+    /// ```
+    /// let mut channel = proved_fanring::channel(4, 2);
+    /// let key = channel.register_sender(2).unwrap();
+    /// assert_eq!(channel.try_recv().unwrap_err().refusal(), None);
+    /// channel.close_receiver().unwrap();
+    /// assert_eq!(channel.try_recv().unwrap_err().refusal(), Some(6));
+    /// ```
     #[must_use]
     pub const fn refusal(&self) -> Option<u64> {
         match self {
@@ -237,6 +307,12 @@ impl TryRecvError {
     }
 
     /// Return whether no item was immediately available.
+    ///
+    /// ```
+    /// let mut channel = proved_fanring::channel(4, 2);
+    /// let key = channel.register_sender(2).unwrap();
+    /// assert!(channel.try_recv().unwrap_err().is_empty());
+    /// ```
     #[must_use]
     pub const fn is_empty(&self) -> bool {
         matches!(self, Self::Empty)
@@ -244,6 +320,13 @@ impl TryRecvError {
 
     /// Return whether every sender was dropped and no item was left; of a targeted receive, the lane's own sender and
     /// items.
+    ///
+    /// ```
+    /// let mut channel = proved_fanring::channel(4, 2);
+    /// let key = channel.register_sender(2).unwrap();
+    /// channel.drop_sender(key).unwrap();
+    /// assert!(channel.try_recv().unwrap_err().is_disconnected());
+    /// ```
     #[must_use]
     pub const fn is_disconnected(&self) -> bool {
         matches!(self, Self::Disconnected)
@@ -278,6 +361,14 @@ pub enum LaneControlError {
 
 impl LaneControlError {
     /// Document 01's number.
+    ///
+    /// ```
+    /// let mut channel = proved_fanring::channel(4, 2);
+    /// let key = channel.register_sender(2).unwrap();
+    /// let lane = channel.lane(key);
+    /// channel.close_lane(&lane).unwrap();
+    /// assert_eq!(channel.pause(&lane).unwrap_err().refusal(), 13);
+    /// ```
     #[must_use]
     pub const fn refusal(&self) -> u64 {
         match self {
@@ -304,6 +395,12 @@ pub struct ReceiverClosed;
 
 impl ReceiverClosed {
     /// Document 01's number.
+    ///
+    /// ```
+    /// let mut channel = proved_fanring::channel(4, 2);
+    /// channel.close_receiver().unwrap();
+    /// assert_eq!(channel.release_consumed().unwrap_err().refusal(), 6);
+    /// ```
     #[must_use]
     pub const fn refusal(&self) -> u64 {
         6
