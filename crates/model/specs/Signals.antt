@@ -12,15 +12,9 @@ use Rattle.model.specs.Rules.{outcome}
 use Rattle.model.specs.Order.{InOrder}
 use Rattle.model.specs.Events.{findsEmpty, countEvents, callEvents}
 
-unfoldable pub isReceive : Call → Bool
-isReceive (Receive r) = true
-isReceive (Sender c) = false
-isReceive (Control c) = false
-
 -- Slot x's lane, as it was in state s, was found empty by call c.
 pub record FoundEmptyBy (s : State) (c : Call) (x : ℕ) : Type 0 where
-  pub by-receive : isReceive c ≡ true
-  -- among the events of the call is one that finds this lane empty: taking its last item is none
+  -- among the events of the call, which only receives have, is one that finds this lane empty: taking its last item is none
   pub found : 1 ≤ countEvents (findsEmpty (keyOf s x)) (callEvents s c)
   -- and it is empty when the call ends
   pub no-items : (outcome s c) .1 .1 .slotOf x .ring ≡ []
