@@ -15,6 +15,7 @@ use Rattle.model.specs.Lists.{count}
 use Rattle.model.specs.State.{State}
 use Rattle.model.specs.Ready.{collectReadyGroup, collectReady}
 use Rattle.model.specs.Runs.{after}
+use Rattle.model.specs.Collections.{groupsBefore}
 use Rattle.model.specs.Opening.{opened}
 use Rattle.model.specs.Rules.{theRules}
 use Rattle.model.specs.Examples.{compute}
@@ -137,3 +138,10 @@ all-collected :
     × (map (allCollected []) (0 ∷ 1 ∷ 2 ∷ []) ≡ (0, []) ∷ (1, []) ∷ (2, []) ∷ [])
 unfolding computeCollecting
 all-collected = (refl, refl, refl)
+
+-- the way round: how many groups come before group 0 and before group 1, with the cursor at group 0, at group 1, and past the last
+groups-before-read :
+    map (λ c. map (groupsBefore (twoGroups [] c)) (0 ∷ 1 ∷ [])) (0 ∷ 1 ∷ 2 ∷ [])
+    ≡ (0 ∷ 1 ∷ []) ∷ (1 ∷ 0 ∷ []) ∷ (0 ∷ 1 ∷ []) ∷ []
+unfolding computeCollecting groupsBefore
+groups-before-read = refl
