@@ -72,14 +72,14 @@ signal-of-lane :
 unfolding computeSignals
 signal-of-lane = refl
 
--- "a closed lane's signal is kept while its sender lives": pending over the close, a collection, poll all and a registration, so that the drop marks nothing more
+-- "a closed lane's signal is kept while its sender lives": pending over the close, a collection, a registration (refusal 9) and poll all, so that the drop sets no page bit
 signal-kept-pending :
     map (λ calls. signalAfter (sends ∷ closes ∷ calls)) ([] ∷ (plain ∷ []) ∷ (plain ∷ registers ∷ pollsAll ∷ plain ∷ []) ∷ (plain ∷ drops ∷ []) ∷ [])
     ≡ pendingMarked ∷ pendingTaken ∷ pendingTaken ∷ pendingTaken ∷ []
 unfolding computeSignals
 signal-kept-pending = refl
 
--- idle likewise: "Dropping a sender marks its lane"
+-- idle likewise, so that the drop sets it: "Dropping a sender marks its lane"
 signal-kept-idle :
     map (λ calls. signalAfter (closes ∷ calls)) ([] ∷ (registers ∷ pollsAll ∷ plain ∷ []) ∷ (drops ∷ []) ∷ (drops ∷ plain ∷ []) ∷ [])
     ≡ idle ∷ idle ∷ pendingMarked ∷ pendingTaken ∷ []
