@@ -1,21 +1,23 @@
 -- In every run at most 64 items of untargeted receives go out between two collections, while a page bit is set;
--- then a collection takes page bits, and else it changes nothing.
+-- then a collection takes page bits, from the cursor round, and else it changes nothing.
 -- Assumes nothing.
 use mathlib.Core.Path.{_≡_, refl, ap, _∙_}
 use mathlib.Core.Bool.{Bool, true, false}
 use mathlib.Core.List.{List, [], _∷_}
-use Prim.Native.Nat.{ℕ, _+_, _≤_}
+use Prim.Native.Nat.{ℕ, _+_, _≤_, _<_}
 use native.Mathlib.Omega.{arith}
 use lib.Dec.{eqb}
 use Rattle.model.specs.declared.LaneKey.{LaneKey}
 use Rattle.model.specs.Lists.{if, both, either, nonEmpty, count, keep, from}
 use Rattle.model.specs.State.{State}
-use Rattle.model.specs.Ready.{groupOf, marks, collectMarks, collectGroup, groupsRound, collectFirst, collectEach, collectReadyGroup, collectReady}
+use Rattle.model.specs.Ready.{groupOf, groupsIn, marks, collectGroup, groupsRound, collectFirst, collectEach, collectReadyGroup, collectReady}
 use Rattle.model.specs.Events.{Event, anyMarked, budgetSet, collected, noneMarked, foundEmpty, itemTaken, wentToBack, collects, findsNoneMarked, takesItem, countEvents}
-use Rattle.model.specs.Collections.{AtMost64BetweenCollections, TakesOneGroup, TakesAllGroups, NothingToCollect}
-use Rattle.model.proofs.Counting.{equal, other, same?, same-self, self, no, both-true, both-intro, keep-in}
-use Rattle.model.proofs.WaitInReceive.{group-low}
-use Rattle.model.proofs.Signals.{groups-round-covers, collect-ready-unmarked}
+use Rattle.model.specs.Order.{InOrder}
+use Rattle.model.specs.Collections.{AtMost64BetweenCollections, TakesOneGroup, TakesAllGroups, StandsAfterLast, NothingToCollect}
+use Rattle.model.proofs.Counting.{same-self, self, no, both-true, both-intro, keep-in}
+use Rattle.model.proofs.WaitInReceive.{group-low, collect-group-cursor}
+use Rattle.model.proofs.Round.{collect-group-none, takes-first, leaves-last}
+use Rattle.model.proofs.Signals.{collect-ready-unmarked}
 use Rattle.model.proofs.Events.{Tally, next}
 use Rattle.model.proofs.EventsOfRuns.{zeros, run-pass, part-most}
 
@@ -80,25 +82,26 @@ no-marks s n g = go (nonEmpty (keep (λ y. both (s .slotOf y .marked) (eqb (grou
         absurd (no (one-kept (λ y. s .slotOf y .marked) (r .0) (from 0 (s .issued)) (r .1) (both-true (s .slotOf (r .0) .marked) (eqb (groupOf (r .0)) g) (r .2) .0)) n)
     go false e = refl
 
-first-taken : (gs : List ℕ) (s : State) (g : ℕ) → 1 ≤ count g gs → nonEmpty (marks s g) ≡ true → (f : ℕ) × (nonEmpty (marks s f) ≡ true) × (collectFirst gs s ≡ collectGroup s f)
-unfolding collectFirst count
-first-taken [] s g h m = absurd (omega arith)
-first-taken (f ∷ gs) s g h m = go (nonEmpty (marks s f)) refl (first-taken gs s g)
-  where
-    rest : nonEmpty (marks s f) ≡ false → 1 ≤ count g gs
-    rest e = elim (same? g f) [ equal p b i ↦ absurd (no m (ap (λ (z : ℕ). nonEmpty (marks s z)) p ∙ e)) | other d b i ↦ omega (arith, h, i) ]
-
-    go : (b : Bool) → nonEmpty (marks s f) ≡ b → (1 ≤ count g gs → nonEmpty (marks s g) ≡ true → (z : ℕ) × (nonEmpty (marks s z) ≡ true) × (collectFirst gs s ≡ collectGroup s z))
-        → (z : ℕ) × (nonEmpty (marks s z) ≡ true) × (if b (collectGroup s f) (collectFirst gs s) ≡ collectGroup s z)
-    go true e ih = (f, e, refl)
-    go false e ih = ih (rest e) m
+-- a group with bits, where a page bit is set
+some-group : (s : State) → InOrder s → anyMarked s ≡ true → (g : ℕ) × (g < groupsIn (s .issued)) × (nonEmpty (marks s g) ≡ true)
+unfolding anyMarked
+some-group s i e =
+    let r = kept-one (λ x. s .slotOf x .marked) (from 0 (s .issued)) e in
+    (groupOf (r .0), group-low s (r .0) (i .ordered .each-slot (r .0) .marked-issued (r .2)), marks-of s (r .0) (r .1) (r .2))
 
 pub takes-one-group : TakesOneGroup
-unfolding TakesOneGroup anyMarked collectReadyGroup
+unfolding TakesOneGroup
 takes-one-group s i e =
-    let r = kept-one (λ x. s .slotOf x .marked) (from 0 (s .issued)) e in
-    let low = i .ordered .each-slot (r .0) .marked-issued (r .2) in
-    first-taken (groupsRound s) s (groupOf (r .0)) (groups-round-covers s (groupOf (r .0)) (group-low s (r .0) low)) (marks-of s (r .0) (r .1) (r .2))
+    let g = some-group s i e in
+    let f = takes-first s (i .ordered) (g .0) (g .1) (g .2) in
+    (f .group, f .has-bits, f .is-taken, ap (λ (u : State). u .cursor) (f .is-taken) ∙ collect-group-cursor s (f .group) (f .has-bits), f .none-before)
+
+pub stands-after-last : StandsAfterLast
+unfolding StandsAfterLast
+stands-after-last s i e =
+    let g = some-group s i e in
+    let f = leaves-last s (i .ordered) (g .0) (g .1) (g .2) in
+    (f .group, f .has-bits, f .cursor-after, f .none-behind)
 
 -- where every slot's page bit is clear, none is set
 pub none-marked : (s : State) → ((y : ℕ) → s .slotOf y .marked ≡ false) → anyMarked s ≡ false
@@ -112,14 +115,6 @@ none-marked s h = go (nonEmpty (keep (λ x. s .slotOf x .marked) (from 0 (s .iss
 pub takes-all-groups : TakesAllGroups
 unfolding TakesAllGroups
 takes-all-groups s i = none-marked (collectReady s) (collect-ready-unmarked s (i .ordered))
-
-collect-group-none : (s : State) (g : ℕ) → nonEmpty (marks s g) ≡ false → collectGroup s g ≡ s
-unfolding collectGroup collectMarks
-collect-group-none s g e = go (marks s g) e
-  where
-    go : (m : List ℕ) → nonEmpty m ≡ false → collectMarks m s g ≡ s
-    go [] e = refl
-    go (x ∷ m) e = absurd (no refl e)
 
 pub nothing-to-collect : NothingToCollect
 unfolding NothingToCollect collectReadyGroup collectReady collectFirst collectEach

@@ -22,7 +22,7 @@ use Rattle.model.specs.Receive.{queueLaneIf, releaseAll, receiveOutcome}
 use Rattle.model.specs.Rules.{outcome, theRules}
 use Rattle.model.specs.Order.{Ordered}
 use Rattle.model.specs.Events.{findsEmpty, countEvents, callEvents}
-use Rattle.model.specs.Signals.{isReceive, IdleOnlyWhenEmpty}
+use Rattle.model.specs.Signals.{IdleOnlyWhenEmpty}
 use Rattle.model.proofs.Counting.{equal, other, same?, no}
 use Rattle.model.proofs.OrderKept.{first-own}
 use Rattle.model.proofs.FoundEmpty.{call-found}
@@ -140,11 +140,10 @@ control-pending (shuts-it s) y r p = p
 -- ---- every call
 
 pub idle-only-when-empty : IdleOnlyWhenEmpty
-unfolding IdleOnlyWhenEmpty outcome isReceive
+unfolding IdleOnlyWhenEmpty outcome
 idle-only-when-empty s (Sender c) x i r p z = absurd (no (sender-pending (i .ordered) (sender-move s c) x r p) z)
 idle-only-when-empty s (Control c) x i r p z = absurd (no (control-pending (control-move s c) x r p) z)
 idle-only-when-empty s (Receive c) x i r p z = record {
-  by-receive = refl;
   found = event (call-found (keyOf s x) s c .signal refl p);
   no-items = ring (chain-kept (receive-received s c) (call-chain s (Receive c)) x (inl p));
 }

@@ -30,6 +30,7 @@ pub mod Events
 pub mod EventsOfRuns
 pub mod Budget
 pub mod OneTurn
+pub mod Round
 pub mod Collections
 pub mod Disconnected
 pub mod Signals
@@ -37,3 +38,4 @@ pub mod ShutOut
 pub mod PollLoop
 pub mod FoundEmpty
 pub mod IdleWhenEmpty
+pub mod ClosedSignal

@@ -29,7 +29,7 @@ keep-append p (x ∷ a) b = go (p x) (keep-append p a b)
     go false e = e
 
 -- the same test on a range
-keep-same : (p q : ℕ → Bool) (a n : ℕ) → ((x : ℕ) → a ≤ x → x < a + n → p x ≡ q x) → keep p (from a n) ≡ keep q (from a n)
+pub keep-same : (p q : ℕ → Bool) (a n : ℕ) → ((x : ℕ) → a ≤ x → x < a + n → p x ≡ q x) → keep p (from a n) ≡ keep q (from a n)
 unfolding keep from
 keep-same p q a zero h = refl
 keep-same p q a (suc n) h = rw (h a (omega arith) (omega arith), keep-same p q (suc a) n (λ x l m. h x (omega arith) (omega arith)))

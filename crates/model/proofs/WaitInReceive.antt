@@ -37,7 +37,7 @@ collect-group-budget s f = go (marks s f)
     go [] = refl
     go (x ∷ m) = refl
 
-collect-group-cursor : (s : State) (f : ℕ) → nonEmpty (marks s f) ≡ true → (collectGroup s f) .cursor ≡ suc f
+pub collect-group-cursor : (s : State) (f : ℕ) → nonEmpty (marks s f) ≡ true → (collectGroup s f) .cursor ≡ suc f
 unfolding collectGroup collectMarks
 collect-group-cursor s f e = go (marks s f) e
   where

@@ -15,7 +15,7 @@ use Rattle.model.specs.declared.ControlCall.the-variants.{Pause, Resume}
 use Rattle.model.specs.declared.Call.{Call}
 use Rattle.model.specs.declared.Call.the-variants.{Sender, Receive, Control}
 use Rattle.model.specs.declared.Answer.the-variants.{Done}
-use Rattle.model.specs.Runs.{Lent, sameKey, accepted, Tick, handed, ticks, trace, countTicks}
+use Rattle.model.specs.Runs.{Lent, sameKey, accepted, Tick, gives, handed, ticks, trace, countTicks}
 use Rattle.model.specs.Opening.{openingOutcome}
 use Rattle.model.specs.Rules.{theRules}
 use Rattle.model.specs.Ledger.{Ledger, atOpening, changeLane, addItem, removeOldest, setPaused, setClosed, setDropped, addRegistered, applyCall, note, ledgerAfter, waits, waitsIn, anyOrdinary, isLive, liveLanes}
@@ -97,3 +97,8 @@ computed = record { sees = none-in-vain; bounded = omega (arith, bound-met); fai
     -- 128 plain receives, each with its item and its answer
     plain-only : countTicks notFair stretchThere ≡ 256
     plain-only = refl
+
+-- and with one item more of lane 0 it would be broken: "at most" is 128
+one-more-is-too-many : Promise ledgerThere (gives TryRecv (lane 0) 5 ∷ stretchThere) → ⊥
+unfolding seen
+one-more-is-too-many p = absurd (omega (arith, p .bounded))

@@ -1,4 +1,5 @@
--- The events of three runs, computed, and which events find a lane empty. In the first run both limits of 64 are met: one turn, and one time between two collections, of 64 items.
+-- The events of four runs, computed, and the words of the sentences on 64 on one event of each kind.
+-- In the first run both limits of 64 are met: one turn, and one time between two collections, of 64 items.
 -- Assumes nothing.
 use mathlib.Core.Path.{_≡_, refl}
 use mathlib.Core.Bool.{true, false}
@@ -12,7 +13,8 @@ use Rattle.model.specs.declared.ControlCall.the-variants.{Pause}
 use Rattle.model.specs.declared.Call.{Call}
 use Rattle.model.specs.declared.Call.the-variants.{Sender, Receive, Control}
 use Rattle.model.specs.Runs.{Lent, accepted, after, sameKey}
-use Rattle.model.specs.Events.{budgetSet, collected, noneMarked, foundEmpty, itemTaken, wentToBack, anyMarked, collectEvent, refillEvents, beforeNextTurnEvents, runDownFromEvents, runDownEvents, backEvents, giveOldestEvents, giveFrontEvents, collectIfDueEvents, collectIfNoneQueuedEvents, polledEvents, takeOneEvents, takeFairEvents, andMoreEvents, takeUpToEvents, takeFromEvents, receiveEvents, callEvents, eventsFrom, runEvents, findsEmpty}
+use Rattle.model.specs.Events.{Event, budgetSet, collected, noneMarked, foundEmpty, itemTaken, wentToBack, anyMarked, collectEvent, refillEvents, beforeNextTurnEvents, runDownFromEvents, runDownEvents, backEvents, giveOldestEvents, giveFrontEvents, collectIfDueEvents, collectIfNoneQueuedEvents, polledEvents, takeOneEvents, takeFairEvents, andMoreEvents, takeUpToEvents, takeFromEvents, receiveEvents, callEvents, eventsFrom, runEvents, collects, findsNoneMarked, takesItem, takesItemOf, findsEmpty, countEvents}
+use Rattle.model.specs.OneTurn.{endsTurnOf}
 use Rattle.model.specs.Budget.{itemsCountedFrom, itemsSinceSet}
 use Rattle.model.specs.Examples.{compute}
 
@@ -73,9 +75,50 @@ each-event :
 unfolding computeEvents
 each-event = refl
 
--- one event of each kind, and one of another lane: which finds lane 1 empty
-finds-empty-read :
-    map (findsEmpty (lane 1)) (budgetSet ∷ collected ∷ noneMarked ∷ foundEmpty (lane 0) ∷ foundEmpty (lane 1) ∷ itemTaken (lane 1) ∷ wentToBack (lane 1) ∷ [])
-    ≡ false ∷ false ∷ false ∷ false ∷ true ∷ false ∷ false ∷ []
-unfolding computeEvents findsEmpty sameKey
+-- "one item of the front lane, which goes to the back": two fair receives; "Targeted: counts in neither burst nor budget": then one that takes lane 0's second item
+fair-and-targeted :
+    runEvents twoSlots lent (registers ∷ registers ∷ sends 0 ∷ sends 0 ∷ sends 1 ∷ Receive TryRecvFair ∷ Receive TryRecvFair ∷ Receive (TryRecvFrom record { channel = 7; key = lane 0 }) ∷ [])
+    ≡ budgetSet ∷ collected ∷ budgetSet ∷ itemTaken (lane 0) ∷ wentToBack (lane 0) ∷ noneMarked ∷ budgetSet ∷ itemTaken (lane 1) ∷ wentToBack (lane 1) ∷ []
+unfolding computeEvents
+fair-and-targeted = refl
+
+-- ---- which event is what, on one of each kind, of lane 0 and of lane 1
+
+oneOfEach : List Event
+oneOfEach =
+    budgetSet ∷ collected ∷ noneMarked
+    ∷ foundEmpty (lane 0) ∷ foundEmpty (lane 1)
+    ∷ itemTaken (lane 0) ∷ itemTaken (lane 1)
+    ∷ wentToBack (lane 0) ∷ wentToBack (lane 1)
+    ∷ []
+
+-- the words of the sentences on 64 and of the one on signals, for computing with them
+computeWords : Unit {0}
+unfolding lane oneOfEach sameKey collects findsNoneMarked takesItem takesItemOf findsEmpty endsTurnOf countEvents
+computeWords = tt
+
+-- "between two collections", and "while a page bit is set"
+collects-read :
+    (map collects oneOfEach ≡ false ∷ true ∷ false ∷ false ∷ false ∷ false ∷ false ∷ false ∷ false ∷ [])
+    × (map findsNoneMarked oneOfEach ≡ false ∷ false ∷ true ∷ false ∷ false ∷ false ∷ false ∷ false ∷ false ∷ [])
+unfolding computeWords
+collects-read = (refl, refl)
+
+-- items that "go out", and those that lane 1 "gives"
+takes-read :
+    (map takesItem oneOfEach ≡ false ∷ false ∷ false ∷ false ∷ false ∷ true ∷ true ∷ false ∷ false ∷ [])
+    × (map (takesItemOf (lane 1)) oneOfEach ≡ false ∷ false ∷ false ∷ false ∷ false ∷ false ∷ true ∷ false ∷ false ∷ [])
+    × (countEvents takesItem oneOfEach ≡ 2)
+    × (countEvents (takesItemOf (lane 1)) oneOfEach ≡ 1)
+unfolding computeWords
+takes-read = (refl, refl, refl, refl)
+
+-- "in one turn at the front": what ends lane 1's
+ends-turn-read : map (endsTurnOf (lane 1)) oneOfEach ≡ false ∷ false ∷ false ∷ false ∷ true ∷ false ∷ false ∷ false ∷ true ∷ []
+unfolding computeWords
+ends-turn-read = refl
+
+-- "only when the lane is found empty": which finds lane 1 so
+finds-empty-read : map (findsEmpty (lane 1)) oneOfEach ≡ false ∷ false ∷ false ∷ false ∷ true ∷ false ∷ false ∷ false ∷ false ∷ []
+unfolding computeWords
 finds-empty-read = refl

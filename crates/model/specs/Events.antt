@@ -141,14 +141,6 @@ unfoldable pub runEvents : Opening → Lent → List Call → List Event
 runEvents o lent calls = budgetSet ∷ eventsFrom ((openingOutcome o lent) .1 .1) calls
 
 -- What an event is.
-unfoldable pub setsBudget : Event → Bool
-setsBudget budgetSet = true
-setsBudget collected = false
-setsBudget noneMarked = false
-setsBudget (foundEmpty j) = false
-setsBudget (itemTaken j) = false
-setsBudget (wentToBack j) = false
-
 unfoldable pub collects : Event → Bool
 collects budgetSet = false
 collects collected = true

@@ -4,6 +4,7 @@ pub mod Lists
 pub mod State
 pub mod Changes
 pub mod Ready
+pub mod ReadyExamples
 pub mod Turn
 pub mod Outcome
 pub mod Runs

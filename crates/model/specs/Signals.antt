@@ -1,26 +1,26 @@
--- When a lane's signal goes back to idle.
+-- When a lane's signal goes back to idle, and that a closed lane's is kept.
 -- Said of every state in order, and so of every state in a run from an accepted opening.
 -- Assumes nothing.
 use mathlib.Core.Path.{_≡_}
 use mathlib.Core.Bool.{Bool, true, false}
-use mathlib.Core.List.{[]}
-use Prim.Native.Nat.{ℕ, _≤_}
+use mathlib.Core.List.{List, [], _∷_}
+use Prim.Native.Nat.{ℕ, _≤_, _<_}
+use Rattle.model.specs.declared.LaneKey.{LaneKey}
+use Rattle.model.specs.declared.SenderCall.the-variants.{RegisterSender, TrySend, TrySendUnsignaled, DropSender}
 use Rattle.model.specs.declared.Call.{Call}
 use Rattle.model.specs.declared.Call.the-variants.{Sender, Receive, Control}
-use Rattle.model.specs.State.{State, keyOf}
+use Rattle.model.specs.declared.Refusal.the-variants.{OlderSenderLives}
+use Rattle.model.specs.declared.Answer.the-variants.{Refused}
+use Rattle.model.specs.State.{State, registeredLanes, keyOf}
+use Rattle.model.specs.Outcome.{says}
+use Rattle.model.specs.Runs.{sameKey}
 use Rattle.model.specs.Rules.{outcome}
 use Rattle.model.specs.Order.{InOrder}
 use Rattle.model.specs.Events.{findsEmpty, countEvents, callEvents}
 
-unfoldable pub isReceive : Call → Bool
-isReceive (Receive r) = true
-isReceive (Sender c) = false
-isReceive (Control c) = false
-
 -- Slot x's lane, as it was in state s, was found empty by call c.
 pub record FoundEmptyBy (s : State) (c : Call) (x : ℕ) : Type 0 where
-  pub by-receive : isReceive c ≡ true
-  -- among the events of the call is one that finds this lane empty: taking its last item is none
+  -- among the events of the call, which only receives have, is one that finds this lane empty: taking its last item is none
   pub found : 1 ≤ countEvents (findsEmpty (keyOf s x)) (callEvents s c)
   -- and it is empty when the call ends
   pub no-items : (outcome s c) .1 .1 .slotOf x .ring ≡ []
@@ -30,3 +30,33 @@ unfoldable pub IdleOnlyWhenEmpty : Type 0
 IdleOnlyWhenEmpty =
     (s : State) (c : Call) (x : ℕ) → InOrder s → s .slotOf x .registered ≡ true → s .slotOf x .pending ≡ true
     → (outcome s c) .1 .1 .slotOf x .pending ≡ false → FoundEmptyBy s c x
+
+-- Whether a call is a drop of the sender with key k.
+unfoldable pub dropsSender : LaneKey → Call → Bool
+dropsSender k (Sender (DropSender j)) = sameKey j k
+dropsSender k (Sender (RegisterSender most)) = false
+dropsSender k (Sender (TrySend j v)) = false
+dropsSender k (Sender (TrySendUnsignaled j v)) = false
+dropsSender k (Receive r) = false
+dropsSender k (Control c) = false
+
+-- Slot x, whose lane is closed and whose sender lives, after call c.
+pub record ClosedAfter (s : State) (c : Call) (x : ℕ) : Type 0 where
+  -- "a closed lane's signal is kept while its sender lives"
+  pub signal-kept : dropsSender (keyOf s x) c ≡ false → (outcome s c) .1 .1 .slotOf x .pending ≡ s .slotOf x .pending
+  -- until that sender is dropped: "Dropping a sender marks its lane"
+  pub drop-marks : dropsSender (keyOf s x) c ≡ true → (outcome s c) .1 .1 .slotOf x .pending ≡ true
+  -- Meanwhile no lane is registered in the slot, and its sender lives.
+  pub stays-closed : dropsSender (keyOf s x) c ≡ false → (outcome s c) .1 .1 .slotOf x .registered ≡ false
+  pub still-lives : dropsSender (keyOf s x) c ≡ false → (outcome s c) .1 .1 .slotOf x .living ≡ true
+  pub same-key : keyOf ((outcome s c) .1 .1) x ≡ keyOf s x
+
+-- A lane is closed whose sender lives: none is registered in the slot.
+unfoldable pub ClosedSignalKept : Type 0
+ClosedSignalKept = (s : State) (c : Call) (x : ℕ) → InOrder s → s .slotOf x .registered ≡ false → s .slotOf x .living ≡ true → ClosedAfter s c x
+
+-- "the slot due still has a living older sender": a registration that refusals 6 and 7 let pass is then refused with 9.
+unfoldable pub OlderSenderRefused : Type 0
+OlderSenderRefused =
+    (s : State) (x : ℕ) (f : List ℕ) (most : ℕ) → s .free ≡ x ∷ f → s .slotOf x .living ≡ true → s .isOpen ≡ true → registeredLanes s < most
+    → outcome s (Sender (RegisterSender most)) ≡ says (Refused OlderSenderLives) s

@@ -1,4 +1,4 @@
--- The words of demands 2 and 3 on one of each thing that can happen in a run, computed: where lane 1's stretch may begin, what ends it, what looks in vain, what is counted.
+-- The words of demands 2 and 3 on one of each thing that can happen in a run, computed: where lane 1's stretch may begin, what ends it, what looks in vain, what is counted, and how much is allowed.
 -- Assumes nothing.
 use mathlib.Core.Path.{_≡_, refl}
 use mathlib.Core.Bool.{Bool, true, false}
@@ -17,6 +17,7 @@ use Rattle.model.specs.Runs.{accepted, Tick, gives, ends, sameKey}
 use Rattle.model.specs.Ledger.{Lane, Ledger, atOpening, changeLane, addItem, removeOldest, setPaused, setClosed, setDropped, addRegistered, applyCall, note, ledgerAfter, anyOrdinary, waitsIn, waits, isLive, liveLanes}
 use Rattle.model.specs.Stretch.{endsWait, endsStretch, looks, findsNothing, looksInVain, untargeted, otherReceive, notFair, afterCalls, mostLive, groupsAt}
 use Rattle.model.specs.Demand2.{outOf, into, shuts, HasRoom}
+use Rattle.model.specs.Demand3.{bound}
 
 lane : ℕ → LaneKey
 lane x = record { slot = x; generation = 0 }
@@ -116,9 +117,12 @@ has-room = (refl, (tt, (tt, tt)))
 registered : ℕ → Tick
 registered x = ends (Sender (RegisterSender 9)) (Registered (lane x))
 
--- an item sent ordinarily to lane x, and one sent unsignalled
+-- an item sent ordinarily to lane x, to one that is idle and to one that is pending already, and one sent unsignalled
 sent : ℕ → Tick
 sent x = ends (Sender (TrySend (lane x) 6)) (Taken true)
+
+sentAgain : ℕ → Tick
+sentAgain x = ends (Sender (TrySend (lane x) 8)) (Taken false)
 
 unsignalled : ℕ → Tick
 unsignalled x = ends (Sender (TrySendUnsignaled (lane x) 7)) (Taken false)
@@ -147,7 +151,7 @@ pointAfter : List Tick → Ledger
 pointAfter ts = ledgerAfter atOpening (registered 0 ∷ registered 1 ∷ ts)
 
 computePoints : Unit {0}
-unfolding computeStretch registered sent unsignalled dropped paused resumed closed shut handedOut pointAfter atOpening changeLane addItem removeOldest setPaused setClosed setDropped addRegistered applyCall note ledgerAfter anyOrdinary waitsIn waits isLive liveLanes afterCalls mostLive groupsIn groupsAt
+unfolding computeStretch registered sent sentAgain unsignalled dropped paused resumed closed shut handedOut pointAfter atOpening changeLane addItem removeOldest setPaused setClosed setDropped addRegistered applyCall note ledgerAfter anyOrdinary waitsIn waits isLive liveLanes afterCalls mostLive groupsIn groupsAt
 computePoints = tt
 
 waitsAfter : List Tick → Bool
@@ -162,6 +166,13 @@ waits-by-items :
 unfolding computePoints waitsAfter
 waits-by-items = refl
 
+-- "an ordinarily sent item", whether its send woke the receiver or not
+waits-unwoken :
+    map waitsAfter ((sentAgain 1 ∷ []) ∷ (sent 1 ∷ sentAgain 1 ∷ handedOut 1 ∷ []) ∷ (sent 1 ∷ sentAgain 1 ∷ handedOut 1 ∷ handedOut 1 ∷ []) ∷ (unsignalled 1 ∷ sentAgain 1 ∷ handedOut 1 ∷ []) ∷ [])
+    ≡ true ∷ true ∷ false ∷ true ∷ []
+unfolding computePoints waitsAfter
+waits-unwoken = refl
+
 -- what may follow an item that waits: a pause, a resume, closing the lane or the receiver, dropping the sender; the same refused, or of another lane
 waits-by-calls :
     map (λ ts. waitsAfter (sent 1 ∷ ts))
@@ -171,7 +182,7 @@ waits-by-calls :
 unfolding computePoints waitsAfter
 waits-by-calls = refl
 
--- ---- R and G
+-- ---- R, G and the bound
 
 -- unclosed and then closed: no item and one unsignalled item, each with its sender undropped and dropped
 eightLanes : Bool → List Lane
@@ -201,3 +212,10 @@ groups-read :
     ≡ 1 ∷ 1 ∷ 2 ∷ 2 ∷ 3 ∷ []
 unfolding computePoints
 groups-read = refl
+
+-- "64 × (G + R - 1)": with one group and with two, of 1, 2, 3 and 4 lanes
+bound-read :
+    (map (bound 1) (1 ∷ 2 ∷ 3 ∷ 4 ∷ []) ≡ 64 ∷ 128 ∷ 192 ∷ 256 ∷ [])
+    × (map (bound 2) (1 ∷ 2 ∷ 3 ∷ 4 ∷ []) ≡ 128 ∷ 192 ∷ 256 ∷ 320 ∷ [])
+unfolding bound
+bound-read = (refl, refl)

@@ -13,7 +13,7 @@ use Rattle.wire.specs.declared.record.Parsed.the-variants.{Incomplete, M
 use Rattle.wire.specs.Record.{number, parseAs, parse}
 use Rattle.wire.specs.Stream.{streamIn, stream, ended, malformed}
 use Rattle.wire.specs.Text.{codes, digitsIn, digits, decimal, spaced, answerText}
-use Rattle.wire.specs.Examples.{u64, receive, sevenBytes, sevenRecords, sevenAnswers, texts}
+use Rattle.wire.specs.Examples.{u64, receive, sevenBytes, sevenRecords, sevenAnswers, texts, eachKindBytes, eachKindRecords}
 
 pub receive-is : parse receive ≡ Whole (Call (Receive TryRecv)) 4
 unfolding parse parseAs number
@@ -22,6 +22,10 @@ receive-is = refl
 pub seven-records : stream sevenBytes ≡ record { records = sevenRecords; ending = ended }
 unfolding stream streamIn parse parseAs number
 seven-records = refl
+
+pub each-kind : stream eachKindBytes ≡ record { records = eachKindRecords; ending = ended }
+unfolding stream streamIn parse parseAs number
+each-kind = refl
 
 -- "input ending inside a record"
 pub cut-record : stream (receive ++ (2 ∷ 0 ∷ 5 ∷ [])) ≡ record { records = Call (Receive TryRecv) ∷ []; ending = malformed }

@@ -3,9 +3,12 @@
 use mathlib.Core.Bool.{Bool, true, false}
 use mathlib.Core.List.{List, [], _∷_, _++_}
 use Prim.Native.Nat.{ℕ}
-use Rattle.model.specs.declared.SenderCall.the-variants.{RegisterSender, TrySend, DropSender}
-use Rattle.model.specs.declared.ReceiveCall.the-variants.{TryRecv, TryRecvBatchInto}
-use Rattle.model.specs.declared.Call.the-variants.{Sender, Receive}
+use Rattle.model.specs.declared.LaneKey.{LaneKey}
+use Rattle.model.specs.declared.LaneId.{LaneId}
+use Rattle.model.specs.declared.SenderCall.the-variants.{RegisterSender, TrySend, TrySendUnsignaled, DropSender}
+use Rattle.model.specs.declared.ReceiveCall.the-variants.{TryRecv, TryRecvFair, TryRecvFrom, TryRecvBatchInto}
+use Rattle.model.specs.declared.ControlCall.the-variants.{Pause, Resume, CloseLane, ReleaseConsumed, PollAllLanes, CloseReceiver, CountHeld}
+use Rattle.model.specs.declared.Call.the-variants.{Sender, Receive, Control}
 use Rattle.model.specs.declared.Answer.{Answer}
 use Rattle.model.specs.declared.Answer.the-variants.{Done, Registered, Taken, Item, Items, Empty, Disconnected, Held, Refused}
 use Rattle.model.specs.declared.Refusal.the-variants as Refusal
@@ -61,3 +64,49 @@ sevenAnswers =
 abbrev pub texts : List Answer → List ℕ → List ℕ
 texts [] out = []
 texts (a ∷ l) out = answerText a out ++ texts l out
+
+-- a record of each kind in turn, 0 to 15, each field another number where there are several: "0 open (capacity, S, channel, cursor, generation), 1 register (most), 2 send, 3 unsignalled (slot, generation, item), [..]"
+abbrev pub eachKindBytes : List ℕ
+eachKindBytes =
+    (42 ∷ 0 ∷ 0 ∷ 0 ∷ []) ++ u64 4 ++ u64 2 ++ u64 7 ++ u64 9 ++ u64 3
+    ++ (10 ∷ 0 ∷ 1 ∷ 0 ∷ []) ++ u64 5
+    ++ (26 ∷ 0 ∷ 2 ∷ 0 ∷ []) ++ u64 1 ++ u64 3 ++ u64 11
+    ++ (26 ∷ 0 ∷ 3 ∷ 0 ∷ []) ++ u64 1 ++ u64 3 ++ u64 12
+    ++ (18 ∷ 0 ∷ 4 ∷ 0 ∷ []) ++ u64 1 ++ u64 3
+    ++ (2 ∷ 0 ∷ 5 ∷ 0 ∷ [])
+    ++ (2 ∷ 0 ∷ 6 ∷ 0 ∷ [])
+    ++ (26 ∷ 0 ∷ 7 ∷ 0 ∷ []) ++ u64 7 ++ u64 1 ++ u64 3
+    ++ (10 ∷ 0 ∷ 8 ∷ 0 ∷ []) ++ u64 6
+    ++ (26 ∷ 0 ∷ 9 ∷ 0 ∷ []) ++ u64 7 ++ u64 1 ++ u64 3
+    ++ (26 ∷ 0 ∷ 10 ∷ 0 ∷ []) ++ u64 7 ++ u64 1 ++ u64 3
+    ++ (26 ∷ 0 ∷ 11 ∷ 0 ∷ []) ++ u64 7 ++ u64 1 ++ u64 3
+    ++ (2 ∷ 0 ∷ 12 ∷ 0 ∷ [])
+    ++ (2 ∷ 0 ∷ 13 ∷ 0 ∷ [])
+    ++ (2 ∷ 0 ∷ 14 ∷ 0 ∷ [])
+    ++ (2 ∷ 0 ∷ 15 ∷ 0 ∷ [])
+
+abbrev pub eachKindRecords : List Record
+eachKindRecords =
+    Open (record { capacity = 4; slots = 2; channel = 7; cursor = 9; generation = 3 })
+    ∷ Call (Sender (RegisterSender 5))
+    ∷ Call (Sender (TrySend lane 11))
+    ∷ Call (Sender (TrySendUnsignaled lane 12))
+    ∷ Call (Sender (DropSender lane))
+    ∷ Call (Receive TryRecv)
+    ∷ Call (Receive TryRecvFair)
+    ∷ Call (Receive (TryRecvFrom laneId))
+    ∷ Call (Receive (TryRecvBatchInto 6 64))
+    ∷ Call (Control (Pause laneId))
+    ∷ Call (Control (Resume laneId))
+    ∷ Call (Control (CloseLane laneId))
+    ∷ Call (Control ReleaseConsumed)
+    ∷ Call (Control PollAllLanes)
+    ∷ Call (Control CloseReceiver)
+    ∷ Call (Control CountHeld)
+    ∷ []
+  where
+    lane : LaneKey
+    lane = record { slot = 1; generation = 3 }
+
+    laneId : LaneId
+    laneId = record { channel = 7; key = lane }
