@@ -24,7 +24,7 @@ use Rattle.model.specs.Collections as rules-collections
 use Rattle.model.proofs.Demand2.{opens-as}
 use Rattle.model.proofs.Budget.{budget-counts-items, items-as-handed, as-many-as-handed}
 use Rattle.model.proofs.OneTurn.{at-most-64-in-one-turn}
-use Rattle.model.proofs.Collections.{at-most-64-between-collections, takes-one-group, takes-all-groups, nothing-to-collect}
+use Rattle.model.proofs.Collections.{at-most-64-between-collections, takes-one-group, stands-after-last, takes-all-groups, nothing-to-collect}
 use Rattle.ready.specs.Ready.{collectReady}
 use Rattle.store.specs.View.{view}
 use Rattle.store.specs.Order.{StoreInOrder}
@@ -109,9 +109,15 @@ module _ (M : StoreCalls) (i : AsInner M) where
 -- ---- a collection
 
 pub collecting : Collecting
-unfolding rules-collections.TakesOneGroup rules-collections.TakesAllGroups rules-collections.NothingToCollect
+unfolding rules-collections.TakesOneGroup rules-collections.StandsAfterLast rules-collections.TakesAllGroups rules-collections.NothingToCollect
 collecting = record {
-  takes-one = λ t r o m. let g = takes-one-group (view t r) (shows-in-order t r o) m in (g .0, g .1, view-collect-group t r (o .stores) ∙ g .2);
+  takes-one = λ t r o m.
+      let g = takes-one-group (view t r) (shows-in-order t r o) m in
+      let v = view-collect-group t r (o .stores) in
+      (g .0, g .1, v ∙ g .2, ap (λ (s : State). s .cursor) v ∙ g .3, g .4);
+  stands-after-last = λ t r o m.
+      let g = stands-after-last (view t r) (shows-in-order t r o) m in
+      (g .0, g .1, ap (λ (s : State). s .cursor) (view-collect-all t r (o .stores)) ∙ g .2, g .3);
   takes-all = λ t r o. ap anyMarked (view-collect-all t r (o .stores)) ∙ takes-all-groups (view t r) (shows-in-order t r o);
   takes-none = none;
 }

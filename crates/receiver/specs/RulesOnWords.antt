@@ -4,7 +4,7 @@
 use mathlib.Core.Path.{_≡_}
 use mathlib.Core.Bool.{Bool, true, false}
 use mathlib.Core.List.{List, [], _∷_, _++_, map}
-use Prim.Native.Nat.{ℕ, _-_, _≤_}
+use Prim.Native.Nat.{ℕ, suc, _-_, _≤_, _<_}
 use lib.ListN.{length}
 use Rattle.model.specs.declared.LaneKey.{LaneKey}
 use Rattle.model.specs.declared.SenderCall.the-variants.{RegisterSender}
@@ -13,10 +13,11 @@ use Rattle.model.specs.declared.Call.{Call}
 use Rattle.model.specs.declared.Call.the-variants.{Sender, Receive}
 use Rattle.model.specs.declared.Answer.the-variants.{Registered}
 use Rattle.model.specs.Lists.{if, count, nonEmpty}
-use Rattle.model.specs.Ready.{marks, collectGroup}
+use Rattle.model.specs.Ready.{groupsIn, marks, collectGroup}
 use Rattle.model.specs.Events.{Event, budgetSet, callEvents, anyMarked, collects, findsNoneMarked, takesItem, takesItemOf, countEvents, lanesOfItems}
 use Rattle.model.specs.Budget.{itemsSinceSet, isTargeted}
 use Rattle.model.specs.OneTurn.{endsTurnOf}
+use Rattle.model.specs.Collections.{groupsBefore}
 use Rattle.lane.specs.Table.{laneAt}
 use Rattle.queues.specs.Header.{budget}
 use Rattle.queues.specs.Queue.{queueOf}
@@ -100,10 +101,16 @@ pub record KeepsRules (M : StoreCalls) : Type 0 where
   pub rings-start-at-first-cursor : RingsStartAtFirstCursor M
   pub queued-keys-kept : QueuedKeysKept M
 
--- What a collection does to the words, as far as the rules see them: while a page bit is set, "Collecting one group stops after the first that had any",
--- and collecting all groups leaves no page bit. With no page bit set neither changes anything.
+-- What a collection does to the words, as far as the rules see them, while a page bit is set. "Collecting one group stops after the first that had any": it takes
+-- group g, which has bits, and no group from the cursor round before g has. "The cursor then stands just after the last group that had bits", of all groups too,
+-- and collecting all leaves no page bit. With no page bit set neither changes anything.
 pub record Collecting : Type 0 where
   pub takes-one : (t r : List ℕ) → StoreInOrder t r → anyMarked (view t r) ≡ true
       → (g : ℕ) × (nonEmpty (marks (view t r) g) ≡ true) × (view (collectReady false t) r ≡ collectGroup (view t r) g)
+      × ((view (collectReady false t) r) .cursor ≡ suc g)
+      × ((h : ℕ) → h < groupsIn (view t r .issued) → groupsBefore (view t r) h < groupsBefore (view t r) g → nonEmpty (marks (view t r) h) ≡ false)
+  pub stands-after-last : (t r : List ℕ) → StoreInOrder t r → anyMarked (view t r) ≡ true
+      → (g : ℕ) × (nonEmpty (marks (view t r) g) ≡ true) × ((view (collectReady true t) r) .cursor ≡ suc g)
+      × ((h : ℕ) → h < groupsIn (view t r .issued) → groupsBefore (view t r) g < groupsBefore (view t r) h → nonEmpty (marks (view t r) h) ≡ false)
   pub takes-all : (t r : List ℕ) → StoreInOrder t r → anyMarked (view (collectReady true t) r) ≡ false
   pub takes-none : (t r : List ℕ) → StoreInOrder t r → anyMarked (view t r) ≡ false → (all : Bool) → view (collectReady all t) r ≡ view t r
