@@ -117,21 +117,6 @@ withOpen b s = record {
 abbrev pub put : ℕ → Slot → State → State
 put x l s = withSlots (λ y. if (eqb x y) l (s .slotOf y)) s
 
--- "A newly registered lane, in a freed slot too, is idle, unpaused and unqueued, with burst 0"
--- The page bit is not the lane's, and stays.
-abbrev pub newLane : ℕ → Slot → Slot
-newLane g l = record {
-  registered = true;
-  living = true;
-  paused = false;
-  pending = false;
-  marked = l .marked;
-  generation = g;
-  ring = [];
-  unreleased = 0;
-  burst = 0;
-}
-
 -- What changes of a slot, in three parts: the lane's flags, its signal and page bit, its ring.
 abbrev pub withFlags : Bool → Bool → Bool → Slot → Slot
 withFlags registered living paused l = record {
@@ -206,3 +191,18 @@ senderDropped l = withFlags (l .registered) false (l .paused) l
 -- The lane is gone; its sender may live on, and "a closed lane's signal is kept while its sender lives".
 abbrev pub retired : Slot → Slot
 retired l = withFlags false (l .living) false l
+
+-- "A newly registered lane, in a freed slot too, is idle, unpaused and unqueued, with burst 0"
+-- The page bit is not the lane's, and stays.
+abbrev pub newLane : ℕ → Slot → Slot
+newLane g l = record {
+  registered = true;
+  living = true;
+  paused = false;
+  pending = false;
+  marked = l .marked;
+  generation = g;
+  ring = [];
+  unreleased = 0;
+  burst = 0;
+}

@@ -51,7 +51,7 @@ pub record ClosedAfter (s : State) (c : Call) (x : ℕ) : Type 0 where
   pub still-lives : dropsSender (keyOf s x) c ≡ false → (outcome s c) .1 .1 .slotOf x .living ≡ true
   pub same-key : keyOf ((outcome s c) .1 .1) x ≡ keyOf s x
 
--- A lane is closed whose sender lives: none is registered in the slot.
+-- Of every call. That the lane is closed shows in that none is registered in the slot, though the sender lives.
 unfoldable pub ClosedSignalKept : Type 0
 ClosedSignalKept = (s : State) (c : Call) (x : ℕ) → InOrder s → s .slotOf x .registered ≡ false → s .slotOf x .living ≡ true → ClosedAfter s c x
 
