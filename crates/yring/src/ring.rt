@@ -108,8 +108,8 @@ pub fn put_at(store: &mut [u64], at: usize, item: u64)
     store[at] = item;
 }
 
-// Moves `len` words that stand together. They go through a block of its own, which overlaps neither: the compiler
-// then leaves the block out, and calls the C library to move them.
+// Moves `len` words that stand together. They go through an array of this function, which overlaps
+// neither slice: the compiler then leaves the array out, and has the C library move them.
 fn move_slots(src: &[u64], start: usize, len: usize, out: &mut [u64], at: usize)
     requires { ⌜ (start + len ≤ length (now src)) × (len ≤ 64) × (at + len ≤ length (now out)) ⌝ }
     ensures { λ _. ⌜ now (out .exit) ≡ written (now (out .entry)) at (run (now (src .entry)) start len) ⌝ }
