@@ -119,8 +119,9 @@ uint64_t fanring_try_recv_batch_into(
     uint64_t *table, size_t table_len, const uint64_t *rings, size_t rings_len, uint64_t *out, size_t out_len,
     uint64_t limit, uint64_t words[4]);
 
-/* Takes the lane with this id out of all receives but targeted ones; its credit goes back. While no sender lives and a paused lane has items, receives
-   answer FANRING_EMPTY, until it is resumed, closed or emptied by targeted ones. Answers FANRING_DONE; or refused 5, 6, 13. */
+/* Takes the lane with this id out of all receives but targeted ones; its credit goes back. While no sender lives and a paused lane has items, a receive
+   that finds nothing answers FANRING_EMPTY and not FANRING_DISCONNECTED, until that lane is resumed, closed or emptied by targeted ones. Answers
+   FANRING_DONE; or refused 5, 6, 13. */
 uint64_t fanring_pause(
     uint64_t *table, size_t table_len, const uint64_t *rings, size_t rings_len,
     uint64_t channel, uint64_t slot, uint64_t generation, uint64_t words[4]);

@@ -26,7 +26,7 @@ use crate::{LaneId, LaneKey, Opening, Stores};
 ///   crates/fanring/proofs/Demands.antt).
 /// - Every inner call, refused or not, leaves the words that its definition gives (its contract, in crates/cinner/src),
 ///   and these are in order again (`call-keeps` in crates/receiver/proofs/CallLaws.antt); so they are after every list
-///   of calls from an accepted opening on (`stays-in-order` in crates/receiver/proofs/Demands.antt).
+///   of calls from an accepted opening on (`stays-in-order` in crates/receiver/proofs/AsInner.antt).
 /// - Nothing else writes to the words, and their number stays. The `Channel` owns both stores, the fields are private
 ///   to the one module that calls the library, that module hands out no reference to them, and no function that this
 ///   crate exports is `unsafe`. [`into_stores`](Self::into_stores) gives them back only as the channel ends.

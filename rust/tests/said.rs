@@ -153,11 +153,14 @@ fn a_targeted_receive_queues_at_the_back() {
 #[test]
 fn a_paused_lane_with_items_and_no_sender() {
     for end in 0..3 {
-        let (mut channel, keys) = with_senders(4, 1, 1);
-        let lane = channel.lane(keys[0]);
+        let (mut channel, keys) = with_senders(4, 2, 2);
+        let (lane, other) = (channel.lane(keys[0]), channel.lane(keys[1]));
         channel.try_send(keys[0], 5).unwrap();
+        channel.try_send(keys[1], 6).unwrap();
         channel.pause(&lane).unwrap();
         channel.drop_sender(keys[0]).unwrap();
+        channel.drop_sender(keys[1]).unwrap();
+        assert_eq!(channel.try_recv(), Ok((other, 6)));
         assert_eq!(channel.try_recv(), Err(TryRecvError::Empty));
         match end {
             0 => {

@@ -1,8 +1,6 @@
 // The two ends of a lane's ring: yring/src/consumer.rs, and the producer of src/ring.rs.
 ghost use mathlib.Core.Path.{_≡_};
-ghost use Prim.Native.Nat.{_+_, _≤_, _<_, min};
 ghost use lib.ListN.{length};
-ghost use Rattle.yring.specs.Cursor.{distance};
 ghost use Rattle.yring.specs.Ring.{Within};
 ghost use Rattle.lane.specs.Lane.{flushed, prefetch, reload, released, pop, headOn};
 use crate::lane::Lane;

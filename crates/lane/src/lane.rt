@@ -437,8 +437,8 @@ impl Lane {
 
     // The lane once `take` of its items are moved, of one that `refill` found ready. Every item is
     // admitted, so that as many are moved as were asked for. The caller moves them, by
-    // `Ring::pop_into`, after it has stored the lane: the compiler then sees which of its words did not
-    // change. A burst that is full now is ended by `end_full_burst`.
+    // `Ring::pop_into`; if it stores the lane, then before that, so that the compiler sees which of its
+    // words did not change. A burst that is full now is ended by `end_full_burst`.
     pub fn move_chunk(self, capacity: u64, take: u64) -> Lane
         requires { ⌜ Capacity capacity × Filled capacity self × (take ≤ chunkLimit capacity self) ⌝ }
         ensures { λ r. ⌜ r ≡ moveChunk capacity take self ⌝ }

@@ -4,7 +4,6 @@ pub mod Lists
 pub mod State
 pub mod Changes
 pub mod Ready
-pub mod ReadyExamples
 pub mod Turn
 pub mod Outcome
 pub mod Runs
@@ -28,6 +27,7 @@ pub mod OneTurn
 pub mod Collections
 pub mod Disconnected
 pub mod Examples
+pub mod ReadyExamples
 pub mod EventExamples
 pub mod BoundMet
 pub mod StretchExamples

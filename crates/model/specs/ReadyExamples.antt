@@ -65,7 +65,7 @@ computeSignals : Unit {0}
 unfolding compute after firstLane registers sends drops closes plain pollsAll signalAfter idle pendingMarked pendingTaken idleMarked
 computeSignals = tt
 
--- "idle to pending sets the page bit"; collecting takes it and leaves the signal, and so does taking the last item; then the lane is found empty
+-- "idle to pending sets the page bit"; collecting takes it and leaves the signal pending, over the last item taken and over a further send, until the lane is found empty
 signal-of-lane :
     map signalAfter ([] ∷ (sends ∷ []) ∷ (sends ∷ plain ∷ []) ∷ (sends ∷ plain ∷ sends ∷ []) ∷ (sends ∷ plain ∷ plain ∷ []) ∷ [])
     ≡ idle ∷ pendingMarked ∷ pendingTaken ∷ pendingTaken ∷ idle ∷ []

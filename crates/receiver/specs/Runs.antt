@@ -50,7 +50,7 @@ callWords t r (Receive c) = receiveWords t r c
 callWords t r (Control c) = controlWords t r c
 
 -- Calls on two stores: what each answers and leaves, what a receive hands out, and the lent output as it leaves it.
--- There are two such lists, the inner calls and, in crate `fanring`, the calls that test their stores first. What is claimed of either is said once, of any.
+-- There are two such: the inner calls and, in crate `fanring`, the calls that test their stores first. What is claimed of either is said once, of any.
 pub record StoreCalls : Type 0 where
   pub words : List ℕ → List ℕ → Call → Words
   pub hands : List ℕ → List ℕ → ReceiveCall → List (LaneKey × ℕ)

@@ -1,8 +1,8 @@
 // A ring of items in a lent store: yring/src/ring.rs, serially, with u64 cursors that wrap.
 ghost use mathlib.Core.Path.{_≡_};
-ghost use Prim.Native.Nat.{_+_, _*_, _^_, _≤_, _<_};
+ghost use Prim.Native.Nat.{_+_, _^_, _≤_, _<_};
 ghost use lib.ListN.{length, set};
-ghost use Rattle.yring.specs.Lists.{tab, written};
+ghost use Rattle.yring.specs.Lists.{written};
 ghost use Rattle.yring.specs.Cursor.{after, distance, Capacity};
 ghost use Rattle.yring.specs.Ring.{Within, ringOf, place, itemAt, run, pushCursor, putItem, popInto};
 

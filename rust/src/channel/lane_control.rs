@@ -10,8 +10,9 @@ impl Channel {
     /// Releases the places of items already taken from the lane, so that its sender can fill the whole ring. Repeated
     /// pauses are harmless.
     ///
-    /// While no sender lives and a paused lane has items, receives answer [`Empty`](crate::TryRecvError::Empty), until
-    /// it is resumed, closed or emptied by targeted ones.
+    /// While no sender lives and a paused lane has items, a receive that finds nothing answers
+    /// [`Empty`](crate::TryRecvError::Empty) and not `Disconnected`, until that lane is resumed, closed or emptied by
+    /// targeted ones.
     ///
     /// # Errors
     ///
@@ -57,7 +58,7 @@ impl Channel {
     /// Disconnect and retire one lane, including a paused lane with items, which are lost.
     ///
     /// Its sender's sends are refused from then on. A sender not dropped yet still counts as living, and must be
-    /// dropped: until then the slot cannot be used again, and receives do not answer
+    /// dropped: until then the slot cannot be used again, and untargeted receives do not answer
     /// [`Disconnected`](crate::TryRecvError::Disconnected).
     ///
     /// # Errors
