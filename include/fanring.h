@@ -22,7 +22,7 @@
    INNER CALLS (fanring_inner_..) make no such test, and have a premise: the stores are in order. They are if fanring_open has opened them and answered FANRING_DONE, with these
    lengths, and since then changed by these calls alone, checked or inner. With the premise broken, nothing is promised: not even that a call stays within the stores.
 
-   The contracts are in crates/cfanring/src and crates/cinner/src, and are proved. For x86-64 Linux. */
+   The contracts are in crates/c_checked/src and crates/c_inner/src, and are proved. For x86-64 Linux. */
 #ifndef FANRING_H
 #define FANRING_H
 

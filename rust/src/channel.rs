@@ -24,9 +24,9 @@ use crate::{LaneId, LaneKey, Opening, Stores};
 /// - A `Channel` comes from an accepted opening and from nowhere else, and an accepted opening leaves stores in order,
 ///   whatever the words held (`open-in-order` in crates/opening/proofs/OpeningLaws.antt; `opens-in-order` in
 ///   crates/fanring/proofs/Demands.antt).
-/// - Every inner call, refused or not, leaves the words that its definition gives (its contract, in crates/cinner/src),
-///   and these are in order again (`call-keeps` in crates/receiver/proofs/CallLaws.antt); so they are after every list
-///   of calls from an accepted opening on (`stays-in-order` in crates/receiver/proofs/AsInner.antt).
+/// - Every inner call, refused or not, leaves the words that its definition gives (its contract, in crates/c_inner/src),
+///   and these are in order again (`call-keeps` in crates/refinement/proofs/CallLaws.antt); so they are after every list
+///   of calls from an accepted opening on (`stays-in-order` in crates/refinement/proofs/AsInner.antt).
 /// - Nothing else writes to the words, and their number stays. The `Channel` owns both stores, the fields are private
 ///   to the one module that calls the library, that module hands out no reference to them, and no function that this
 ///   crate exports is `unsafe`. [`into_stores`](Self::into_stores) gives them back only as the channel ends.

@@ -16,10 +16,10 @@ use Rattle.store.proofs.StoreLaws.{store-in-order-after}
 use Rattle.control.proofs.PauseLaws.{pause-alike, pause-keeps}
 use Rattle.control.proofs.ResumeLaws.{resume-alike, resume-keeps}
 use Rattle.control.proofs.CloseLaneLaws.{close-lane-alike, close-lane-keeps}
-use Rattle.walk.proofs.ReleaseConsumedLaws.{release-consumed-alike, release-consumed-keeps}
-use Rattle.walk.proofs.PollAllLaws.{poll-all-lanes-alike, poll-all-lanes-keeps}
+use Rattle.all_lanes.proofs.ReleaseConsumedLaws.{release-consumed-alike, release-consumed-keeps}
+use Rattle.all_lanes.proofs.PollAllLaws.{poll-all-lanes-alike, poll-all-lanes-keeps}
 use Rattle.control.proofs.CloseReceiverLaws.{close-receiver-alike, close-receiver-keeps}
-use Rattle.walk.proofs.CountHeldLaws.{count-held-alike, count-held-keeps}
+use Rattle.all_lanes.proofs.CountHeldLaws.{count-held-alike, count-held-keeps}
 
 pub control-alike : (t r : List ℕ) (c : ControlCall) → StoreInOrder t r → seen (controlWords t r c) ≡ (outcome (view t r) (Control c)) .1
 unfolding controlWords outcome controlOutcome

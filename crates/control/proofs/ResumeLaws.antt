@@ -30,7 +30,7 @@ use Rattle.store.proofs.StoreLaws.{Owes, stores-after, windows-pushed-back}
 use Rattle.store.proofs.SignalLaws.{idle-flag, markedIf, view-put-marked-if-idle, step-marked-if-idle}
 use Rattle.store.proofs.SignalFrames.{shaped-marked-if-idle, head-marked-if-idle}
 use Rattle.store.proofs.BackLaws.{back-own, back-other}
-use Rattle.walk.proofs.ControlBounds.{paused-unqueued, paused-room}
+use Rattle.all_lanes.proofs.ControlBounds.{paused-unqueued, paused-room}
 use Rattle.control.proofs.ResumeCases.{resumed-paused, resumed-unpaused}
 
 -- a slot that is marked again, its flags as the lane's words have them

@@ -7,8 +7,9 @@ use lib.Dec.{eqb}
 use Rattle.model.specs.declared.LaneId.{LaneId}
 use Rattle.model.specs.declared.Answer.the-variants.{Done}
 use Rattle.lane.specs.declared.lane.Lane.{Lane}
-use Rattle.lane.specs.Lane.{releasePending}
-use Rattle.lane.specs.Table.{laneAt, putLane, setHead}
+use Rattle.lane.specs.Lane.{withFlags, releasePending}
+use Rattle.lane.specs.Table.{laneAt, putLane}
+use Rattle.queues.specs.Header.{setAlive}
 use Rattle.queues.specs.Queue.{pushedBack, removed}
 use Rattle.store.specs.Refusal.{receiverVerdict, idVerdict}
 use Rattle.store.specs.Words.{Words, unlessRefused}
@@ -17,23 +18,7 @@ use Rattle.store.specs.Registry.{retireLane}
 
 -- a lane with another signal, in or out of the queue, paused or not
 abbrev pub withTurn : ℕ → ℕ → ℕ → Lane → Lane
-withTurn pending queued paused l =
-    record {
-      key = l .key;
-      tail = l .tail;
-      released = l .released;
-      head = l .head;
-      known = l .known;
-      cached = l .cached;
-      unreleased = l .unreleased;
-      burst = l .burst;
-      window = l .window;
-      pending = pending;
-      queued = queued;
-      paused = paused;
-      registered = l .registered;
-      living = l .living;
-    }
+withTurn pending queued paused l = withFlags pending queued paused (l .registered) (l .living) l
 
 -- credit goes back "on `pause`"; a paused lane is in no queue
 unfoldable pub pausedLane : Lane → Lane
@@ -60,4 +45,4 @@ closeLane t r i = unlessRefused (idVerdict t i) t r (Done, closed t (laneAt t (i
 
 -- "Closing the receiver retires no lane"
 unfoldable pub closeReceiver : List ℕ → List ℕ → Words
-closeReceiver t r = unlessRefused (receiverVerdict t) t r (Done, setHead t 7 0, r)
+closeReceiver t r = unlessRefused (receiverVerdict t) t r (Done, setAlive t 0, r)

@@ -15,11 +15,11 @@ use Rattle.model.specs.declared.Answer.{Answer}
 use Rattle.model.specs.declared.Answer.the-variants.{Refused}
 use Rattle.model.specs.Demand2.{HasRoom}
 use Rattle.store.specs.Words.{Words}
-use Rattle.bulk.specs.Drain.{batchInto}
-use Rattle.receiver.specs.Runs.{receiveWords, callWords, handsWords, outputWords}
-use Rattle.receiver.proofs.RefusedUnmoved.{Unmoved}
-use Rattle.receiver.proofs.CallLaws.{call-unmoved, output-unmoved}
-use Rattle.receiver.proofs.AsInner.{AsInner}
+use Rattle.receive_batch.specs.Drain.{batchInto}
+use Rattle.refinement.specs.Runs.{receiveWords, callWords, handsWords, outputWords}
+use Rattle.refinement.proofs.RefusedUnmoved.{Unmoved}
+use Rattle.refinement.proofs.CallLaws.{call-unmoved, output-unmoved}
+use Rattle.refinement.proofs.AsInner.{AsInner}
 use Rattle.order.specs.InOrder.{inOrder}
 use Rattle.fanring.specs.Checked.{checked, checkedInto}
 use Rattle.fanring.specs.Runs.{checkedWords, checkedHands, checkedOutput, checkedCalls}

@@ -15,12 +15,12 @@ use Rattle.store.specs.Order.{StoreInOrder}
 use Rattle.store.specs.Words.{Words}
 use Rattle.opening.specs.Opening.{openStore}
 use Rattle.opening.proofs.OpeningLaws.{open-in-order}
-use Rattle.receiver.proofs.RefusedUnmoved.{Unmoved, open-unmoved}
-use Rattle.receiver.specs.RulesOnWords.{StaysInOrder}
-use Rattle.receiver.proofs.AsInner.{words-alike, words-keep}
-use Rattle.receiver.proofs.Demands.{ring-seen}
-use Rattle.receiver.proofs.RulesKept.{keeps-rules}
-use Rattle.receiver.proofs.Simulation.{simulates}
+use Rattle.refinement.proofs.RefusedUnmoved.{Unmoved, open-unmoved}
+use Rattle.refinement.specs.RulesOnWords.{StaysInOrder}
+use Rattle.refinement.proofs.AsInner.{words-alike, words-keep}
+use Rattle.refinement.proofs.Demands.{ring-seen}
+use Rattle.refinement.proofs.RulesKept.{keeps-rules}
+use Rattle.refinement.proofs.Simulation.{simulates}
 use Rattle.fanring.specs.Runs.{checkedWords, checkedCalls, theCalls}
 use Rattle.fanring.specs.Demands.{RefusalsChangeNothing, FiveExactly, CallsAsRules, CallsKeepOrder, OpensInOrder, runs, NeverFive, ItemsInOrder, AnswersTell, LanesWaitBounded, NoneAfterClose, HeldIsCounted, RulesKept}
 use Rattle.fanring.proofs.CheckedLaws.{checked-five}

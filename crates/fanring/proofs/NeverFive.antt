@@ -36,13 +36,13 @@ use Rattle.store.specs.Refusal.{senderVerdict, closedVerdict, receiverVerdict, 
 use Rattle.store.specs.Words.{Words, unlessRefused}
 use Rattle.sender.specs.Sender.{sendSignaled, takenSignaled, sendUnsignaled, trySend, trySendUnsignaled, dropSender, unusedVerdict, olderVerdict, slotVerdict, registerVerdict, registerSender, senderWords}
 use Rattle.control.specs.Control.{pause, resume, closeLane, closeReceiver}
-use Rattle.walk.specs.Batch.{releaseConsumed, pollAllLanes, countHeld}
+use Rattle.all_lanes.specs.Batch.{releaseConsumed, pollAllLanes, countHeld}
 use Rattle.control.specs.Calls.{controlWords}
-use Rattle.receives.specs.Receive.{tryRecv, tryRecvFair}
-use Rattle.bulk.specs.Drain.{roomVerdict, batchVerdict, tryRecvBatchInto}
-use Rattle.targeted.specs.Target.{tryRecvFrom}
-use Rattle.receiver.specs.Runs.{receiveWords, callWords}
-use Rattle.receiver.proofs.RefusedUnmoved.{answer-one-accepted, take-from-accepted, batch-accepted}
+use Rattle.receive.specs.Receive.{tryRecv, tryRecvFair}
+use Rattle.receive_batch.specs.Drain.{roomVerdict, batchVerdict, tryRecvBatchInto}
+use Rattle.receive_from.specs.Target.{tryRecvFrom}
+use Rattle.refinement.specs.Runs.{receiveWords, callWords}
+use Rattle.refinement.proofs.RefusedUnmoved.{answer-one-accepted, take-from-accepted, batch-accepted}
 
 -- ---- verdicts
 

@@ -23,9 +23,9 @@ use Rattle.model.specs.Held.{HeldAsCountedIn}
 use Rattle.store.specs.View.{view}
 use Rattle.store.specs.Order.{StoreInOrder}
 use Rattle.opening.specs.Opening.{openStore}
-use Rattle.receiver.specs.Runs.{Run, storesAfter}
-use Rattle.receiver.specs.Demands.{itemsIn}
-use Rattle.receiver.specs.RulesOnWords.{KeepsRules}
+use Rattle.refinement.specs.Runs.{Run, storesAfter}
+use Rattle.refinement.specs.Demands.{itemsIn}
+use Rattle.refinement.specs.RulesOnWords.{KeepsRules}
 use Rattle.fanring.specs.Runs.{checkedWords, checkedOutput, checkedCalls, theCalls}
 
 -- ---- one call, on any two stores

@@ -8,7 +8,7 @@ use Rattle.model.specs.declared.ReceiveCall.{ReceiveCall}
 use Rattle.model.specs.declared.Call.{Call}
 use Rattle.model.specs.Runs.{Rules}
 use Rattle.store.specs.Words.{Words}
-use Rattle.receiver.specs.Runs.{callWords, handsWords, outputWords, StoreCalls, listsOf}
+use Rattle.refinement.specs.Runs.{callWords, handsWords, outputWords, StoreCalls, listsOf}
 use Rattle.order.specs.InOrder.{inOrder}
 use Rattle.fanring.specs.Checked.{checked}
 

@@ -1,8 +1,9 @@
 // Opening and registering: src/mpsc.rs.
 ghost use mathlib.Core.Path.{_≡_};
+ghost use Rattle.fanring.specs.Runs.{checkedWords};
+ghost use Rattle.model.specs.declared.SenderCall.the-variants.{RegisterSender};
+ghost use Rattle.model.specs.declared.Call.the-variants.{Sender};
 ghost use Rattle.opening.specs.Opening.{openStore};
-ghost use Rattle.sender.specs.Sender.{registerSender};
-ghost use Rattle.fanring.specs.Checked.{checked};
 use model::Answer;
 use model::Opening;
 use model::Refusal;
@@ -16,7 +17,7 @@ pub fn open(opening: Opening, t: &mut [u64], r: &[u64]) -> Answer
 
 // Registers a sender: the slot freed last, or else the next unused one, gets a new lane.
 pub fn register_sender(t: &mut [u64], r: &[u64], most: u64) -> Answer
-    ensures { λ a. ⌜ (a, now (t .exit), now (r .entry)) ≡ checked (now (t .entry)) (now (r .entry)) (registerSender (now (t .entry)) (now (r .entry)) most) ⌝ }
+    ensures { λ a. ⌜ (a, now (t .exit), now (r .entry)) ≡ checkedWords (now (t .entry)) (now (r .entry)) (Sender (RegisterSender most)) ⌝ }
 {
     if !order::in_order(t, r) {
         return Answer::Refused {

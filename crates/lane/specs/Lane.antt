@@ -67,6 +67,26 @@ withCounts cached unreleased burst window l =
       living = l .living;
     }
 
+-- a lane with other flags
+abbrev pub withFlags : ℕ → ℕ → ℕ → ℕ → ℕ → Lane → Lane
+withFlags pending queued paused registered living l =
+    record {
+      key = l .key;
+      tail = l .tail;
+      released = l .released;
+      head = l .head;
+      known = l .known;
+      cached = l .cached;
+      unreleased = l .unreleased;
+      burst = l .burst;
+      window = l .window;
+      pending = pending;
+      queued = queued;
+      paused = paused;
+      registered = registered;
+      living = living;
+    }
+
 -- "Every ring registered, in a freed slot too, starts with its cursors at the first cursor";
 -- "A newly registered lane, in a freed slot too, is idle, unpaused and unqueued, with burst 0"
 abbrev pub newLane : LaneKey → ℕ → Lane
@@ -182,23 +202,7 @@ releasePending l = releaseAny (closeFast l)
 
 -- "its signal goes back to idle only when the lane is found empty"; burst 0, out of the queue
 abbrev pub settled : Lane → Lane
-settled l =
-    record {
-      key = l .key;
-      tail = l .tail;
-      released = l .released;
-      head = l .head;
-      known = l .known;
-      cached = l .cached;
-      unreleased = l .unreleased;
-      burst = 0;
-      window = l .window;
-      pending = 0;
-      queued = 0;
-      paused = l .paused;
-      registered = l .registered;
-      living = l .living;
-    }
+settled l = withCounts (l .cached) (l .unreleased) 0 (l .window) (withFlags 0 0 (l .paused) (l .registered) (l .living) l)
 
 unfoldable pub emptied : Released → EmptyLane
 emptied r = record { lane = settled (r .lane); disconnected = eqb (r .lane .living) 0; released = r .released }

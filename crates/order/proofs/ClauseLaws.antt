@@ -23,7 +23,7 @@ use Rattle.store.specs.View.{flag, slotOf, slotAt, view}
 use Rattle.store.specs.Order.{Flag, Flags, Fast, MarkWords, Stores, StoreInOrder}
 use Rattle.store.proofs.ViewLaws.{slot-in, slot-out}
 use Rattle.store.proofs.CountLaws.{passing-same}
-use Rattle.clauses.specs.Clauses.{HeaderHolds, SlotHolds, registeredBelow, livingBelow, PagesHold, GroupsHold, Clauses}
+use Rattle.order_slot.specs.Clauses.{HeaderHolds, SlotHolds, registeredBelow, livingBelow, PagesHold, GroupsHold, Clauses}
 
 -- ---- the header
 

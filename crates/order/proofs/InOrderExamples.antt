@@ -10,7 +10,7 @@ use Rattle.model.specs.State.{releaseBatch}
 use Rattle.lane.specs.Table.{cellAt, laneAt}
 use Rattle.queues.specs.Queue.{queueOf}
 use Rattle.queues.specs.Registry.{freeOf}
-use Rattle.clauses.specs.Clauses.{registeredBelow, livingBelow}
+use Rattle.order_slot.specs.Clauses.{registeredBelow, livingBelow}
 use Rattle.order.specs.InOrder.{allBelow, someBelow, capacityTest, lengthsTest, placesTest, limitsTest, headerTest, namesTest, cursorsTest, amountsTest, laneTest, fastTest, flagsTest, registeredTest, unregisteredTest, slotTest, slotsTest, countsTest, pageTest, groupTest, pagesTest, groupsTest, inOrder}
 
 -- slots 0 to 2 of 3 are issued, C is 2; the queue has slot 0, the free list slot 2; two lanes, one living sender

@@ -19,9 +19,9 @@ use Rattle.queues.specs.Queue.{queueOf}
 use Rattle.queues.specs.Registry.{freeOf}
 use Rattle.ready.specs.Ready.{groupsOf}
 use Rattle.store.specs.Order.{Flags, Fast, StoreInOrder}
-use Rattle.clauses.specs.Tells.{Tells, yes, no}
-use Rattle.clauses.specs.Clauses.{LengthsHold, PlacesHold, LimitsHold, HeaderHolds, Names, RegisteredHolds, UnregisteredHolds, SlotHolds, SlotsHold, CountsHold, PageHolds, GroupHolds, PagesHold, GroupsHold, Clauses}
-use Rattle.clauses.proofs.TellsLaws.{told, untold, tells-true, tells-of}
+use Rattle.order_slot.specs.Tells.{Tells, yes, no}
+use Rattle.order_slot.specs.Clauses.{LengthsHold, PlacesHold, LimitsHold, HeaderHolds, Names, RegisteredHolds, UnregisteredHolds, SlotHolds, SlotsHold, CountsHold, PageHolds, GroupHolds, PagesHold, GroupsHold, Clauses}
+use Rattle.order_slot.proofs.TellsLaws.{told, untold, tells-true, tells-of}
 use Rattle.order.specs.InOrder.{capacityTest, lengthsTest, placesTest, limitsTest, headerTest, namesTest, cursorsTest, amountsTest, laneTest, isFirst, fastTest, flagsTest, registeredTest, unregisteredTest, slotTest, slotsTest, countsTest, pagesOf, pageTest, groupTest, pagesTest, groupsTest, inOrder}
 use Rattle.order.proofs.ClauseLaws as clauses
 use Rattle.order.proofs.TestLaws.{tells-same, tells-less, tells-most, tells-equal, tells-not, tells-both, tells-field, tells-implies, tells-all-below, tells-all-where, tells-some-below}

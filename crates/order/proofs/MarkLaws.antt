@@ -14,9 +14,9 @@ use Rattle.ready.specs.Bits.{bit}
 use Rattle.queues.specs.Header.{issued}
 use Rattle.ready.specs.Ready.{pageWord, groupWord, nonZero}
 use Rattle.ready.proofs.BitLaws.{tz-lt, tz-set, bit-zero}
-use Rattle.clauses.specs.Tells.{Tells}
-use Rattle.clauses.specs.Clauses.{PageHolds, GroupHolds}
-use Rattle.clauses.proofs.TellsLaws.{tells-of, tells-eq}
+use Rattle.order_slot.specs.Tells.{Tells}
+use Rattle.order_slot.specs.Clauses.{PageHolds, GroupHolds}
+use Rattle.order_slot.proofs.TellsLaws.{tells-of, tells-eq}
 
 -- bit k + j of w is bit j of w shifted by k
 bit-past : (w k j : ℕ) → bit w (k + j) ≡ bit (w / 2 ^ k) j

@@ -12,7 +12,7 @@ use Rattle.lane.specs.Table.{cell}
 use Rattle.queues.specs.Header.{Shaped, issued, slots, queueFront, queueCount, freeCount}
 use Rattle.queues.specs.Queue.{queueColumn, queueRow, queueOf}
 use Rattle.queues.specs.Registry.{freeColumn, freeOf}
-use Rattle.clauses.specs.Clauses.{Names}
+use Rattle.order_slot.specs.Clauses.{Names}
 use Rattle.order.specs.Seen.{has, added, Seen}
 use Rattle.order.proofs.SeenLaws.{Noted, noted-none, noted-more, noted-no, noted-all}
 

@@ -14,7 +14,7 @@ use Rattle.model.proofs.Counting.{equal, other, same?, same-self}
 use Rattle.yring.specs.Lists.{tab}
 use Rattle.ready.specs.Bits.{bit}
 use Rattle.ready.proofs.BitLaws.{bit-set-same, bit-set-other, bit-zero, one-shl}
-use Rattle.clauses.specs.Clauses.{Names}
+use Rattle.order_slot.specs.Clauses.{Names}
 use Rattle.order.specs.Seen.{has, added, Seen}
 
 -- ---- the bitmap

@@ -14,8 +14,8 @@ use Rattle.store.specs.View.{flag}
 use Rattle.store.specs.Order.{Flags}
 use Rattle.store.proofs.CountLaws.{passing-none, passing-more}
 use Rattle.store.proofs.StoreLaws.{one-flag}
-use Rattle.clauses.specs.Tells.{Tells}
-use Rattle.clauses.specs.Clauses.{SlotHolds, SlotsHold, registeredBelow, livingBelow, CountsHold}
+use Rattle.order_slot.specs.Tells.{Tells}
+use Rattle.order_slot.specs.Clauses.{SlotHolds, SlotsHold, registeredBelow, livingBelow, CountsHold}
 use Rattle.order.specs.Seen.{has}
 
 -- ---- the counts

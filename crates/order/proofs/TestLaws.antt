@@ -7,8 +7,8 @@ use native.Mathlib.Omega.{arith}
 use lib.Dec.{ltb, leb, eqb}
 use Rattle.model.specs.Lists.{both, either}
 use Rattle.model.proofs.Counting.{equal, other, same?}
-use Rattle.clauses.specs.Tells.{Tells, yes, no}
-use Rattle.clauses.proofs.TellsLaws.{tells-of, tells-lt, tells-le, tells-eq}
+use Rattle.order_slot.specs.Tells.{Tells, yes, no}
+use Rattle.order_slot.proofs.TellsLaws.{tells-of, tells-lt, tells-le, tells-eq}
 use Rattle.order.specs.InOrder.{implies, allBelow, someBelow}
 
 -- two tests of the same have the same answer

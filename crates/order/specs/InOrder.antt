@@ -1,4 +1,4 @@
--- Whether two stores are in order, as a function that computes: the clauses of crates/clauses/specs/Clauses.antt in their order, each as a test.
+-- Whether two stores are in order, as a function that computes: the clauses of crates/order_slot/specs/Clauses.antt in their order, each as a test.
 -- It is for contracts of calls that test their stores first, and is not how the code tests; it looks each slot up in the queue and the free list.
 -- Assumes nothing.
 use mathlib.Core.Bool.{Bool, true, false, not}
@@ -16,7 +16,7 @@ use Rattle.queues.specs.Queue.{queueOf}
 use Rattle.queues.specs.Registry.{freeOf}
 use Rattle.ready.specs.Bits.{bit}
 use Rattle.ready.specs.Ready.{pageWord, groupWord, pageBit, groupBit, nonZero, groupsOf}
-use Rattle.clauses.specs.Clauses.{registeredBelow, livingBelow}
+use Rattle.order_slot.specs.Clauses.{registeredBelow, livingBelow}
 
 -- ---- tests put together
 

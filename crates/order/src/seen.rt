@@ -2,7 +2,7 @@
 ghost use mathlib.Core.Path.{_≡_};
 ghost use mathlib.Core.Bool.{true};
 ghost use Prim.Native.Nat.{_≤_, _<_};
-ghost use Rattle.clauses.specs.Tells.{Tells};
+ghost use Rattle.order_slot.specs.Tells.{Tells};
 ghost use Rattle.order.specs.Seen.{has, added};
 
 // 1 where the set has the slot, else 0.

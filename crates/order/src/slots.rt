@@ -1,12 +1,12 @@
 // All issued slots, each read once.
 ghost use Rattle.yring.specs.Cursor.{Capacity};
 ghost use Rattle.queues.specs.Header.{Shaped, capacity};
-ghost use Rattle.clauses.specs.Tells.{Tells};
-ghost use Rattle.clauses.specs.Clauses.{SlotsHold, CountsHold};
+ghost use Rattle.order_slot.specs.Tells.{Tells};
+ghost use Rattle.order_slot.specs.Clauses.{SlotsHold, CountsHold};
 ghost use Rattle.order.specs.Seen.{has};
 use crate::seen;
-use clauses::slot as each;
 use lane::lane::Lane;
+use order_slot::slot as each;
 use queues::header::Header;
 use yring::release;
 

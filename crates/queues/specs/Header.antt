@@ -69,6 +69,24 @@ setFreeCount t v = setHead t 3 v
 abbrev pub setGroupCursor : List ℕ → ℕ → List ℕ
 setGroupCursor t v = setHead t 6 v
 
+abbrev pub setIssued : List ℕ → ℕ → List ℕ
+setIssued t v = setHead t 0 v
+
+abbrev pub setBudget : List ℕ → ℕ → List ℕ
+setBudget t v = setHead t 5 v
+
+abbrev pub setAlive : List ℕ → ℕ → List ℕ
+setAlive t v = setHead t 7 v
+
+abbrev pub setFastSlot : List ℕ → ℕ → List ℕ
+setFastSlot t v = setHead t 12 v
+
+abbrev pub setLaneCount : List ℕ → ℕ → List ℕ
+setLaneCount t v = setHead t 13 v
+
+abbrev pub setLivingCount : List ℕ → ℕ → List ℕ
+setLivingCount t v = setHead t 14 v
+
 -- what the queue, the free list and the marks ask of the header; over numbers
 pub record Shape (issued front count free slots cursor long : ℕ) : Type 0 where
   -- "issued slots are at most S"

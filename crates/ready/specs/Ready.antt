@@ -5,6 +5,7 @@ use mathlib.Core.Bool.{Bool, true, false, cond, _&&_}
 use mathlib.Core.List.{List, foldl}
 use Prim.Native.Nat.{ℕ, zero, suc, _+_, _*_, _/_, _%_, _<_}
 use lib.Dec.{eqb, ltb}
+use Rattle.lane.specs.Lane.{withFlags}
 use Rattle.lane.specs.Table.{laneWords, cell, setCell, laneAt, putLane}
 use Rattle.lane.specs.declared.lane.Lane.{Lane}
 use Rattle.queues.specs.Header.{issued, groupCursor, setGroupCursor}
@@ -100,23 +101,7 @@ wanted t slot = ltb slot (issued t) && wantedLane (laneAt t slot)
 
 -- a lane that is in the queue
 abbrev pub queuedLane : Lane → Lane
-queuedLane l =
-    record {
-      key = l .key;
-      tail = l .tail;
-      released = l .released;
-      head = l .head;
-      known = l .known;
-      cached = l .cached;
-      unreleased = l .unreleased;
-      burst = l .burst;
-      window = l .window;
-      pending = l .pending;
-      queued = 1;
-      paused = l .paused;
-      registered = l .registered;
-      living = l .living;
-    }
+queuedLane l = withFlags (l .pending) 1 (l .paused) (l .registered) (l .living) l
 
 -- the lane of a slot goes to the back of the queue
 unfoldable pub enqueued : List ℕ → ℕ → List ℕ

@@ -18,7 +18,7 @@ use Rattle.wire.specs.declared.record.Record.{Record}
 use Rattle.wire.specs.declared.record.Record.the-variants as Record
 use Rattle.wire.specs.Record.{room}
 use Rattle.order.specs.InOrder.{inOrder}
-use Rattle.receiver.specs.Runs.{outputWords}
+use Rattle.refinement.specs.Runs.{outputWords}
 use Rattle.fanring.specs.Runs.{checkedWords, checkedOutput, theCalls}
 use Rattle.replay.specs.Calls.{Stores, answered}
 

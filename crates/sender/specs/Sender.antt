@@ -15,10 +15,10 @@ use Rattle.model.specs.declared.Answer.the-variants.{Done, Registered, Taken, R
 use Rattle.lane.specs.declared.lane.Lane.{Lane}
 use Rattle.lane.specs.declared.consumer.Sent.{Sent}
 use Rattle.lane.specs.declared.consumer.Sent.the-variants as Sent
-use Rattle.lane.specs.Lane.{newLane, pushAndFlush}
+use Rattle.lane.specs.Lane.{withFlags, newLane, pushAndFlush}
 use Rattle.yring.specs.Ring.{Within, ringOf}
-use Rattle.lane.specs.Table.{laneAt, putLane, setHead}
-use Rattle.queues.specs.Header.{Shaped, issued, freeCount, slots, alive, capacity, firstCursor, firstGeneration, laneCount, livingCount}
+use Rattle.lane.specs.Table.{laneAt, putLane}
+use Rattle.queues.specs.Header.{setIssued, setLaneCount, setLivingCount, Shaped, issued, freeCount, slots, alive, capacity, firstCursor, firstGeneration, laneCount, livingCount}
 use Rattle.queues.specs.Registry.{lastFreed, reissued}
 use Rattle.ready.specs.Ready.{openedPage}
 use Rattle.store.specs.declared.refusal.Verdict.{Verdict}
@@ -29,23 +29,7 @@ use Rattle.store.specs.Words.{Words, unlessRefused}
 
 -- a lane with another signal and another sender
 abbrev pub withSender : ℕ → ℕ → Lane → Lane
-withSender pending living l =
-    record {
-      key = l .key;
-      tail = l .tail;
-      released = l .released;
-      head = l .head;
-      known = l .known;
-      cached = l .cached;
-      unreleased = l .unreleased;
-      burst = l .burst;
-      window = l .window;
-      pending = pending;
-      queued = l .queued;
-      paused = l .paused;
-      registered = l .registered;
-      living = living;
-    }
+withSender pending living l = withFlags pending (l .queued) (l .paused) (l .registered) living l
 
 -- "answers whether the signal went from idle to pending"
 unfoldable pub takenSignaled : List ℕ → Lane → Answer × List ℕ
@@ -78,7 +62,7 @@ trySendUnsignaled t r k v = unlessRefused (sendVerdict t k) t r (sendUnsignaled 
 
 -- "Dropping a sender marks its lane [..] and lowers the living count"
 unfoldable pub dropped : List ℕ → Lane → List ℕ
-dropped t l = setHead (markedIfIdle (putLane t (withSender 1 0 l)) l) 14 (livingCount t - 1)
+dropped t l = setLivingCount (markedIfIdle (putLane t (withSender 1 0 l)) l) (livingCount t - 1)
 
 unfoldable pub dropSender : List ℕ → List ℕ → LaneKey → Words
 dropSender t r k = unlessRefused (senderVerdict t k) t r (Done, dropped t (laneAt t (k .slot)), r)
@@ -122,11 +106,11 @@ dueKey t =
 
 -- its slot is taken off the free list, or is one more issued, with a page and group of its own where it is their first
 unfoldable pub slotTaken : List ℕ → List ℕ
-slotTaken t = cond (eqb (freeCount t) 0) (setHead (openedPage t (issued t)) 0 (issued t + 1)) (reissued t)
+slotTaken t = cond (eqb (freeCount t) 0) (setIssued (openedPage t (issued t)) (issued t + 1)) (reissued t)
 
 unfoldable pub registeredWith : List ℕ → LaneKey → List ℕ
 registeredWith t k =
-    setHead (setHead (putLane (slotTaken t) (newLane k (firstCursor t))) 13 (laneCount t + 1)) 14 (livingCount t + 1)
+    setLivingCount (setLaneCount (putLane (slotTaken t) (newLane k (firstCursor t))) (laneCount t + 1)) (livingCount t + 1)
 
 unfoldable pub registerVerdict : List ℕ → ℕ → Verdict
 registerVerdict t most = andThen (receiverVerdict t) (slotVerdict t most)

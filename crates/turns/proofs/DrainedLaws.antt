@@ -21,12 +21,12 @@ use Rattle.queues.specs.Header.{Shaped, issued, slots, freeCount, laneCount, li
 use Rattle.queues.specs.Queue.{queueOf}
 use Rattle.queues.proofs.QueueLaws.{length-queue}
 use Rattle.store.specs.Registry.{retireLane}
-use Rattle.walk.specs.Batch.{forSlots}
+use Rattle.all_lanes.specs.Batch.{forSlots}
 use Rattle.turns.specs.Turn.{retiredIf}
 use Rattle.turns.specs.Drained.{Idle, retireEmptyPaused, retireEmptyPausedLanes, emptyOrDrained, isDrained, nothingTaken}
 use Rattle.store.proofs.StepLaws.{step-from}
 use Rattle.store.proofs.RetireFrames.{length-retire-lane}
-use Rattle.walk.proofs.SlotLoops.{sub-zero, slots-next, slots-end}
+use Rattle.all_lanes.proofs.SlotLoops.{sub-zero, slots-next, slots-end}
 use Rattle.store.proofs.LaneFields.{Flagged, flagged-looked}
 use Rattle.turns.proofs.TurnLaws.{slot-below, some-lane, free-room}
 use Rattle.turns.proofs.FrontLaws.{turning-retire, head-retired}

@@ -12,7 +12,7 @@ use Rattle.lane.specs.Table.{laneAt}
 use Rattle.queues.specs.Header.{issued, queueCount, laneCount, livingCount}
 use Rattle.turns.specs.declared.turn.Took.{Took}
 use Rattle.turns.specs.declared.turn.Took.the-variants as Took
-use Rattle.walk.specs.Batch.{forSlots}
+use Rattle.all_lanes.specs.Batch.{forSlots}
 use Rattle.turns.specs.Turn.{Turning, retiredIf}
 
 -- what is asked of the table where nothing was taken: no lane is queued

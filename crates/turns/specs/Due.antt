@@ -4,10 +4,9 @@ use mathlib.Core.Bool.{true, false, cond}
 use mathlib.Core.List.{List}
 use Prim.Native.Nat.{ℕ}
 use lib.Dec.{eqb}
-use Rattle.lane.specs.Table.{setHead}
-use Rattle.queues.specs.Header.{queueCount, budget}
+use Rattle.queues.specs.Header.{setBudget, queueCount, budget}
 use Rattle.ready.specs.Ready.{collectReady}
 
 -- "else, budget 0 and queue non-empty, collect one group and set the budget to 64"
 unfoldable pub collectedIfDue : List ℕ → List ℕ
-collectedIfDue t = cond (eqb (budget t) 0) (cond (eqb (queueCount t) 0) t (setHead (collectReady false t) 5 64)) t
+collectedIfDue t = cond (eqb (budget t) 0) (cond (eqb (queueCount t) 0) t (setBudget (collectReady false t) 64)) t

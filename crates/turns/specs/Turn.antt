@@ -15,8 +15,8 @@ use Rattle.yring.specs.Cursor.{Capacity}
 use Rattle.lane.specs.Order.{InOrder}
 use Rattle.yring.specs.Ring.{ringOf}
 use Rattle.lane.specs.Lane.{poll}
-use Rattle.lane.specs.Table.{laneAt, putLane, setHead}
-use Rattle.queues.specs.Header.{Shaped, issued, slots, queueCount, budget, capacity, laneCount}
+use Rattle.lane.specs.Table.{laneAt, putLane}
+use Rattle.queues.specs.Header.{setBudget, Shaped, issued, slots, queueCount, budget, capacity, laneCount}
 use Rattle.queues.specs.Queue.{QueueNames, queueOf, frontSlot, poppedFront, rotated}
 use Rattle.queues.specs.Registry.{freeOf}
 use Rattle.ready.specs.Ready.{Linked}
@@ -64,7 +64,7 @@ leftFront t found = retiredIf (found .disconnected) (poppedFront (putLane t (fou
 
 -- "but 64 where a non-empty queue met a budget of 0, before the poll loop or in it"
 unfoldable pub budgetMet : List ℕ → List ℕ
-budgetMet t = cond (eqb (queueCount t) 0) t (cond (eqb (budget t) 0) (setHead t 5 64) t)
+budgetMet t = cond (eqb (queueCount t) 0) t (cond (eqb (budget t) 0) (setBudget t 64) t)
 
 -- "The port sets the budget to 64 just before that subtraction, when an item is in fact taken"
 unfoldable pub lessOne : ℕ → ℕ
@@ -75,7 +75,7 @@ unfoldable pub rotatedIf : Bool → List ℕ → List ℕ
 rotatedIf rotate t = cond rotate (rotated t) t
 
 unfoldable pub gaveFront : List ℕ → Bool → Lane → List ℕ
-gaveFront t rotate l = setHead (rotatedIf rotate (putLane t l)) 5 (lessOne (budget t))
+gaveFront t rotate l = setBudget (rotatedIf rotate (putLane t l)) (lessOne (budget t))
 
 unfoldable pub turnBy : List ℕ → LanePoll → Turn × List ℕ
 turnBy t (LanePoll.Item item rotate released l) = (Turn.Ends (Took.Item item (l .key)), gaveFront t rotate l)

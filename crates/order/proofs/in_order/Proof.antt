@@ -3,7 +3,7 @@
 use mathlib.Core.Path.{refl}
 use borrow.Author.Tests.{not-true, not-false}
 use borrow.Author.Needs.{needs}
-use Rattle.clauses.proofs.TellsLaws.{told, untold, tells-of}
+use Rattle.order_slot.proofs.TellsLaws.{told, untold, tells-of}
 use Rattle.order.proofs.ClauseLaws.{shaped-header}
 use Rattle.order.proofs.AnswerLaws.{slots-by-lists, slots-by-bits, answers, refuses}
 use Rattle.order.proofs.in_order.Statement.{statement}

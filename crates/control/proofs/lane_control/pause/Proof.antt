@@ -1,6 +1,6 @@
 -- `control::lane_control::pause` meets its contract.
 -- Assumes nothing.
-use Rattle.walk.proofs.ControlBounds.{all-refundable}
+use Rattle.all_lanes.proofs.ControlBounds.{all-refundable}
 use Rattle.control.specs.Control.{pause}
 use Rattle.store.proofs.RefusalLaws.{id-passes}
 use Rattle.store.specs.Words.{unlessRefused}

@@ -1,6 +1,6 @@
 -- `control::lane_control::pause_lane` meets its contract.
 -- Assumes nothing.
-use Rattle.walk.proofs.SlotLoops.{key-released}
+use Rattle.all_lanes.proofs.SlotLoops.{key-released}
 use Rattle.control.specs.Control.{paused, pausedLane}
 use Rattle.lane.proofs.TableLaws.{frames}
 use native.Mathlib.Omega.{arith}

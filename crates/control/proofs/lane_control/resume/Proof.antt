@@ -1,7 +1,7 @@
 -- `control::lane_control::resume` meets its contract.
 -- Assumes nothing.
 use Rattle.lane.specs.declared.lane.Lane.{Lane}
-use Rattle.walk.proofs.ControlBounds.{paused-room}
+use Rattle.all_lanes.proofs.ControlBounds.{paused-room}
 use Rattle.control.specs.Control.{resume}
 use Rattle.store.proofs.RefusalLaws.{id-passes}
 use Rattle.store.specs.Words.{unlessRefused}

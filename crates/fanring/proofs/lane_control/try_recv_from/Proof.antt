@@ -2,17 +2,21 @@
 -- Assumes nothing.
 use borrow.Author.Tests.{not-true, not-false}
 use borrow.Author.Needs.{needs}
+use Rattle.refinement.specs.Runs.{callWords, receiveWords}
+use Rattle.fanring.specs.Runs.{checkedWords}
 use Rattle.fanring.proofs.CheckedLaws.{refuses, passes}
 use Rattle.fanring.proofs.lane_control.try_recv_from.Statement.{statement}
 use Rattle.fanring.proofs.lane_control.try_recv_from.Tie as tie
 
 returns : tie.Need-returns
+unfolding checkedWords callWords receiveWords
 returns c = refuses (c .before .in-order .ensures) (not-true _ (c .if1 .taken)) _
 
 try-recv-from-requires : tie.Need-try-recv-from-requires
 try-recv-from-requires c κs = c .before .before .in-order .ensures .0 (not-false _ (c .before .if1 .left))
 
 returns-2 : tie.Need-returns-2
+unfolding checkedWords callWords receiveWords
 returns-2 c = passes (c .before .before .before .before .before .in-order .ensures) (not-false _ (c .before .before .before .before .if1 .left)) (c .before .before .try-recv-from .ensures)
 
 pub try-recv-from-spec : {M : Type 1} → statement M

@@ -3,8 +3,8 @@
 use native.Mathlib.Omega.{arith}
 use borrow.Author.Tests.{not-true, not-false}
 use borrow.Author.Needs.{needs}
-use Rattle.clauses.specs.Tells.{no}
-use Rattle.clauses.proofs.TellsLaws.{told, untold, tells-of}
+use Rattle.order_slot.specs.Tells.{no}
+use Rattle.order_slot.proofs.TellsLaws.{told, untold, tells-of}
 use Rattle.order.proofs.header.header_holds.Statement.{statement}
 use Rattle.order.proofs.header.header_holds.Tie as tie
 

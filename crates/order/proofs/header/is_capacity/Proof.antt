@@ -2,8 +2,8 @@
 -- Assumes nothing.
 use native.Mathlib.Omega.{arith}
 use borrow.Author.Needs.{needs}
-use Rattle.clauses.specs.Tells.{no}
-use Rattle.clauses.proofs.TellsLaws.{tells-eq}
+use Rattle.order_slot.specs.Tells.{no}
+use Rattle.order_slot.proofs.TellsLaws.{tells-eq}
 use Rattle.order.proofs.HeaderLaws.{capacity-small, capacity-is, capacity-of}
 use Rattle.order.proofs.header.is_capacity.Statement.{statement}
 use Rattle.order.proofs.header.is_capacity.Tie as tie

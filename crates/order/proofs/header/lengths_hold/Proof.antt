@@ -3,8 +3,8 @@
 use native.Mathlib.Omega.{arith}
 use borrow.Author.Tests.{not-true, not-false}
 use borrow.Author.Needs.{needs}
-use Rattle.clauses.specs.Tells.{no}
-use Rattle.clauses.proofs.TellsLaws.{told, untold, tells-le}
+use Rattle.order_slot.specs.Tells.{no}
+use Rattle.order_slot.proofs.TellsLaws.{told, untold, tells-le}
 use Rattle.order.proofs.HeaderLaws.{area}
 use Rattle.order.proofs.header.lengths_hold.Statement.{statement}
 use Rattle.order.proofs.header.lengths_hold.Tie as tie

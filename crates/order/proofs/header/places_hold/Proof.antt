@@ -2,8 +2,8 @@
 -- Assumes nothing.
 use native.Mathlib.Omega.{arith}
 use borrow.Author.Needs.{needs}
-use Rattle.clauses.specs.Tells.{no}
-use Rattle.clauses.proofs.TellsLaws.{tells-lt}
+use Rattle.order_slot.specs.Tells.{no}
+use Rattle.order_slot.proofs.TellsLaws.{tells-lt}
 use Rattle.order.proofs.header.places_hold.Statement.{statement}
 use Rattle.order.proofs.header.places_hold.Tie as tie
 

@@ -2,7 +2,7 @@
 -- Assumes nothing.
 use native.Mathlib.Omega.{arith}
 use borrow.Author.Needs.{needs}
-use Rattle.clauses.specs.Tells.{yes}
+use Rattle.order_slot.specs.Tells.{yes}
 use Rattle.order.proofs.MarkLaws.{shifted-tells}
 use Rattle.order.proofs.marks.bits_below.Statement.{statement}
 use Rattle.order.proofs.marks.bits_below.Tie as tie

@@ -5,9 +5,9 @@ use native.Mathlib.Omega.{arith}
 use borrow.Author.Count.{below-none, below-more}
 use borrow.Author.Tests.{not-true, not-false}
 use borrow.Author.Needs.{needs}
-use Rattle.clauses.specs.Tells.{yes, no}
-use Rattle.clauses.specs.Clauses.{GroupHolds}
-use Rattle.clauses.proofs.TellsLaws.{told, untold}
+use Rattle.order_slot.specs.Tells.{yes, no}
+use Rattle.order_slot.specs.Clauses.{GroupHolds}
+use Rattle.order_slot.proofs.TellsLaws.{told, untold}
 use Rattle.order.proofs.marks.groups_hold.Statement.{statement}
 use Rattle.order.proofs.marks.groups_hold.Tie as tie
 

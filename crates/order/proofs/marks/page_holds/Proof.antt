@@ -7,7 +7,7 @@ use Rattle.lane.specs.Table.{cellAt}
 use Rattle.ready.specs.declared.ready.Page.{Page}
 use Rattle.ready.specs.declared.ready.Group.{Group}
 use Rattle.ready.specs.Ready.{pageColumn}
-use Rattle.clauses.specs.Tells.{no}
+use Rattle.order_slot.specs.Tells.{no}
 use Rattle.order.proofs.MarkLaws.{page-no, page-tells}
 use Rattle.order.proofs.marks.page_holds.Statement.{statement}
 use Rattle.order.proofs.marks.page_holds.Tie as tie

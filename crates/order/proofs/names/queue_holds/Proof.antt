@@ -5,8 +5,8 @@ use mathlib.Core.Path.{refl}
 use borrow.Author.Tests.{not-true, not-false}
 use borrow.Author.Needs.{needs}
 use Rattle.model.proofs.Counting as counting
-use Rattle.clauses.specs.Tells.{yes, no}
-use Rattle.clauses.proofs.TellsLaws.{told, untold}
+use Rattle.order_slot.specs.Tells.{yes, no}
+use Rattle.order_slot.proofs.TellsLaws.{told, untold}
 use Rattle.order.proofs.NamesLaws.{QueueScan, queue-start, queue-next, queue-no, queue-all}
 use Rattle.order.proofs.names.queue_holds.Statement.{statement}
 use Rattle.order.proofs.names.queue_holds.Tie as tie

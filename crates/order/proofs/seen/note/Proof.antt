@@ -4,7 +4,7 @@ use mathlib.Core.Path.{refl}
 use native.Mathlib.Omega.{arith}
 use borrow.Author.Needs.{needs}
 use Rattle.model.proofs.Counting as counting
-use Rattle.clauses.specs.Tells.{yes, no}
+use Rattle.order_slot.specs.Tells.{yes, no}
 use Rattle.order.proofs.seen.note.Statement.{statement}
 use Rattle.order.proofs.seen.note.Tie as tie
 

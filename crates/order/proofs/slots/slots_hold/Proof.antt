@@ -4,8 +4,8 @@ use Prim.Native.Nat.{_-_}
 use native.Mathlib.Omega.{arith}
 use borrow.Author.Tests.{not-true, not-false}
 use borrow.Author.Needs.{needs}
-use Rattle.clauses.specs.Tells.{yes, no}
-use Rattle.clauses.proofs.TellsLaws.{told, untold}
+use Rattle.order_slot.specs.Tells.{yes, no}
+use Rattle.order_slot.proofs.TellsLaws.{told, untold}
 use Rattle.order.proofs.SlotsLaws.{SlotScan, scan-start, here, scan-next, lanes-no, living-no, scan-all}
 use Rattle.order.proofs.slots.slots_hold.Statement.{statement}
 use Rattle.order.proofs.slots.slots_hold.Tie as tie

@@ -1,32 +1,30 @@
 -- `replay::calls::control_call` meets its contract.
 -- Assumes nothing.
-use mathlib.Core.Path.{sym, _∙_}
-use Rattle.fanring.proofs.ContractWords.{contract-words}
 use Rattle.replay.proofs.CallLaws.{control-answered}
 use borrow.Author.Needs.{needs}
 use Rattle.replay.proofs.calls.control_call.Statement.{statement}
 use Rattle.replay.proofs.calls.control_call.Tie as tie
 
 returns : tie.Need-returns
-returns c = control-answered _ _ _ (c .before .before .before .before .before .call .given .1) (c .pause .ensures ∙ sym (contract-words _ _ .pauses _))
+returns c = control-answered _ _ _ (c .before .before .before .before .before .call .given .1) (c .pause .ensures)
 
 returns-2 : tie.Need-returns-2
-returns-2 c = control-answered _ _ _ (c .before .before .before .before .before .call2 .given .1) (c .resume .ensures ∙ sym (contract-words _ _ .resumes _))
+returns-2 c = control-answered _ _ _ (c .before .before .before .before .before .call2 .given .1) (c .resume .ensures)
 
 returns-3 : tie.Need-returns-3
-returns-3 c = control-answered _ _ _ (c .before .before .before .before .before .call3 .given .1) (c .close-lane .ensures ∙ sym (contract-words _ _ .close-lane _))
+returns-3 c = control-answered _ _ _ (c .before .before .before .before .before .call3 .given .1) (c .close-lane .ensures)
 
 returns-4 : tie.Need-returns-4
-returns-4 c = control-answered _ _ _ (c .before .before .before .before .enum-told .given .1) (c .release-consumed .ensures ∙ sym (contract-words _ _ .release-consumed))
+returns-4 c = control-answered _ _ _ (c .before .before .before .before .enum-told .given .1) (c .release-consumed .ensures)
 
 returns-5 : tie.Need-returns-5
-returns-5 c = control-answered _ _ _ (c .before .before .before .before .enum-told2 .given .1) (c .poll-all-lanes .ensures ∙ sym (contract-words _ _ .poll-all-lanes))
+returns-5 c = control-answered _ _ _ (c .before .before .before .before .enum-told2 .given .1) (c .poll-all-lanes .ensures)
 
 returns-6 : tie.Need-returns-6
-returns-6 c = control-answered _ _ _ (c .before .before .before .before .enum-told3 .given .1) (c .close-receiver .ensures ∙ sym (contract-words _ _ .close-receiver))
+returns-6 c = control-answered _ _ _ (c .before .before .before .before .enum-told3 .given .1) (c .close-receiver .ensures)
 
 returns-7 : tie.Need-returns-7
-returns-7 c = control-answered _ _ _ (c .before .before .before .before .before .enum-told4 .given .1) (c .held .ensures ∙ sym (contract-words _ _ .held))
+returns-7 c = control-answered _ _ _ (c .before .before .before .before .before .enum-told4 .given .1) (c .held .ensures)
 
 pub control-call-spec : {M : Type 1} → statement M
 control-call-spec =

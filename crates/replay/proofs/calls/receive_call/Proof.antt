@@ -1,7 +1,6 @@
 -- `replay::calls::receive_call` meets its contract.
 -- Assumes nothing.
-use mathlib.Core.Path.{sym, _∙_}
-use Rattle.fanring.proofs.ContractWords.{contract-words}
+use mathlib.Core.Path.{_∙_}
 use Rattle.fanring.proofs.CheckedCalls.{batch-words}
 use Rattle.replay.proofs.CallLaws.{try-recv-answered, try-recv-fair-answered, try-recv-from-answered, batch-answered}
 use borrow.Author.Needs.{needs}
@@ -9,13 +8,13 @@ use Rattle.replay.proofs.calls.receive_call.Statement.{statement}
 use Rattle.replay.proofs.calls.receive_call.Tie as tie
 
 returns : tie.Need-returns
-returns c = try-recv-answered _ _ _ (c .before .before .before .before .enum-told .given .1) (c .try-recv .ensures ∙ sym (contract-words _ _ .try-recv))
+returns c = try-recv-answered _ _ _ (c .before .before .before .before .enum-told .given .1) (c .try-recv .ensures)
 
 returns-2 : tie.Need-returns-2
-returns-2 c = try-recv-fair-answered _ _ _ (c .before .before .before .before .enum-told2 .given .1) (c .try-recv-fair .ensures ∙ sym (contract-words _ _ .try-recv-fair))
+returns-2 c = try-recv-fair-answered _ _ _ (c .before .before .before .before .enum-told2 .given .1) (c .try-recv-fair .ensures)
 
 returns-3 : tie.Need-returns-3
-returns-3 c = try-recv-from-answered _ _ _ (c .before .before .before .before .before .call .given .1) (c .try-recv-from .ensures ∙ sym (contract-words _ _ .try-recv-from _))
+returns-3 c = try-recv-from-answered _ _ _ (c .before .before .before .before .before .call .given .1) (c .try-recv-from .ensures)
 
 returns-4 : tie.Need-returns-4
 returns-4 c = batch-answered _ _ _ (c .before .before .before .before .before .before .call2 .given .1) (c .before .try-recv-batch-into-arg4 .given .0 .1) (c .try-recv-batch-into .ensures ∙ batch-words _ _ _ _)

@@ -1,23 +1,21 @@
 -- `replay::calls::sender_call` meets its contract.
 -- Assumes nothing.
-use mathlib.Core.Path.{sym, _∙_}
-use Rattle.fanring.proofs.ContractWords.{contract-words}
 use Rattle.replay.proofs.CallLaws.{sender-answered}
 use borrow.Author.Needs.{needs}
 use Rattle.replay.proofs.calls.sender_call.Statement.{statement}
 use Rattle.replay.proofs.calls.sender_call.Tie as tie
 
 returns : tie.Need-returns
-returns c = sender-answered _ _ _ (c .before .before .before .before .before .call .given .1) (c .register-sender .ensures ∙ sym (contract-words _ _ .register-sender _))
+returns c = sender-answered _ _ _ (c .before .before .before .before .before .call .given .1) (c .register-sender .ensures)
 
 returns-2 : tie.Need-returns-2
-returns-2 c = sender-answered _ _ _ (c .before .before .before .before .call2 .given .1) (c .try-send .ensures ∙ sym (contract-words _ _ .try-send _ _))
+returns-2 c = sender-answered _ _ _ (c .before .before .before .before .call2 .given .1) (c .try-send .ensures)
 
 returns-3 : tie.Need-returns-3
-returns-3 c = sender-answered _ _ _ (c .before .before .before .before .call3 .given .1) (c .try-send-unsignaled .ensures ∙ sym (contract-words _ _ .try-send-unsignaled _ _))
+returns-3 c = sender-answered _ _ _ (c .before .before .before .before .call3 .given .1) (c .try-send-unsignaled .ensures)
 
 returns-4 : tie.Need-returns-4
-returns-4 c = sender-answered _ _ _ (c .before .before .before .before .before .call4 .given .1) (c .drop-sender .ensures ∙ sym (contract-words _ _ .drop-sender _))
+returns-4 c = sender-answered _ _ _ (c .before .before .before .before .before .call4 .given .1) (c .drop-sender .ensures)
 
 pub sender-call-spec : {M : Type 1} → statement M
 sender-call-spec =

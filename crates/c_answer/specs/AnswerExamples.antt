@@ -1,0 +1,37 @@
+-- Each kind of answer as C gets it, where the four words held 9 before.
+-- Assumes nothing.
+use mathlib.Core.Path.{_≡_, refl}
+use mathlib.Core.Bool.{true}
+use mathlib.Core.List.{List, [], _∷_, map}
+use Prim.Native.Nat.{ℕ}
+use Rattle.model.specs.declared.LaneKey.{LaneKey}
+use Rattle.model.specs.declared.LaneId.{LaneId}
+use Rattle.model.specs.declared.Refusal.the-variants.{Full}
+use Rattle.model.specs.declared.Answer.{Answer}
+use Rattle.model.specs.declared.Answer.the-variants.{Done, Registered, Taken, Item, Items, Empty, Disconnected, Held, Refused}
+use Rattle.model.specs.Answers.{number}
+use Rattle.c_answer.specs.Answer.{tag, put}
+
+key : LaneKey
+key = record { slot = 3; generation = 8 }
+
+id : LaneId
+id = record { channel = 7; key = record { slot = 3; generation = 8 } }
+
+gets : Answer → List ℕ
+gets a = tag a ∷ put a (9 ∷ 9 ∷ 9 ∷ 9 ∷ [])
+
+answers-told :
+    map gets (Done ∷ Registered key ∷ Taken true ∷ Item 11 id ∷ Items 2 ∷ Empty ∷ Disconnected ∷ Held 5 ∷ Refused Full ∷ [])
+    ≡ (0 ∷ 9 ∷ 9 ∷ 9 ∷ 9 ∷ [])
+    ∷ (1 ∷ 3 ∷ 8 ∷ 9 ∷ 9 ∷ [])
+    ∷ (2 ∷ 1 ∷ 9 ∷ 9 ∷ 9 ∷ [])
+    ∷ (3 ∷ 11 ∷ 7 ∷ 3 ∷ 8 ∷ [])
+    ∷ (4 ∷ 2 ∷ 9 ∷ 9 ∷ 9 ∷ [])
+    ∷ (5 ∷ 9 ∷ 9 ∷ 9 ∷ 9 ∷ [])
+    ∷ (6 ∷ 9 ∷ 9 ∷ 9 ∷ 9 ∷ [])
+    ∷ (7 ∷ 5 ∷ 9 ∷ 9 ∷ 9 ∷ [])
+    ∷ (8 ∷ 11 ∷ 9 ∷ 9 ∷ 9 ∷ [])
+    ∷ []
+unfolding gets key id tag put number
+answers-told = refl

@@ -1,0 +1,55 @@
+// An answer as a tag and four words.
+ghost use mathlib.Core.Path.{_≡_};
+ghost use Rattle.c_answer.specs.Answer.{tag, put};
+ghost use lib.ListN.{set};
+use model::Answer;
+use model::LaneId;
+use model::LaneKey;
+use wire::line;
+
+fn put_key(words: &mut [u64; 4], key: LaneKey) -> u64
+    ensures { λ r. ⌜ r ≡ 1 ⌝ }
+    ensures { λ _. ⌜ now (words .exit) ≡ set (set (now (words .entry)) 0 (key .slot)) 1 (key .generation) ⌝ }
+{
+    words[0] = key.slot;
+    words[1] = key.generation;
+    1
+}
+
+fn put_item(words: &mut [u64; 4], item: u64, lane: LaneId) -> u64
+    ensures { λ r. ⌜ r ≡ 3 ⌝ }
+    ensures { λ _. ⌜ now (words .exit) ≡ set (set (set (set (now (words .entry)) 0 item) 1 (lane .channel)) 2 (lane .key .slot)) 3 (lane .key .generation) ⌝ }
+{
+    words[0] = item;
+    words[1] = lane.channel;
+    words[2] = lane.key.slot;
+    words[3] = lane.key.generation;
+    3
+}
+
+// One number, and the tag that the answer has.
+fn put_one(words: &mut [u64; 4], number: u64, kind: u64) -> u64
+    ensures { λ r. ⌜ r ≡ kind ⌝ }
+    ensures { λ _. ⌜ now (words .exit) ≡ set (now (words .entry)) 0 number ⌝ }
+{
+    words[0] = number;
+    kind
+}
+
+// The tag; the numbers go to the words.
+pub fn tell(answer: Answer, words: &mut [u64; 4]) -> u64
+    ensures { λ r. ⌜ r ≡ tag answer ⌝ }
+    ensures { λ _. ⌜ now (words .exit) ≡ put answer (now (words .entry)) ⌝ }
+{
+    match answer {
+        Answer::Done => 0,
+        Answer::Registered { key } => put_key(words, key),
+        Answer::Taken { woken } => put_one(words, woken as u64, 2),
+        Answer::Item { item, lane } => put_item(words, item, lane),
+        Answer::Items { count } => put_one(words, count, 4),
+        Answer::Empty => 5,
+        Answer::Disconnected => 6,
+        Answer::Held { count } => put_one(words, count, 7),
+        Answer::Refused { why } => put_one(words, line::number_of(why), 8),
+    }
+}

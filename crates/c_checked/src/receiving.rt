@@ -1,0 +1,77 @@
+// The receives, on any stores.
+ghost use mathlib.Core.Path.{_≡_};
+ghost use Rattle.fanring.specs.Runs.{checkedWords};
+ghost use Rattle.model.specs.declared.ReceiveCall.the-variants.{TryRecv, TryRecvFair, TryRecvFrom};
+ghost use Rattle.model.specs.declared.Call.the-variants.{Receive};
+ghost use Rattle.receive_batch.specs.Drain.{batchInto};
+ghost use Rattle.fanring.specs.Checked.{checkedInto};
+ghost use Rattle.c_answer.specs.Answer.{told, toldInto};
+use c_answer::answer;
+use fanring::batch;
+use fanring::lane_control;
+use fanring::recv;
+use model::LaneId;
+use model::LaneKey;
+
+// Receives one item.
+#[no_mangle]
+pub extern "C" fn fanring_try_recv(table: &mut [u64], rings: &[u64], words: &mut [u64; 4]) -> u64
+    ensures { λ a. ⌜ (a, now (words .exit), now (table .exit), now (rings .entry)) ≡ told (now (words .entry)) (checkedWords (now (table .entry)) (now (rings .entry)) (Receive TryRecv)) ⌝ }
+{
+    let done = recv::try_recv(table, rings);
+    answer::tell(done, words)
+}
+
+// Receives one item, each lane in its turn.
+#[no_mangle]
+pub extern "C" fn fanring_try_recv_fair(
+    table: &mut [u64],
+    rings: &[u64],
+    words: &mut [u64; 4],
+) -> u64
+    ensures { λ a. ⌜ (a, now (words .exit), now (table .exit), now (rings .entry)) ≡ told (now (words .entry)) (checkedWords (now (table .entry)) (now (rings .entry)) (Receive TryRecvFair)) ⌝ }
+{
+    let done = recv::try_recv_fair(table, rings);
+    answer::tell(done, words)
+}
+
+// Receives one item of a lane.
+#[no_mangle]
+pub extern "C" fn fanring_try_recv_from(
+    table: &mut [u64],
+    rings: &[u64],
+    channel: u64,
+    slot: u64,
+    generation: u64,
+    words: &mut [u64; 4],
+) -> u64
+    ensures { λ a. ⌜ (a, now (words .exit), now (table .exit), now (rings .entry)) ≡ told (now (words .entry)) (checkedWords (now (table .entry)) (now (rings .entry)) (Receive (TryRecvFrom (record { channel = channel; key = record { slot = slot; generation = generation } })))) ⌝ }
+{
+    let done = lane_control::try_recv_from(
+        table,
+        rings,
+        LaneId {
+            channel: channel,
+            key: LaneKey {
+                slot: slot,
+                generation: generation,
+            },
+        },
+    );
+    answer::tell(done, words)
+}
+
+// Receives up to `limit` items into the output.
+#[no_mangle]
+pub extern "C" fn fanring_try_recv_batch_into(
+    table: &mut [u64],
+    rings: &[u64],
+    out: &mut [u64],
+    limit: u64,
+    words: &mut [u64; 4],
+) -> u64
+    ensures { λ a. ⌜ (a, now (words .exit), now (table .exit), now (rings .entry), now (out .exit)) ≡ toldInto (now (words .entry)) (checkedInto (now (table .entry)) (now (rings .entry)) (now (out .entry)) (batchInto (now (table .entry)) (now (rings .entry)) (now (out .entry)) limit)) ⌝ }
+{
+    let done = batch::try_recv_batch_into(table, rings, out, limit);
+    answer::tell(done, words)
+}

@@ -1,0 +1,144 @@
+// The calls that hand nothing out, on stores in order, as an accepted opening and every call leave them.
+ghost use mathlib.Core.Path.{_≡_};
+ghost use Rattle.store.specs.Order.{StoreInOrder};
+ghost use Rattle.control.specs.Control.{pause, resume, closeLane, closeReceiver};
+ghost use Rattle.all_lanes.specs.Batch.{releaseConsumed, pollAllLanes, countHeld};
+ghost use Rattle.c_answer.specs.Answer.{told};
+use all_lanes::batch;
+use c_answer::answer;
+use control::lane_control;
+use model::LaneId;
+use model::LaneKey;
+
+// Pauses a lane.
+#[no_mangle]
+pub extern "C" fn fanring_inner_pause(
+    table: &mut [u64],
+    rings: &[u64],
+    channel: u64,
+    slot: u64,
+    generation: u64,
+    words: &mut [u64; 4],
+) -> u64
+    requires { ⌜ StoreInOrder (now table) (now rings) ⌝ }
+    ensures { λ a. ⌜ (a, now (words .exit), now (table .exit), now (rings .entry)) ≡ told (now (words .entry)) (pause (now (table .entry)) (now (rings .entry)) (record { channel = channel; key = record { slot = slot; generation = generation } })) ⌝ }
+{
+    let done = lane_control::pause(
+        table,
+        rings,
+        LaneId {
+            channel: channel,
+            key: LaneKey {
+                slot: slot,
+                generation: generation,
+            },
+        },
+    );
+    answer::tell(done, words)
+}
+
+// Resumes a lane.
+#[no_mangle]
+pub extern "C" fn fanring_inner_resume(
+    table: &mut [u64],
+    rings: &[u64],
+    channel: u64,
+    slot: u64,
+    generation: u64,
+    words: &mut [u64; 4],
+) -> u64
+    requires { ⌜ StoreInOrder (now table) (now rings) ⌝ }
+    ensures { λ a. ⌜ (a, now (words .exit), now (table .exit), now (rings .entry)) ≡ told (now (words .entry)) (resume (now (table .entry)) (now (rings .entry)) (record { channel = channel; key = record { slot = slot; generation = generation } })) ⌝ }
+{
+    let done = lane_control::resume(
+        table,
+        rings,
+        LaneId {
+            channel: channel,
+            key: LaneKey {
+                slot: slot,
+                generation: generation,
+            },
+        },
+    );
+    answer::tell(done, words)
+}
+
+// Closes a lane.
+#[no_mangle]
+pub extern "C" fn fanring_inner_close_lane(
+    table: &mut [u64],
+    rings: &[u64],
+    channel: u64,
+    slot: u64,
+    generation: u64,
+    words: &mut [u64; 4],
+) -> u64
+    requires { ⌜ StoreInOrder (now table) (now rings) ⌝ }
+    ensures { λ a. ⌜ (a, now (words .exit), now (table .exit), now (rings .entry)) ≡ told (now (words .entry)) (closeLane (now (table .entry)) (now (rings .entry)) (record { channel = channel; key = record { slot = slot; generation = generation } })) ⌝ }
+{
+    let done = lane_control::close_lane(
+        table,
+        rings,
+        LaneId {
+            channel: channel,
+            key: LaneKey {
+                slot: slot,
+                generation: generation,
+            },
+        },
+    );
+    answer::tell(done, words)
+}
+
+// Gives back the places of all items that were handed out.
+#[no_mangle]
+pub extern "C" fn fanring_inner_release_consumed(
+    table: &mut [u64],
+    rings: &[u64],
+    words: &mut [u64; 4],
+) -> u64
+    requires { ⌜ StoreInOrder (now table) (now rings) ⌝ }
+    ensures { λ a. ⌜ (a, now (words .exit), now (table .exit), now (rings .entry)) ≡ told (now (words .entry)) (releaseConsumed (now (table .entry)) (now (rings .entry))) ⌝ }
+{
+    let done = batch::release_consumed(table, rings);
+    answer::tell(done, words)
+}
+
+// Queues every lane that is neither queued nor paused.
+#[no_mangle]
+pub extern "C" fn fanring_inner_poll_all_lanes(
+    table: &mut [u64],
+    rings: &[u64],
+    words: &mut [u64; 4],
+) -> u64
+    requires { ⌜ StoreInOrder (now table) (now rings) ⌝ }
+    ensures { λ a. ⌜ (a, now (words .exit), now (table .exit), now (rings .entry)) ≡ told (now (words .entry)) (pollAllLanes (now (table .entry)) (now (rings .entry))) ⌝ }
+{
+    let done = batch::poll_all_lanes(table, rings);
+    answer::tell(done, words)
+}
+
+// Closes the receiver.
+#[no_mangle]
+pub extern "C" fn fanring_inner_close_receiver(
+    table: &mut [u64],
+    rings: &[u64],
+    words: &mut [u64; 4],
+) -> u64
+    requires { ⌜ StoreInOrder (now table) (now rings) ⌝ }
+    ensures { λ a. ⌜ (a, now (words .exit), now (table .exit), now (rings .entry)) ≡ told (now (words .entry)) (closeReceiver (now (table .entry)) (now (rings .entry))) ⌝ }
+{
+    let done = lane_control::close_receiver(table, rings);
+    answer::tell(done, words)
+}
+
+// The number of items in rings of registered lanes.
+#[no_mangle]
+pub extern "C" fn fanring_inner_held(table: &[u64], rings: &[u64], words: &mut [u64; 4]) -> u64
+    requires { ⌜ StoreInOrder (now table) (now rings) ⌝ }
+    ensures { λ a. ⌜ (a, now (words .exit), now (table .entry), now (rings .entry)) ≡ told (now (words .entry)) (countHeld (now (table .entry)) (now (rings .entry))) ⌝ }
+{
+    let done = batch::held(table, rings);
+    answer::tell(done, words)
+}

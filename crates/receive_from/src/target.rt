@@ -1,0 +1,94 @@
+// The targeted receive: `try_recv_from` of receiver/lane_control.rs.
+ghost use mathlib.Core.Path.{_≡_};
+ghost use Prim.Native.Nat.{_<_};
+ghost use Rattle.lane.specs.Table.{laneAt};
+ghost use Rattle.queues.specs.Header.{Shaped, issued, slots, queueCount, freeCount, laneCount};
+ghost use Rattle.store.specs.Order.{StoreInOrder};
+ghost use Rattle.receive_from.specs.Target.{targetSettled, targetQueued, targetKept, takeFrom, tryRecvFrom};
+use control::lane_control;
+use lane::lane::EmptyLane;
+use lane::lane::Lane;
+use lane::lane::Refill;
+use model::Answer;
+use model::LaneId;
+use queues::header::Header;
+use queues::queue;
+use store::refusal;
+use store::refusal::Verdict;
+use store::signal;
+use turns::turn;
+use yring::ring::Ring;
+
+fn settle_target(t: &mut [u64], found: EmptyLane) -> Answer
+    requires { ⌜ Shaped (now t) × (found .lane .key .slot < slots (now t)) × (freeCount (now t) < slots (now t)) × (0 < laneCount (now t)) ⌝ }
+    ensures { λ a. ⌜ (a, now (t .exit)) ≡ targetSettled (now (t .entry)) found ⌝ }
+{
+    let l = found.lane;
+    l.store(t);
+    queue::remove(t, l.key.slot);
+    turn::retire_if(t, l, found.disconnected);
+    if found.disconnected {
+        return Answer::Disconnected;
+    }
+    Answer::Empty
+}
+
+// The lane goes to the back of the queue, with its signal marked.
+fn queue_target(t: &mut [u64], l: Lane)
+    requires { ⌜ Shaped (now t) × (l .key .slot < slots (now t)) × (queueCount (now t) < slots (now t)) ⌝ }
+    ensures { λ _. ⌜ now (t .exit) ≡ targetQueued (now (t .entry)) l ⌝ }
+{
+    lane_control::with_turn(l, 1, 1, 0).store(t);
+    signal::mark_if_idle(t, l);
+    queue::push_back(t, l.key.slot);
+}
+
+// An item was popped: the lane goes back, into the queue if it is neither paused nor there.
+fn keep_target(t: &mut [u64], l: Lane)
+    requires { ⌜ Shaped (now t) × (l .key .slot < slots (now t)) × (l .queued ≡ 0 → queueCount (now t) < slots (now t)) ⌝ }
+    ensures { λ _. ⌜ now (t .exit) ≡ targetKept (now (t .entry)) l ⌝ }
+{
+    if l.paused != 0 {
+        l.store(t);
+        return;
+    }
+    if l.queued != 0 {
+        l.store(t);
+        return;
+    }
+    queue_target(t, l);
+}
+
+fn take_from(t: &mut [u64], r: &[u64], slot: u64) -> Answer
+    requires { ⌜ StoreInOrder (now t) (now r) × (slot < issued (now t)) × (laneAt (now t) slot .registered ≡ 1) ⌝ }
+    ensures { λ a. ⌜ (a, now (t .exit)) ≡ takeFrom (now (t .entry)) (now (r .entry)) slot ⌝ }
+{
+    let channel = t[Header::CHANNEL];
+    let ring = Ring::new(slot, t[Header::CAPACITY]);
+    match Lane::load(t, slot).refill() {
+        Refill::Idle { found } => settle_target(t, found),
+        Refill::Ready { lane } => {
+            let key = lane.key;
+            let taken = lane.pop_targeted(ring, r);
+            keep_target(t, taken.lane);
+            Answer::Item {
+                item: taken.item,
+                lane: LaneId {
+                    channel: channel,
+                    key: key,
+                },
+            }
+        }
+    }
+}
+
+// Receives one item of this lane, paused or not.
+pub fn try_recv_from(t: &mut [u64], r: &[u64], id: LaneId) -> Answer
+    requires { ⌜ StoreInOrder (now t) (now r) ⌝ }
+    ensures { λ a. ⌜ (a, now (t .exit), now (r .entry)) ≡ tryRecvFrom (now (t .entry)) (now (r .entry)) id ⌝ }
+{
+    match refusal::id_verdict(t, id) {
+        Verdict::Refuse { why } => Answer::Refused { why: why },
+        Verdict::Pass => take_from(t, r, id.key.slot),
+    }
+}

@@ -1,0 +1,88 @@
+-- Every call, on a store in order, does what the rules say, answers as they do, hands out what they hand out, and leaves a store in order.
+-- Assumes nothing.
+use mathlib.Core.Path.{_≡_, refl, ap, _∙_}
+use mathlib.Core.List.{List}
+use Prim.Native.Nat.{ℕ, _≤_}
+use Rattle.model.specs.declared.ReceiveCall.{ReceiveCall}
+use Rattle.model.specs.declared.ReceiveCall.the-variants.{TryRecv, TryRecvFair, TryRecvFrom, TryRecvBatchInto}
+use Rattle.model.specs.declared.Call.{Call}
+use Rattle.model.specs.declared.Call.the-variants.{Sender, Receive, Control}
+use Rattle.model.specs.declared.Refusal.{Refusal}
+use Rattle.model.specs.declared.Answer.the-variants.{Refused}
+use Rattle.model.specs.Lists.{count}
+use Rattle.model.specs.Receive as rules
+use Rattle.model.specs.Receive.{receiveOutcome, outputAfter}
+use Rattle.model.specs.Demand2.{HasRoom}
+use Rattle.model.specs.Rules.{outcome}
+use Rattle.lane.specs.Table.{laneAt}
+use Rattle.queues.specs.Queue.{queueOf}
+use Rattle.store.specs.View.{view}
+use Rattle.store.specs.Order.{StoreInOrder}
+use Rattle.receive_batch.specs.Drain.{tryRecvBatchInto, batchHands, batchInto}
+use Rattle.refinement.specs.Runs.{receiveWords, handsWords, outputWords, callWords}
+use Rattle.store.proofs.RefusalLaws.{seen}
+use Rattle.sender.proofs.SenderLaws.{sender-calls-alike, sender-calls-keep-order}
+use Rattle.control.proofs.ControlLaws.{control-alike, control-in-order}
+use Rattle.refinement.proofs.TryRecvLaws.{try-recv-alike, try-recv-hands, try-recv-keeps}
+use Rattle.refinement.proofs.TryRecvFairLaws.{try-recv-fair-alike, try-recv-fair-hands, try-recv-fair-keeps}
+use Rattle.refinement.proofs.TryRecvFromLaws.{try-recv-from-alike, try-recv-from-keeps}
+use Rattle.refinement.proofs.TryRecvBatchLaws.{try-recv-batch-alike, try-recv-batch-hands, try-recv-batch-output, try-recv-batch-keeps}
+use Rattle.refinement.proofs.HandsLaws.{try-recv-from-hands}
+use Rattle.refinement.proofs.RefusedUnmoved.{Unmoved, sender-unmoved, control-unmoved, try-recv-unmoved, try-recv-fair-unmoved, try-recv-from-unmoved, batch-unmoved, batch-output-unmoved}
+use Rattle.refinement.proofs.StaleNever.{queued-key-kept}
+
+-- a refused call leaves every word, of any two stores
+pub call-unmoved : (t r : List ℕ) (c : Call) → Unmoved t r (callWords t r c)
+unfolding callWords receiveWords
+call-unmoved t r (Sender c) = sender-unmoved t r c
+call-unmoved t r (Control c) = control-unmoved t r c
+call-unmoved t r (Receive TryRecv) = try-recv-unmoved t r
+call-unmoved t r (Receive TryRecvFair) = try-recv-fair-unmoved t r
+call-unmoved t r (Receive (TryRecvFrom i)) = try-recv-from-unmoved t r i
+call-unmoved t r (Receive (TryRecvBatchInto limit room)) = batch-unmoved t r limit room
+
+-- and its output
+pub output-unmoved : (t r : List ℕ) (c : ReceiveCall) (out : List ℕ) → HasRoom c out → (why : Refusal) → (callWords t r (Receive c)) .0 ≡ Refused why → outputWords t r c out ≡ out
+unfolding callWords receiveWords outputWords HasRoom
+output-unmoved t r TryRecv out h why e = refl
+output-unmoved t r TryRecvFair out h why e = refl
+output-unmoved t r (TryRecvFrom i) out h why e = refl
+output-unmoved t r (TryRecvBatchInto limit room) out h why e = batch-output-unmoved t r out limit why (ap (λ (n : ℕ). (tryRecvBatchInto t r limit n) .0) h ∙ e)
+
+module _ (t r : List ℕ) (o : StoreInOrder t r) where
+  pub call-alike : (c : Call) → seen (callWords t r c) ≡ (outcome (view t r) c) .1
+  unfolding callWords receiveWords outcome receiveOutcome
+  call-alike (Sender c) = sender-calls-alike t r o c
+  call-alike (Control c) = control-alike t r c o
+  call-alike (Receive TryRecv) = try-recv-alike t r o
+  call-alike (Receive TryRecvFair) = try-recv-fair-alike t r o
+  call-alike (Receive (TryRecvFrom i)) = try-recv-from-alike t r i o
+  call-alike (Receive (TryRecvBatchInto limit room)) = try-recv-batch-alike t r o limit room
+
+  pub call-keeps : (c : Call) → StoreInOrder ((callWords t r c) .1) ((callWords t r c) .2)
+  unfolding callWords receiveWords
+  call-keeps (Sender c) = sender-calls-keep-order t r o c
+  call-keeps (Control c) = control-in-order t r c o
+  call-keeps (Receive TryRecv) = try-recv-keeps t r o
+  call-keeps (Receive TryRecvFair) = try-recv-fair-keeps t r o
+  call-keeps (Receive (TryRecvFrom i)) = try-recv-from-keeps t r i o
+  call-keeps (Receive (TryRecvBatchInto limit room)) = try-recv-batch-keeps t r o limit room
+
+  pub hands-alike : (c : ReceiveCall) → handsWords t r c ≡ (receiveOutcome (view t r) c) .0
+  unfolding handsWords receiveOutcome
+  hands-alike TryRecv = try-recv-hands t r o
+  hands-alike TryRecvFair = try-recv-fair-hands t r o
+  hands-alike (TryRecvFrom i) = try-recv-from-hands t r i o
+  hands-alike (TryRecvBatchInto limit room) = try-recv-batch-hands t r o limit room
+
+  pub output-alike : (c : ReceiveCall) (out : List ℕ) → HasRoom c out → outputWords t r c out ≡ outputAfter (view t r) c out
+  unfolding outputWords outputAfter HasRoom batchInto
+  output-alike TryRecv out h = refl
+  output-alike TryRecvFair out h = refl
+  output-alike (TryRecvFrom i) out h = refl
+  output-alike (TryRecvBatchInto limit room) out h =
+      ap (λ (n : ℕ). rules.written (batchHands t r limit n) out) h ∙ try-recv-batch-output t r out o limit room
+
+  -- a lane in the queue keeps its key
+  pub call-keeps-queued-key : (c : Call) (x : ℕ) → 1 ≤ count x (queueOf t) → laneAt ((callWords t r c) .1) x .key ≡ laneAt t x .key
+  call-keeps-queued-key c x named = queued-key-kept t r c (callWords t r c) o (call-alike c) x named

@@ -1,0 +1,65 @@
+-- The demands, of every list of calls on the two stores: the words simulate the rules, and so the rules' theorems hold of them.
+-- Assumes nothing.
+use mathlib.Core.Path.{_≡_, refl, subst}
+use mathlib.Core.Bool.{Bool, true, false, cond}
+use mathlib.Core.List.{List, []}
+use Prim.Native.Nat.{ℕ}
+use lib.Dec.{eqb, ltb}
+use Rattle.model.specs.declared.LaneKey.{LaneKey}
+use Rattle.model.specs.Lists.{if, both}
+use Rattle.model.specs.State as rules
+use Rattle.model.specs.State.{vacant, hasLane}
+use Rattle.model.specs.Demand1.{RefusalChangesNothing}
+use Rattle.model.specs.Demand2.{Demand2In}
+use Rattle.model.proofs.Words.{words-demand2, words-demand3, words-none-after-close, words-held-as-counted, words-hands-as-answered}
+use Rattle.yring.specs.Ring.{ringOf}
+use Rattle.lane.specs.Lane.{held}
+use Rattle.lane.specs.Table.{laneAt}
+use Rattle.queues.specs.Header.{issued, capacity}
+use Rattle.store.specs.View.{flag, slotAt, view}
+use Rattle.refinement.specs.Runs.{theStores}
+use Rattle.refinement.specs.Demands.{itemsIn, runs, RefusalsChangeNothing, ItemsInOrder, AnswersTell, LanesWaitBounded, NoneAfterClose, HeldIsCounted}
+use Rattle.refinement.proofs.RefusedUnmoved.{open-unmoved}
+use Rattle.refinement.proofs.CallLaws.{call-unmoved, output-unmoved}
+use Rattle.refinement.proofs.Simulation.{simulates, stores-simulate}
+
+-- a lane's ring in the words is the ring that the rules see
+pub ring-seen : (t r : List ℕ) (k : LaneKey) → rules.ringOf (view t r) k ≡ itemsIn t r k
+unfolding rules.ringOf hasLane itemsIn view slotAt vacant
+ring-seen t r k = go (ltb (k .slot) (issued t)) refl
+  where
+    vs : List ℕ
+    vs = held (ringOf (k .slot) (capacity t)) r (laneAt t (k .slot))
+
+    both-alike : (a b : Bool) → if (both a b) vs [] ≡ cond a (cond b vs []) []
+    both-alike true true = refl
+    both-alike true false = refl
+    both-alike false b = refl
+
+    go : (b : Bool) → ltb (k .slot) (issued t) ≡ b → rules.ringOf (view t r) k ≡ itemsIn t r k
+    go true e = rw e (both-alike (flag (laneAt t (k .slot) .registered)) (eqb (laneAt t (k .slot) .key .generation) (k .generation)))
+    go false e = rw e
+
+pub refusals-change-nothing : RefusalsChangeNothing
+unfolding RefusalChangesNothing
+refusals-change-nothing = record {
+  of-calls = λ w c why e. call-unmoved (w .0) (w .1) c why e;
+  of-outputs = λ w c out h why e. output-unmoved (w .0) (w .1) c out h why e;
+  of-openings = λ o w why e. open-unmoved (w .0) (w .1) o why e;
+}
+
+pub items-in-order : ItemsInOrder
+unfolding stores-simulate simulates
+items-in-order = subst (Demand2In theStores runs) (λ i w k. ring-seen (w .0) (w .1) k i) (words-demand2 theStores stores-simulate)
+
+pub answers-tell : AnswersTell
+answers-tell = words-hands-as-answered theStores stores-simulate
+
+pub lanes-wait-bounded : LanesWaitBounded
+lanes-wait-bounded = words-demand3 theStores stores-simulate
+
+pub none-after-close : NoneAfterClose
+none-after-close = words-none-after-close theStores stores-simulate
+
+pub held-is-counted : HeldIsCounted
+held-is-counted = words-held-as-counted theStores stores-simulate

@@ -1,0 +1,296 @@
+-- No call changes the header's first cursor, and so every ring registered in a run starts at the cursor that the opening was given.
+-- Assumes nothing.
+use mathlib.Core.Path.{_≡_, refl, ap, _∙_}
+use mathlib.Core.Bool.{Bool, true, false}
+use mathlib.Core.List.{List, [], _∷_}
+use Prim.Native.Nat.{ℕ, zero, suc, _-_}
+use lib.Dec.{eqb, ltb}
+use lib.ListN.{length}
+use Rattle.model.specs.declared.SenderCall.the-variants.{RegisterSender}
+use Rattle.model.specs.declared.ReceiveCall.{ReceiveCall}
+use Rattle.model.specs.declared.ReceiveCall.the-variants.{TryRecv, TryRecvFair, TryRecvFrom, TryRecvBatchInto}
+use Rattle.model.specs.declared.Call.{Call}
+use Rattle.model.specs.declared.Call.the-variants.{Sender, Receive, Control}
+use Rattle.model.specs.declared.Answer.the-variants.{Items, Empty}
+use Rattle.model.specs.Runs.{after}
+use Rattle.lane.specs.declared.lane.Lane.{Lane}
+use Rattle.lane.specs.declared.lane.Popped.{Popped}
+use Rattle.lane.specs.declared.lane.Popped.the-variants as Popped
+use Rattle.lane.specs.declared.lane.Refill.{Refill}
+use Rattle.lane.specs.declared.lane.Refill.the-variants as Refill
+use Rattle.lane.specs.declared.lane.LanePoll.{LanePoll}
+use Rattle.lane.specs.declared.lane.LanePoll.the-variants as LanePoll
+use Rattle.lane.specs.declared.lane.EmptyLane.{EmptyLane}
+use Rattle.yring.specs.Ring.{ringOf}
+use Rattle.lane.specs.Lane.{reloadIsEmpty, refill, popTargeted, poll, endFullBurst, moveChunk}
+use Rattle.lane.specs.Table.{setHead, laneAt, putLane}
+use Rattle.lane.proofs.OrderLaws.{cond-holds}
+use Rattle.queues.specs.Header.{issued, queueCount, budget, capacity, firstCursor, channel, fastSlot, livingCount}
+use Rattle.queues.specs.Queue.{frontSlot, rotated}
+use Rattle.ready.specs.Ready.{collectReady}
+use Rattle.queues.proofs.QueueLaws.{head-rotated}
+use Rattle.store.specs.Order.{StoreInOrder}
+use Rattle.store.specs.Words.{Words}
+use Rattle.sender.specs.Sender.{senderWords}
+use Rattle.opening.proofs.FirstCursor.{opening-puts-cursor, registered-starts}
+use Rattle.all_lanes.specs.Batch.{releaseAll}
+use Rattle.control.specs.Control.{withTurn}
+use Rattle.turns.specs.declared.turn.Took.{Took}
+use Rattle.turns.specs.declared.turn.Took.the-variants as Took
+use Rattle.turns.specs.declared.turn.Turn.{Turn}
+use Rattle.turns.specs.declared.turn.Turn.the-variants as Turn
+use Rattle.receive_batch.specs.declared.drain.Front.{Front}
+use Rattle.receive_batch.specs.declared.drain.Front.the-variants as Front
+use Rattle.receive_batch.specs.declared.drain.Look.{Look}
+use Rattle.receive_batch.specs.declared.drain.Look.the-variants as Look
+use Rattle.turns.specs.Turn.{frontLane, retiredIf, leftFront, budgetMet, rotatedIf, turnBy, pollFront, after as afterTurn, turnsWithin, turns}
+use Rattle.turns.specs.Drained.{retireEmptyPaused, retireEmptyPausedLanes, emptyOrDrained, nothingTaken}
+use Rattle.receive.specs.Receive.{elseTake, windowTook, fastTook, takeFast, openTook, takeWindow, pollLoop, refillTake, takeOne, takeLone, takeFair, answerOne, tryRecv, tryRecvFair}
+use Rattle.turns.specs.Due.{collectedIfDue}
+use Rattle.receive_from.specs.Target.{targetSettled, targetQueued, targetKept, targetTook, takeFrom, tryRecvFrom}
+use Rattle.receive_batch.specs.Drain.{lookBy, lookFront, afterLook, runDownWithin, runDown, elseFront, refreshActive, fullBudget, chunkSize, gaveChunk, chunkGiven, Drained, chunkThen, drainedWithin, drained, answerItems, batchAnswer, tryRecvBatchInto}
+use Rattle.refinement.specs.Runs.{receiveWords, callWords, StoreCalls, listsOf, opened, storesAfter}
+use Rattle.refinement.specs.RulesOnWords.{StaysInOrder, RingsStartAtFirstCursor}
+use Rattle.turns.proofs.FrontLaws.{head-left, head-met, head-gave}
+use Rattle.refinement.proofs.FirstCursorSteps.{At, at-put, at-head, at-pushed-back, at-removed, at-marked-if-idle, at-retired, at-slots, at-collected, unless-at, sender-keeps-cursor, control-keeps-cursor, at-release-all}
+use Rattle.refinement.proofs.AsInner.{AsInner, opened-in-order, words-keep, stays-in-order}
+
+-- of an answer with a table
+abbrev TableAt : {A : Type 0} → ℕ → A × List ℕ → Type 0
+TableAt c o = At c (o .1)
+
+module _ {c : ℕ} where
+  -- ---- turns
+
+  at-retired-if : (dropped : Bool) (t : List ℕ) → At c t → (l : Lane) → At c (retiredIf dropped t l)
+  unfolding retiredIf
+  at-retired-if true t h l = at-retired t h l
+  at-retired-if false t h l = h
+
+  at-left : (t : List ℕ) → At c t → (found : EmptyLane) → At c (budgetMet (leftFront t found))
+  at-left t h found = head-met (leftFront t found) 10 refl ∙ head-left t found 10 refl refl refl refl refl ∙ h
+
+  at-turn : (t : List ℕ) → At c t → (p : LanePoll) → At c ((turnBy t p) .1)
+  unfolding turnBy
+  at-turn t h (LanePoll.Item item rotate released l) = head-gave t rotate l 10 refl refl refl ∙ h
+  at-turn t h (LanePoll.Idle found) = at-left t h found
+
+  at-front : (t r : List ℕ) (fair : Bool) → At c t → At c ((pollFront t r fair) .1)
+  unfolding pollFront
+  at-front t r fair h =
+      cond-holds (TableAt c) (eqb (queueCount t) 0) (Turn.Ends Took.Nothing, t) _ (λ e. h)
+      (λ e. at-turn t h (poll (ringOf (frontSlot t) (capacity t)) r fair (frontLane t)))
+
+  at-after : (u : Turn × List ℕ) (more : Took × List ℕ) → At c (u .1) → At c (more .1) → At c ((afterTurn u more) .1)
+  unfolding afterTurn
+  at-after (Turn.Ends took, t) more h k = h
+  at-after (Turn.Left, t) more h k = k
+
+  at-turns-within : (n : ℕ) (t r : List ℕ) (fair : Bool) → At c t → At c ((turnsWithin n t r fair) .1)
+  unfolding turnsWithin
+  at-turns-within zero t r fair h = h
+  at-turns-within (suc n) t r fair h =
+      let p = at-front t r fair h in
+      at-after (pollFront t r fair) (turnsWithin n ((pollFront t r fair) .1) r fair) p (at-turns-within n ((pollFront t r fair) .1) r fair p)
+
+  at-turns : (t r : List ℕ) (fair : Bool) → At c t → At c ((turns t r fair) .1)
+  unfolding turns
+  at-turns t r fair h = at-turns-within (queueCount t) t r fair h
+
+  -- ---- takes
+
+  at-else : (o : Took × List ℕ) (more : List ℕ → Took × List ℕ) → At c (o .1) → ((u : List ℕ) → At c u → At c ((more u) .1)) → At c ((elseTake o more) .1)
+  unfolding elseTake
+  at-else (Took.Item item k, t) more h f = h
+  at-else (Took.Nothing, t) more h f = f t h
+
+  at-window-took : (t : List ℕ) → At c t → (item : ℕ) (l : Lane) → At c ((windowTook t item l) .1)
+  unfolding windowTook
+  at-window-took t h item l = at-head (putLane t l) (at-put t h l) 5 (budget t - 1) refl
+
+  at-fast-took : (t : List ℕ) → At c t → (p : Popped) → At c ((fastTook t p) .1)
+  unfolding fastTook
+  at-fast-took t h (Popped.Item item l) = at-window-took t h item l
+  at-fast-took t h (Popped.Nothing l) = h
+
+  at-open-took : (t : List ℕ) → At c t → (p : Popped) → At c ((openTook t p) .1)
+  unfolding openTook
+  at-open-took t h (Popped.Item item l) = at-window-took (setHead t 12 (l .key .slot)) (at-head t h 12 (l .key .slot) refl) item l
+  at-open-took t h (Popped.Nothing l) = h
+
+  at-fast : (t r : List ℕ) → At c t → At c ((takeFast t r) .1)
+  unfolding takeFast
+  at-fast t r h =
+      cond-holds (TableAt c) (ltb (fastSlot t) (issued t)) _ (Took.Nothing, t)
+      (λ e. cond-holds (TableAt c) (eqb (laneAt t (fastSlot t) .registered) 1) _ (Took.Nothing, t) (λ f. at-fast-took t h _) (λ f. h)) (λ e. h)
+
+  at-window : (t r : List ℕ) → At c t → At c ((takeWindow t r) .1)
+  unfolding takeWindow
+  at-window t r h =
+      cond-holds (TableAt c) (eqb (queueCount t) 0) (Took.Nothing, t) _ (λ e. h) (λ e. at-open-took t h _)
+
+  at-due : (t : List ℕ) → At c t → At c (collectedIfDue t)
+  unfolding collectedIfDue
+  at-due t h =
+      cond-holds (At c) (eqb (budget t) 0) _ t
+      (λ e. cond-holds (At c) (eqb (queueCount t) 0) t (setHead (collectReady false t) 5 64) (λ f. h) (λ f. at-head (collectReady false t) (at-collected false t h) 5 64 refl)) (λ e. h)
+
+  at-poll-loop : (t r : List ℕ) → At c t → At c ((pollLoop t r) .1)
+  unfolding pollLoop
+  at-poll-loop t r h = at-else (turns t r false) _ (at-turns t r false h) (λ u k. at-turns (collectReady true u) r false (at-collected true u k))
+
+  at-one : (t r : List ℕ) → At c t → At c ((takeOne t r) .1)
+  unfolding takeOne refillTake
+  at-one t r h =
+      at-else (takeFast t r) _ (at-fast t r h)
+      (λ u k. at-else (takeWindow (collectedIfDue u) r) _ (at-window (collectedIfDue u) r (at-due u k)) (λ v i. at-poll-loop v r i))
+
+  at-lone : (t r : List ℕ) → At c t → At c ((takeLone t r) .1)
+  unfolding takeLone
+  at-lone t r h =
+      cond-holds (TableAt c) (eqb (queueCount t) 1) _ (Took.Nothing, t) (λ e. at-open-took t h _) (λ e. h)
+
+  at-fair : (t r : List ℕ) → At c t → At c ((takeFair t r) .1)
+  unfolding takeFair
+  at-fair t r h =
+      let p = at-head (collectReady true t) (at-collected true t h) 5 64 refl in
+      at-else (takeLone (setHead (collectReady true t) 5 64) r) _ (at-lone (setHead (collectReady true t) 5 64) r p) (λ u k. at-turns u r true k)
+
+  -- ---- nothing taken
+
+  at-empty-paused : (t : List ℕ) → At c t → (x : ℕ) → At c (retireEmptyPaused t x)
+  unfolding retireEmptyPaused
+  at-empty-paused t h x =
+      cond-holds (At c) (eqb (laneAt t x .registered) 1) _ t
+      (λ e. cond-holds (At c) (eqb (laneAt t x .paused) 1) _ t (λ f. at-retired-if (reloadIsEmpty (laneAt t x) .empty) t h (reloadIsEmpty (laneAt t x) .lane)) (λ f. h)) (λ e. h)
+
+  at-nothing : (t : List ℕ) → At c t → At c ((nothingTaken t) .1)
+  unfolding nothingTaken emptyOrDrained retireEmptyPausedLanes
+  at-nothing t h =
+      cond-holds (TableAt c) (eqb (livingCount t) 0) _ (Empty, t)
+      (λ e. at-slots retireEmptyPaused at-empty-paused (issued t) 0 t h) (λ e. h)
+
+  at-answer : (channel : ℕ) (took : Took × List ℕ) → At c (took .1) → At c ((answerOne channel took) .1)
+  unfolding answerOne
+  at-answer channel (Took.Item item k, t) h = h
+  at-answer channel (Took.Nothing, t) h = at-nothing t h
+
+  -- ---- the targeted receive
+
+  at-settled : (t : List ℕ) → At c t → (found : EmptyLane) → At c ((targetSettled t found) .1)
+  unfolding targetSettled
+  at-settled t h found =
+      at-retired-if (found .disconnected) _ (at-removed (putLane t (found .lane)) (at-put t h (found .lane)) (found .lane .key .slot)) (found .lane)
+
+  at-kept : (t : List ℕ) → At c t → (l : Lane) → At c (targetKept t l)
+  unfolding targetKept targetQueued
+  at-kept t h l =
+      let p = at-put t h l in
+      let q = at-pushed-back _ (at-marked-if-idle _ (at-put t h (withTurn 1 1 0 l)) l) (l .key .slot) in
+      cond-holds (At c) (eqb (l .paused) 0) _ (putLane t l) (λ e. cond-holds (At c) (eqb (l .queued) 0) _ (putLane t l) (λ f. q) (λ f. p)) (λ e. p)
+
+  at-target : (t r : List ℕ) → At c t → (x : ℕ) (p : Refill) → At c ((targetTook t r x p) .1)
+  unfolding targetTook
+  at-target t r h x (Refill.Idle found) = at-settled t h found
+  at-target t r h x (Refill.Ready l) = at-kept t h (popTargeted (ringOf x (capacity t)) r l .lane)
+
+  -- ---- the batch
+
+  at-look : (t : List ℕ) → At c t → (p : Refill) → At c ((lookBy t p) .1)
+  unfolding lookBy
+  at-look t h (Refill.Ready l) = h
+  at-look t h (Refill.Idle found) = at-left t h found
+
+  at-look-front : (t : List ℕ) → At c t → At c ((lookFront t) .1)
+  unfolding lookFront
+  at-look-front t h =
+      cond-holds (TableAt c) (eqb (queueCount t) 0) (Look.Ends Front.None, t) _ (λ e. h) (λ e. at-look t h (refill (frontLane t)))
+
+  at-after-look : (u : Look × List ℕ) (more : Front × List ℕ) → At c (u .1) → At c (more .1) → At c ((afterLook u more) .1)
+  unfolding afterLook
+  at-after-look (Look.Ends front, t) more h k = h
+  at-after-look (Look.Left, t) more h k = k
+
+  at-run-down-within : (n : ℕ) (t : List ℕ) → At c t → At c ((runDownWithin n t) .1)
+  unfolding runDownWithin
+  at-run-down-within zero t h = h
+  at-run-down-within (suc n) t h =
+      let p = at-look-front t h in
+      at-after-look (lookFront t) (runDownWithin n ((lookFront t) .1)) p (at-run-down-within n ((lookFront t) .1) p)
+
+  at-run-down : (t : List ℕ) → At c t → At c ((runDown t) .1)
+  unfolding runDown
+  at-run-down t h = at-run-down-within (queueCount t) t h
+
+  at-else-front : (o : Front × List ℕ) (more : List ℕ → Front × List ℕ) → At c (o .1) → ((u : List ℕ) → At c u → At c ((more u) .1)) → At c ((elseFront o more) .1)
+  unfolding elseFront
+  at-else-front (Front.Ready l, t) more h f = h
+  at-else-front (Front.None, t) more h f = f t h
+
+  at-refresh : (t : List ℕ) → At c t → At c ((refreshActive t) .1)
+  unfolding refreshActive
+  at-refresh t h =
+      at-else-front (runDown (collectedIfDue t)) _ (at-run-down (collectedIfDue t) (at-due t h)) (λ u k. at-run-down (collectReady true u) (at-collected true u k))
+
+  at-chunk : (t : List ℕ) → At c t → (n : ℕ) (l : Lane) → At c (chunkGiven t n l)
+  unfolding chunkGiven gaveChunk rotatedIf
+  at-chunk t h n l =
+      let e = endFullBurst (moveChunk (capacity t) n l) in
+      let p = at-put t h (e .lane) in
+      at-head (rotatedIf (e .ended) (putLane t (e .lane)))
+      (cond-holds (At c) (e .ended) (rotated (putLane t (e .lane))) (putLane t (e .lane)) (λ d. head-rotated (putLane t (e .lane)) 10 refl refl ∙ p) (λ d. p)) 5 (fullBudget (budget t) - n) refl
+
+  at-chunk-then : (f : Front × List ℕ) (r : List ℕ) (left : ℕ) (more : List ℕ → ℕ → Drained) → At c (f .1) → ((u : List ℕ) (m : ℕ) → At c u → At c ((more u m) .1))
+      → At c ((chunkThen f r left more) .1)
+  unfolding chunkThen
+  at-chunk-then (Front.None, t) r left more h g = h
+  at-chunk-then (Front.Ready l, t) r left more h g = g (chunkGiven t (chunkSize t left l) l) (left - chunkSize t left l) (at-chunk t h (chunkSize t left l) l)
+
+  at-drained-within : (n : ℕ) (t r : List ℕ) (left : ℕ) → At c t → At c ((drainedWithin n t r left) .1)
+  unfolding drainedWithin
+  at-drained-within zero t r left h = h
+  at-drained-within (suc n) t r left h =
+      cond-holds (TableAt c) (eqb left 0) ([], t) _ (λ e. h)
+      (λ e. at-chunk-then (refreshActive t) r left _ (at-refresh t h) (λ u m k. at-drained-within n u r m k))
+
+  at-items : (limit n : ℕ) (t : List ℕ) → At c t → At c ((answerItems limit n t) .1)
+  unfolding answerItems
+  at-items limit n t h =
+      cond-holds (TableAt c) (eqb n 0) _ (Items n, t) (λ e. cond-holds (TableAt c) (eqb limit 0) (Items 0, t) (nothingTaken t) (λ f. h) (λ f. at-nothing t h)) (λ e. h)
+
+  at-batch : (t r : List ℕ) (limit : ℕ) → At c t → At c ((batchAnswer t r limit) .1)
+  unfolding batchAnswer drained
+  at-batch t r limit h =
+      let d = drainedWithin limit t r limit in
+      at-items limit (length (d .0)) (releaseAll (d .1)) (at-release-all (d .1) (at-drained-within limit t r limit h))
+
+-- ---- every call, and lists of calls
+
+pub receive-keeps-cursor : (t r : List ℕ) (s : ReceiveCall) → firstCursor ((receiveWords t r s) .1) ≡ firstCursor t
+unfolding receiveWords tryRecv tryRecvFair tryRecvFrom takeFrom tryRecvBatchInto
+receive-keeps-cursor t r TryRecv = unless-at _ t r _ (at-answer (channel t) (takeOne t r) (at-one t r refl))
+receive-keeps-cursor t r TryRecvFair = unless-at _ t r _ (at-answer (channel t) (takeFair t r) (at-fair t r refl))
+receive-keeps-cursor t r (TryRecvFrom i) = unless-at _ t r _ (at-target t r refl (i .key .slot) (refill (laneAt t (i .key .slot))))
+receive-keeps-cursor t r (TryRecvBatchInto limit room) = unless-at _ t r _ (at-batch t r limit refl)
+
+pub call-keeps-cursor : (t r : List ℕ) (s : Call) → firstCursor ((callWords t r s) .1) ≡ firstCursor t
+unfolding callWords
+call-keeps-cursor t r (Sender s) = sender-keeps-cursor t r s
+call-keeps-cursor t r (Receive s) = receive-keeps-cursor t r s
+call-keeps-cursor t r (Control s) = control-keeps-cursor t r s
+
+module _ (M : StoreCalls) (i : AsInner M) where
+  calls-keep-cursor : (w : List ℕ × List ℕ) (calls : List Call) → StoreInOrder (w .0) (w .1) → firstCursor ((after (listsOf M) w calls) .0) ≡ firstCursor (w .0)
+  unfolding after
+  calls-keep-cursor w [] o = refl
+  calls-keep-cursor w (s ∷ calls) o =
+      calls-keep-cursor ((listsOf M .step w s) .1) calls (words-keep M i (w .0) (w .1) o s)
+      ∙ ap (λ (z : Words). firstCursor (z .1)) (i .same-words (w .0) (w .1) o s) ∙ call-keeps-cursor (w .0) (w .1) s
+
+  pub rings-start-at-first-cursor : RingsStartAtFirstCursor M
+  unfolding RingsStartAtFirstCursor StaysInOrder callWords senderWords
+  rings-start-at-first-cursor x most k =
+      let v = storesAfter M x in
+      let o = stays-in-order M i x in
+      let here : firstCursor (v .0) ≡ x .opening .cursor = calls-keep-cursor (opened x) (x .calls) (opened-in-order x) ∙ opening-puts-cursor (x .opening) (x .table) (x .rings) (x .accepted) in
+      rw (i .same-words (v .0) (v .1) o (Sender (RegisterSender most))) (rw here at (registered-starts (v .0) (v .1) o most k))

@@ -1,0 +1,65 @@
+-- What is claimed of lists of calls on the two stores, made from an opening on, each on the words as the last one left them.
+-- The claims are crate `model`'s (its specs/Demand1.antt, Demand2.antt, Demand3.antt, Closed.antt, Held.antt), here of the words that the calls' contracts name.
+-- Assumes nothing.
+use mathlib.Core.Path.{_≡_}
+use mathlib.Core.Bool.{cond}
+use mathlib.Core.List.{List, []}
+use Prim.Native.Nat.{ℕ}
+use lib.Dec.{eqb, ltb}
+use Rattle.model.specs.declared.LaneKey.{LaneKey}
+use Rattle.model.specs.declared.Opening.{Opening}
+use Rattle.model.specs.declared.ReceiveCall.{ReceiveCall}
+use Rattle.model.specs.declared.Call.the-variants.{Receive}
+use Rattle.model.specs.declared.Refusal.{Refusal}
+use Rattle.model.specs.declared.Answer.the-variants.{Refused}
+use Rattle.model.specs.Runs.{RunsOf}
+use Rattle.model.specs.Words.{runsThatFit}
+use Rattle.model.specs.Demand1.{RefusalChangesNothing}
+use Rattle.model.specs.Demand2.{Demand2In, HasRoom, HandsAsAnsweredIn}
+use Rattle.model.specs.Demand3.{Demand3In}
+use Rattle.model.specs.Closed.{NoneAfterCloseIn}
+use Rattle.model.specs.Held.{HeldAsCountedIn}
+use Rattle.yring.specs.Ring.{ringOf}
+use Rattle.lane.specs.Lane.{held}
+use Rattle.lane.specs.Table.{laneAt}
+use Rattle.queues.specs.Header.{issued, capacity}
+use Rattle.refinement.specs.Runs.{theStores}
+
+-- The items in the ring of the lane with this key, oldest first; none if no lane has it.
+unfoldable pub itemsIn : List ℕ → List ℕ → LaneKey → List ℕ
+itemsIn t r k =
+    cond (ltb (k .slot) (issued t))
+    (cond (eqb (laneAt t (k .slot) .registered) 1)
+    (cond (eqb (laneAt t (k .slot) .key .generation) (k .generation)) (held (ringOf (k .slot) (capacity t)) r (laneAt t (k .slot))) [])
+    [])
+    []
+
+-- All runs of code: an opening and calls whose numbers are u64, and whatever words the two stores hold before the opening.
+abbrev pub runs : RunsOf theStores
+runs = runsThatFit theStores
+
+-- "a refusal leaves state, both stores and the output unchanged", of any words, in order or not
+pub record RefusalsChangeNothing : Type 0 where
+  pub of-calls : RefusalChangesNothing theStores
+  pub of-outputs : (w : theStores .State) (c : ReceiveCall) (out : List ℕ) → HasRoom c out → (why : Refusal) → (theStores .step w (Receive c)) .0 ≡ Refused why → theStores .output w c out ≡ out
+  pub of-openings : (o : Opening) (w : theStores .Stores) (why : Refusal) → (theStores .opens o w) .0 ≡ Refused why → (theStores .opens o w) .1 ≡ w
+
+-- demand 2: "items handed out of a lane never closed and then items still in its ring are its accepted sends, in order"
+abbrev pub ItemsInOrder : Type 0
+ItemsInOrder = Demand2In theStores runs (λ w. itemsIn (w .0) (w .1))
+
+-- what is handed out is what is answered, and a batch's output has it in order
+abbrev pub AnswersTell : Type 0
+AnswersTell = HandsAsAnsweredIn theStores runs
+
+-- demand 3: how long a lane with an ordinarily sent item can wait
+abbrev pub LanesWaitBounded : Type 0
+LanesWaitBounded = Demand3In theStores runs
+
+-- "closed by an accepted `close_lane`, after which none of its items is handed out"
+abbrev pub NoneAfterClose : Type 0
+NoneAfterClose = NoneAfterCloseIn theStores runs
+
+-- held is the number of accepted sends less items handed out, of lanes not closed
+abbrev pub HeldIsCounted : Type 0
+HeldIsCounted = HeldAsCountedIn theStores runs
