@@ -19,7 +19,7 @@ use Rattle.lane.proofs.AtHandLaws.{close-closed}
 use Rattle.lane.proofs.CursorOrder.{span-adds, held-adds}
 use Rattle.lane.proofs.OrderLaws.{cond-holds}
 use Rattle.lane.proofs.TableLaws.{frames, load-store-same, slot-of-lane, other-lane-kept}
-use Rattle.model.proofs.Counting.{no}
+use Rattle.demands.proofs.Counting.{no}
 use Rattle.queues.specs.Header.{Shaped, issued, capacity}
 use Rattle.queues.specs.Queue.{QueueNames}
 use Rattle.ready.specs.Ready.{enqueued}

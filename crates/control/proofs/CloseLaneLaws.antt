@@ -12,7 +12,7 @@ use Rattle.model.specs.Changes.{withQueue}
 use Rattle.model.specs.Outcome.{says}
 use Rattle.model.specs.Control as rules
 use Rattle.model.specs.Turn as turns
-use Rattle.model.proofs.Counting.{without-own, without-other}
+use Rattle.demands.proofs.Counting.{without-own, without-other}
 use Rattle.lane.specs.declared.lane.Lane.{Lane}
 use Rattle.lane.specs.Table.{laneAt}
 use Rattle.lane.proofs.TableLaws.{slot-of-lane}

@@ -12,7 +12,7 @@ use Rattle.model.specs.State.{Slot, State}
 use Rattle.model.specs.Changes.{withQueue, put, withFlags, withSignal, withRing, withPaused, credited}
 use Rattle.model.specs.Outcome.{says}
 use Rattle.model.specs.Control as rules
-use Rattle.model.proofs.Counting.{without-own, without-other}
+use Rattle.demands.proofs.Counting.{without-own, without-other}
 use Rattle.lane.specs.declared.lane.Lane.{Lane}
 use Rattle.lane.specs.Order.{InOrder}
 use Rattle.lane.specs.Table.{laneAt, putLane}

@@ -20,8 +20,8 @@ use Rattle.model.specs.Outcome.{Outcome, says, unless}
 use Rattle.model.specs.Runs.{Lent}
 use Rattle.model.specs.Opening.{nextPowerOfTwo, opened, openingOutcome}
 use Rattle.model.specs.Order.{Ordered}
-use Rattle.model.proofs.Words.{state-path}
-use Rattle.model.proofs.Opened.{opened-ordered}
+use Rattle.demands.proofs.Words.{state-path}
+use Rattle.demands.proofs.Opened.{opened-ordered}
 use Rattle.yring.specs.Cursor.{Capacity}
 use Rattle.lane.specs.Table.{head, cellAt, headerWords, rowWords}
 use Rattle.queues.specs.Header.{issued, openedHeader, headerList, putHeader}

@@ -9,7 +9,7 @@ use lib.ListN.{length, take, getD}
 use lib.Pow.{pow-mono}
 use Rattle.model.specs.Lists.{count}
 use Rattle.model.specs.State.{releaseBatch}
-use Rattle.model.proofs.Counting.{equal, other, same?, same-self}
+use Rattle.demands.proofs.Counting.{equal, other, same?, same-self}
 use Rattle.lane.specs.declared.lane.Lane.{Lane}
 use Rattle.yring.specs.Cursor.{Capacity, distance}
 use Rattle.lane.specs.Order.{Cursors, Counts, InOrder}

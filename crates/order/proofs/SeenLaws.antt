@@ -10,7 +10,7 @@ use lib.ListN.{length, getD, set, replicate, length-set}
 use lib.Bits.{bitOr}
 use lib.Seq.{getD-set-same, getD-set-other}
 use Rattle.model.specs.Lists.{count, same}
-use Rattle.model.proofs.Counting.{equal, other, same?, same-self}
+use Rattle.demands.proofs.Counting.{equal, other, same?, same-self}
 use Rattle.yring.specs.Lists.{tab}
 use Rattle.ready.specs.Bits.{bit}
 use Rattle.ready.proofs.BitLaws.{bit-set-same, bit-set-other, bit-zero, one-shl}

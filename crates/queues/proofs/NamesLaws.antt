@@ -10,7 +10,7 @@ use borrow.Author.Tests.{eq-eqb, ne-eqb}
 use lib.Dec.{eqb}
 use Rattle.model.specs.Lists.{if, count, same}
 use Rattle.model.specs.Lists as rules
-use Rattle.model.proofs.Counting.{Same, equal, other, same?, same-self, count-append, without-own, without-other}
+use Rattle.demands.proofs.Counting.{Same, equal, other, same?, same-self, count-append, without-own, without-other}
 use Rattle.lane.specs.Table.{laneAt, putLane}
 use Rattle.lane.specs.declared.lane.Lane.{Lane}
 use Rattle.lane.proofs.TableLaws.{frames, has-row, lane-own, other-lane-kept}

@@ -9,7 +9,7 @@ use native.Mathlib.Omega.{arith}
 use borrow.Author.Tests.{ltb-true, ne-eqb}
 use lib.Dec.{ltb, leb, eqb}
 use lib.ListN.{length}
-use Rattle.model.proofs.Counting.{equal, other, same?}
+use Rattle.demands.proofs.Counting.{equal, other, same?}
 use Rattle.lane.specs.Table.{headerWords, rowWords, laneWords, HasRow, head, cell, setCell, laneAt}
 use Rattle.lane.proofs.TableLaws.{frames, has-row}
 use Rattle.queues.specs.Header.{Shaped, issued, groupCursor, setGroupCursor}

@@ -15,7 +15,7 @@ use lib.ListN.{length}
 use Rattle.model.specs.Lists.{if, keep, from}
 use Rattle.model.specs.State.{State}
 use Rattle.model.specs.Ready.{marks}
-use Rattle.model.proofs.Pages.{marks-range, byPages, pages}
+use Rattle.demands.proofs.Pages.{marks-range, byPages, pages}
 use Rattle.lane.specs.Table.{HasRow}
 use Rattle.queues.specs.Header.{Shaped, issued}
 use Rattle.queues.specs.Queue.{queueOf, QueueNames}

@@ -16,7 +16,7 @@ use Rattle.model.specs.Lists as rules
 use Rattle.model.specs.State.{State, mayQueue}
 use Rattle.model.specs.Changes.{withSlots, withQueue, withCursor, unmarked}
 use Rattle.model.specs.Ready.{groupOf, marks, isReady, collectMarks, collectGroup}
-use Rattle.model.proofs.Counting.{equal, other, same?}
+use Rattle.demands.proofs.Counting.{equal, other, same?}
 use Rattle.lane.specs.declared.lane.Lane.{Lane}
 use Rattle.lane.specs.Table.{laneAt}
 use Rattle.lane.proofs.TableLaws.{frames}

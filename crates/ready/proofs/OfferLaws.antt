@@ -9,7 +9,7 @@ use borrow.Author.Tests.{ltb-true, le-leb, eqb-true}
 use lib.Dec.{ltb, leb, eqb}
 use lib.ListN.{length}
 use Rattle.model.specs.Lists as rules
-use Rattle.model.proofs.Counting.{equal, other, same?}
+use Rattle.demands.proofs.Counting.{equal, other, same?}
 use Rattle.lane.specs.Table.{headerWords, rowWords, laneWords, head, cellAt, cell, laneAt, putLane}
 use Rattle.lane.proofs.TableLaws.{frames, slot-of-lane}
 use Rattle.queues.specs.Header.{Shaped, issued, queueCount, slots}

@@ -14,7 +14,7 @@ use Rattle.model.specs.State.{Slot, State, releaseBatch}
 use Rattle.model.specs.Changes.{withQueue, withBudget, put, popped}
 use Rattle.model.specs.Order.{Ordered}
 use Rattle.model.specs.Turn as rules
-use Rattle.model.proofs.WholeChunk.{firstOf, given, ChunkFits, given-ordered}
+use Rattle.demands.proofs.WholeChunk.{firstOf, given, ChunkFits, given-ordered}
 use Rattle.lane.specs.declared.lane.Lane.{Lane}
 use Rattle.lane.specs.declared.lane.Released.{Released}
 use Rattle.yring.specs.Ring.{ringOf, items}

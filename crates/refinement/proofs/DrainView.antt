@@ -8,7 +8,7 @@ use Rattle.model.specs.declared.LaneKey.{LaneKey}
 use Rattle.model.specs.State.{State}
 use Rattle.model.specs.Turn.{Took, polled}
 use Rattle.model.specs.Receive.{takeUpTo}
-use Rattle.model.proofs.WholeChunk.{firstOf, given, ChunkFits, onto, take-up-to-none, take-up-to-chunk}
+use Rattle.demands.proofs.WholeChunk.{firstOf, given, ChunkFits, onto, take-up-to-none, take-up-to-chunk}
 use Rattle.lane.specs.declared.lane.Lane.{Lane}
 use Rattle.lane.specs.Lane.{chunkLimit}
 use Rattle.queues.specs.Header.{budget, capacity}

@@ -11,7 +11,7 @@ use Rattle.model.specs.State.{Slot}
 use Rattle.model.specs.Changes.{withQueue, put, settledEmpty}
 use Rattle.model.specs.Order.{Ordered}
 use Rattle.model.specs.Turn as rules
-use Rattle.model.proofs.OrderKept.{settle-empty-ordered}
+use Rattle.demands.proofs.OrderKept.{settle-empty-ordered}
 use Rattle.lane.specs.declared.lane.Lane.{Lane}
 use Rattle.lane.specs.declared.lane.EmptyLane.{EmptyLane}
 use Rattle.yring.specs.Ring.{ringOf}

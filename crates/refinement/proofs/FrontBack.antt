@@ -9,7 +9,7 @@ use native.Mathlib.Omega.{arith}
 use Rattle.model.specs.Lists.{if, count}
 use Rattle.model.specs.State.{State}
 use Rattle.model.specs.Changes.{withQueue, withBudget, put, withRing, popped}
-use Rattle.model.proofs.OrderKept as kept
+use Rattle.demands.proofs.OrderKept as kept
 use Rattle.lane.specs.declared.lane.Lane.{Lane}
 use Rattle.yring.specs.Ring.{ringOf}
 use Rattle.lane.specs.Lane.{held}

@@ -12,7 +12,7 @@ use Rattle.model.specs.State.{Slot, releaseBatch}
 use Rattle.model.specs.Changes.{withQueue, withBudget, put, popped}
 use Rattle.model.specs.Order.{Ordered}
 use Rattle.model.specs.Turn as rules
-use Rattle.model.proofs.OrderKept as kept
+use Rattle.demands.proofs.OrderKept as kept
 use Rattle.lane.specs.declared.lane.Lane.{Lane}
 use Rattle.lane.specs.declared.lane.LanePoll.{LanePoll}
 use Rattle.lane.specs.declared.lane.LanePoll.the-variants as LanePoll

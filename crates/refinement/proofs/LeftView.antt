@@ -12,7 +12,7 @@ use lib.ListN.{length}
 use Rattle.model.specs.State.{State}
 use Rattle.model.specs.Changes.{withQueue, withBudget, put, settledEmpty}
 use Rattle.model.specs.Turn as rules
-use Rattle.model.proofs.OrderKept as kept
+use Rattle.demands.proofs.OrderKept as kept
 use Rattle.lane.specs.declared.lane.EmptyLane.{EmptyLane}
 use Rattle.lane.specs.Table.{putLane, setHead}
 use Rattle.lane.proofs.TableLaws.{frames}

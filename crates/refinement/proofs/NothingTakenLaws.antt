@@ -15,8 +15,8 @@ use Rattle.model.specs.Order.{Ordered}
 use Rattle.model.specs.Outcome.{says}
 use Rattle.model.specs.Turn as turns
 use Rattle.model.specs.Receive as rules
-use Rattle.model.proofs.Moves.{nothing-taken-gives-none}
-use Rattle.model.proofs.OrderKept.{retire-empty-paused-ordered}
+use Rattle.demands.proofs.Moves.{nothing-taken-gives-none}
+use Rattle.demands.proofs.OrderKept.{retire-empty-paused-ordered}
 use Rattle.lane.specs.declared.lane.Lane.{Lane}
 use Rattle.lane.specs.Lane.{held, closeFast, prefetch, reload, reloadIsEmpty, refill, readyOrIdle}
 use Rattle.yring.specs.Ring.{ringOf}

@@ -18,7 +18,7 @@ use Rattle.model.specs.declared.Answer.{Answer}
 use Rattle.model.specs.declared.Answer.the-variants.{Items, Empty, Disconnected, Refused}
 use Rattle.model.specs.Receive.{written}
 use Rattle.model.specs.Runs.{accepted}
-use Rattle.model.proofs.Counting.{no}
+use Rattle.demands.proofs.Counting.{no}
 use Rattle.yring.specs.Cursor.{distance}
 use Rattle.lane.specs.declared.lane.Refill.{Refill}
 use Rattle.lane.specs.declared.lane.Refill.the-variants as Refill

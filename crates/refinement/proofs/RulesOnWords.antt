@@ -21,10 +21,10 @@ use Rattle.model.specs.Budget as rules-budget
 use Rattle.model.specs.Budget.{isTargeted}
 use Rattle.model.specs.OneTurn as rules-turn
 use Rattle.model.specs.Collections as rules-collections
-use Rattle.model.proofs.Demand2.{opens-as}
-use Rattle.model.proofs.Budget.{budget-counts-items, items-as-handed, as-many-as-handed}
-use Rattle.model.proofs.OneTurn.{at-most-64-in-one-turn}
-use Rattle.model.proofs.Collections.{at-most-64-between-collections, takes-one-group, stands-after-last, takes-all-groups, nothing-to-collect}
+use Rattle.demands.proofs.Demand2.{opens-as}
+use Rattle.demands.proofs.Budget.{budget-counts-items, items-as-handed, as-many-as-handed}
+use Rattle.demands.proofs.OneTurn.{at-most-64-in-one-turn}
+use Rattle.demands.proofs.Collections.{at-most-64-between-collections, takes-one-group, stands-after-last, takes-all-groups, nothing-to-collect}
 use Rattle.ready.specs.Ready.{collectReady}
 use Rattle.store.specs.View.{view}
 use Rattle.store.specs.Order.{StoreInOrder}

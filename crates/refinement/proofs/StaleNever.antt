@@ -18,7 +18,7 @@ use Rattle.model.specs.declared.Answer.{Answer}
 use Rattle.model.specs.Lists.{count}
 use Rattle.model.specs.State.{Slot, State}
 use Rattle.model.specs.Rules.{outcome}
-use Rattle.model.proofs.Counting.{same-self}
+use Rattle.demands.proofs.Counting.{same-self}
 use Rattle.lane.specs.Table.{laneAt}
 use Rattle.queues.specs.Header.{issued, queueCount}
 use Rattle.queues.specs.Queue.{queueOf, frontSlot}

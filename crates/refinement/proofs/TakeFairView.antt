@@ -12,7 +12,7 @@ use Rattle.model.specs.State.{State, keyOf}
 use Rattle.model.specs.Changes.{withBudget}
 use Rattle.model.specs.Ready as marks
 use Rattle.model.specs.Turn as rules
-use Rattle.model.proofs.Counting.{no}
+use Rattle.demands.proofs.Counting.{no}
 use Rattle.lane.specs.declared.lane.Lane.{Lane}
 use Rattle.lane.specs.declared.lane.Popped.{Popped}
 use Rattle.lane.specs.declared.lane.Popped.the-variants as Popped

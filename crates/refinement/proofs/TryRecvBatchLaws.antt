@@ -19,8 +19,8 @@ use Rattle.model.specs.Order.{Ordered}
 use Rattle.model.specs.Outcome.{Outcome, unless}
 use Rattle.model.specs.Turn.{Took}
 use Rattle.model.specs.Receive as rules
-use Rattle.model.proofs.Moves.{nothing-taken-gives-none}
-use Rattle.model.proofs.OrderKept.{release-all-ordered}
+use Rattle.demands.proofs.Moves.{nothing-taken-gives-none}
+use Rattle.demands.proofs.OrderKept.{release-all-ordered}
 use Rattle.store.specs.declared.refusal.Verdict.{Verdict}
 use Rattle.store.specs.declared.refusal.Verdict.the-variants.{Pass, Refuse}
 use Rattle.store.specs.View.{view}

@@ -17,7 +17,7 @@ use Rattle.model.specs.State.{Slot, State, keyOf}
 use Rattle.model.specs.Changes.{withQueue, put, settledEmpty}
 use Rattle.model.specs.Receive as rules
 use Rattle.model.specs.Rules.{outcome}
-use Rattle.model.proofs.Counting.{without-own, without-other}
+use Rattle.demands.proofs.Counting.{without-own, without-other}
 use Rattle.lane.specs.declared.lane.Lane.{Lane}
 use Rattle.lane.specs.declared.lane.EmptyLane.{EmptyLane}
 use Rattle.lane.specs.declared.lane.Refill.the-variants as Refill

@@ -12,7 +12,7 @@ use Rattle.model.specs.declared.LaneKey.{LaneKey}
 use Rattle.model.specs.Lists.{if, either, nonEmpty}
 use Rattle.model.specs.State.{Slot, State, keyOf}
 use Rattle.model.specs.Turn as rules
-use Rattle.model.proofs.OrderKept.{settle-empty-queue, before-next-turn-queue}
+use Rattle.demands.proofs.OrderKept.{settle-empty-queue, before-next-turn-queue}
 use Rattle.lane.specs.declared.lane.Lane.{Lane}
 use Rattle.lane.specs.declared.lane.EmptyLane.{EmptyLane}
 use Rattle.lane.specs.declared.lane.LanePoll.{LanePoll}

@@ -10,7 +10,7 @@ use lib.Dec.{eqb, ltb}
 use lib.ListN.{length, take, drop}
 use Rattle.model.specs.State.{Slot, keyOf}
 use Rattle.model.specs.Turn as rules
-use Rattle.model.proofs.FrontItem.{take-one-front}
+use Rattle.demands.proofs.FrontItem.{take-one-front}
 use Rattle.yring.specs.declared.ring.Ring.{Ring}
 use Rattle.lane.specs.declared.lane.Lane.{Lane}
 use Rattle.lane.specs.declared.lane.Popped.{Popped}

@@ -14,7 +14,7 @@ use Rattle.model.specs.State.{Slot, State, keyOf, releaseBatch}
 use Rattle.model.specs.Changes.{withQueue, withBudget, put, withRing, popped}
 use Rattle.model.specs.Order.{Ordered}
 use Rattle.model.specs.Turn as rules
-use Rattle.model.proofs.OrderKept as kept
+use Rattle.demands.proofs.OrderKept as kept
 use Rattle.lane.specs.declared.lane.Lane.{Lane}
 use Rattle.yring.specs.Ring.{ringOf}
 use Rattle.lane.specs.Lane.{held}

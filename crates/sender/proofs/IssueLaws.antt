@@ -15,8 +15,8 @@ use lib.ListN.{length}
 use Rattle.model.specs.Lists.{if, count}
 use Rattle.model.specs.State.{vacant, registeredLanes, livingSenders}
 use Rattle.model.specs.Changes.{withIssued, put}
-use Rattle.model.proofs.Counting.{Same, equal, other, same?}
-use Rattle.model.proofs.Words.{state-path}
+use Rattle.demands.proofs.Counting.{Same, equal, other, same?}
+use Rattle.demands.proofs.Words.{state-path}
 use Rattle.lane.specs.declared.lane.Lane.{Lane}
 use Rattle.yring.specs.Ring.{ringOf}
 use Rattle.lane.specs.Lane.{held}

@@ -23,8 +23,8 @@ use Rattle.model.specs.Changes.{put, withFree, withIssued}
 use Rattle.model.specs.Sender as rules-sender
 use Rattle.model.specs.Sender.{issueSlot, olderLives}
 use Rattle.model.specs.Rules.{outcome}
-use Rattle.model.proofs.Counting.{no as clash}
-use Rattle.model.proofs.OrderKept.{first-own}
+use Rattle.demands.proofs.Counting.{no as clash}
+use Rattle.demands.proofs.OrderKept.{first-own}
 use Rattle.lane.specs.declared.lane.Lane.{Lane}
 use Rattle.yring.specs.declared.ring.Ring.{Ring}
 use Rattle.yring.specs.Ring.{ringOf, items}

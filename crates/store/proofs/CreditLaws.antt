@@ -8,7 +8,7 @@ use lib.Dec.{eqb}
 use Rattle.model.specs.Lists.{if}
 use Rattle.model.specs.State.{Slot}
 use Rattle.model.specs.Changes.{withFlags, withSignal, withRing, withPaused, credited}
-use Rattle.model.proofs.Counting.{no}
+use Rattle.demands.proofs.Counting.{no}
 use Rattle.lane.specs.declared.lane.Lane.{Lane}
 use Rattle.lane.specs.declared.lane.Released.{Released}
 use Rattle.lane.specs.Lane.{closeFast, released, releaseAny, releasePending}

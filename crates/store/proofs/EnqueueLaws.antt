@@ -9,7 +9,7 @@ use borrow.Author.Tests.{le-leb}
 use lib.Dec.{ltb, leb, eqb}
 use lib.ListN.{length}
 use Rattle.model.specs.Lists as rules
-use Rattle.model.proofs.Counting.{equal, other, same?, same-self, count-append}
+use Rattle.demands.proofs.Counting.{equal, other, same?, same-self, count-append}
 use Rattle.lane.specs.Table.{headerWords, rowWords, head, cellAt, laneAt, putLane}
 use Rattle.lane.proofs.TableLaws.{frames}
 use Rattle.queues.specs.Header.{Shaped}

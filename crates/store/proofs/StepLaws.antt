@@ -12,7 +12,7 @@ use lib.ListN.{length}
 use lib.Bits.{or-lt}
 use lib.Pow.{pow-mono, pow-pos}
 use Rattle.model.specs.Lists as rules
-use Rattle.model.proofs.Counting.{equal, other, same?}
+use Rattle.demands.proofs.Counting.{equal, other, same?}
 use Rattle.lane.specs.declared.lane.Lane.{Lane}
 use Rattle.lane.specs.Table.{HasRow, headerWords, setHead, laneAt, putLane}
 use Rattle.lane.proofs.TableLaws.{frames, lane-own, other-lane-kept, has-row}

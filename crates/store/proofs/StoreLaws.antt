@@ -17,9 +17,9 @@ use Rattle.model.specs.Order.{Ordered, SlotOrdered, RingsFit, LaneFits}
 use Rattle.model.specs.Rules.{outcome}
 use Rattle.model.specs.declared.Call.{Call}
 use Rattle.model.specs.declared.Answer.{Answer}
-use Rattle.model.proofs.Counting.{equal, other, same?, no as clash}
-use Rattle.model.proofs.OrderKept.{first-own}
-use Rattle.model.proofs.InOrder.{call-keeps-order}
+use Rattle.demands.proofs.Counting.{equal, other, same?, no as clash}
+use Rattle.demands.proofs.OrderKept.{first-own}
+use Rattle.demands.proofs.InOrder.{call-keeps-order}
 use Rattle.lane.specs.declared.lane.Lane.{Lane}
 use Rattle.yring.specs.declared.ring.Ring.{Ring}
 use Rattle.yring.specs.Cursor.{distance}

@@ -13,8 +13,8 @@ use Rattle.model.specs.Lists as rules
 use Rattle.model.specs.Lists.{if}
 use Rattle.model.specs.State.{Slot, State, vacant}
 use Rattle.model.specs.Changes.{withQueue, withFree, withBudget, withCursor, withOpen, put, withFlags, withSignal, withRing}
-use Rattle.model.proofs.Counting.{Same, equal, other, same?}
-use Rattle.model.proofs.Words.{state-path}
+use Rattle.demands.proofs.Counting.{Same, equal, other, same?}
+use Rattle.demands.proofs.Words.{state-path}
 use Rattle.model.specs.declared.LaneKey.{LaneKey}
 use Rattle.lane.specs.declared.lane.Lane.{Lane}
 use Rattle.yring.specs.Cursor.{distance}

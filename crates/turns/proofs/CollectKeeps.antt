@@ -8,7 +8,7 @@ use native.Mathlib.Omega.{arith}
 use borrow.Author.Tests.{ltb-true}
 use lib.Dec.{eqb, ltb, leb}
 use Rattle.model.specs.Lists.{count}
-use Rattle.model.proofs.Counting.{equal, other, same?, count-append}
+use Rattle.demands.proofs.Counting.{equal, other, same?, count-append}
 use Rattle.lane.specs.declared.lane.Lane.{Lane}
 use Rattle.yring.specs.Lists.{tab}
 use Rattle.lane.specs.Order.{InOrder}

@@ -11,7 +11,7 @@ use borrow.Author.Tests.{eq-eqb}
 use lib.Dec.{eqb}
 use lib.ListN.{length}
 use Rattle.model.specs.Lists.{count}
-use Rattle.model.proofs.Counting.{equal, other, same?, same-self}
+use Rattle.demands.proofs.Counting.{equal, other, same?, same-self}
 use Rattle.lane.specs.declared.lane.Lane.{Lane}
 use Rattle.yring.specs.Ring.{ringOf, Within}
 use Rattle.lane.specs.Order.{InOrder}
