@@ -14,7 +14,7 @@ use Rattle.queues.specs.Queue.{queueOf}
 use Rattle.queues.proofs.QueueLaws.{queue-has-room}
 use Rattle.store.specs.View.{slotAt, view}
 use Rattle.store.specs.Order.{StoreInOrder}
-use Rattle.all_lanes.specs.Batch.{AllRefundable}
+use Rattle.all_lanes.specs.AllLanes.{AllRefundable}
 use Rattle.store.proofs.ViewLaws.{slot-in}
 use Rattle.store.proofs.StoreLaws.{flag-one}
 

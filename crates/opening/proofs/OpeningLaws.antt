@@ -24,7 +24,7 @@ use Rattle.demands.proofs.Words.{state-path}
 use Rattle.demands.proofs.Opened.{opened-ordered}
 use Rattle.yring.specs.Cursor.{Capacity}
 use Rattle.lane.specs.Table.{head, cellAt, headerWords, rowWords}
-use Rattle.queues.specs.Header.{issued, openedHeader, headerList, putHeader}
+use Rattle.queues.specs.Header.{issued, newHeader, headerList, putHeader}
 use Rattle.queues.specs.Queue.{queueOf}
 use Rattle.queues.proofs.HeaderLaws.{shaped-opened, queue-opened, free-opened, head-opened}
 use Rattle.store.specs.declared.refusal.Verdict.{Verdict}
@@ -92,7 +92,7 @@ module _ (o : Opening) (t r : List ℕ) where
   open-answers-alike =
       let a : Outcome = says Done (opened o) in
       answers-by (sizesVerdict o) sizeTests _ (unless storeTests (opened o) a) sizes-alike
-      (answers-by (storesVerdict (o .slots) C (length t) (length r)) storeTests (Done, putHeader t (openedHeader o C), r) a stores-alike refl)
+      (answers-by (storesVerdict (o .slots) C (length t) (length r)) storeTests (Done, putHeader t (newHeader o C), r) a stores-alike refl)
       ∙ ap (λ (z : Outcome). z .1 .0) (sym (unless-append sizeTests storeTests (opened o) a))
 
   -- ---- an opening that is accepted
@@ -102,7 +102,7 @@ module _ (o : Opening) (t r : List ℕ) where
     pub sized : Sized o
     pub rings-room : o .slots * C ≤ length r
     pub table-room : rowWords * o .slots + headerWords ≤ length t
-    pub leaves : openStore o t r ≡ (Done, putHeader t (openedHeader o C), r)
+    pub leaves : openStore o t r ≡ (Done, putHeader t (newHeader o C), r)
 
   pub accepted : (openStore o t r) .0 ≡ Done → Accepted
   unfolding openStore openSized unlessRefused
@@ -112,7 +112,7 @@ module _ (o : Opening) (t r : List ℕ) where
       refused e = let z : _≡_ {A = ℕ} 0 1 = cc in absurd (omega arith)
 
       go : (v : Verdict) → sizesVerdict o ≡ v → (w : Verdict) → storesVerdict (o .slots) C (length t) (length r) ≡ w
-          → (unlessRefused v t r (unlessRefused w t r (Done, putHeader t (openedHeader o C), r))) .0 ≡ Done → Accepted
+          → (unlessRefused v t r (unlessRefused w t r (Done, putHeader t (newHeader o C), r))) .0 ≡ Done → Accepted
       go Pass a Pass b e =
           let p = stores-pass (o .slots) C (length t) (length r) b in
           record { sized = sizes-pass o a; rings-room = p .0; table-room = p .1; leaves = rw (a, b) }
@@ -121,12 +121,12 @@ module _ (o : Opening) (t r : List ℕ) where
 
   module _ (a : Accepted) (e : (openStore o t r) .0 ≡ Done) where
     abbrev pub u : List ℕ
-    u = putHeader t (openedHeader o C)
+    u = putHeader t (newHeader o C)
 
     enough : cellAt 0 (o .slots) ≤ length t
     enough = omega (arith, a .table-room)
 
-    pub hd : (k : ℕ) → ltb k (length (headerList (openedHeader o C))) ≡ true → head u k ≡ getD (headerList (openedHeader o C)) k 0
+    pub hd : (k : ℕ) → ltb k (length (headerList (newHeader o C))) ≡ true → head u k ≡ getD (headerList (newHeader o C)) k 0
     hd = head-opened t o C (a .sized .slots-some) (a .sized .slots-most) enough
 
     none : issued u ≡ 0

@@ -13,11 +13,11 @@ use Rattle.model.specs.Receive as rules
 use Rattle.lane.specs.declared.lane.Lane.{Lane}
 use Rattle.yring.specs.Lists.{tab, written}
 use Rattle.yring.specs.Ring.{items}
-use Rattle.receive_batch.specs.declared.drain.Front.{Front}
-use Rattle.receive_batch.specs.declared.drain.Front.the-variants as Front
+use Rattle.receive_batch.specs.declared.batch.Front.{Front}
+use Rattle.receive_batch.specs.declared.batch.Front.the-variants as Front
 use Rattle.turns.specs.Turn.{Turning}
 use Rattle.turns.specs.Drained.{Idle}
-use Rattle.receive_batch.specs.Drain.{refreshActive, Fronts, chunkSize, chunkItems, chunkGiven, giveChunk, Drained, chunkThen, drainedWithin, drained, drainInto}
+use Rattle.receive_batch.specs.Batch.{refreshActive, Fronts, chunkSize, chunkItems, chunkGiven, giveChunk, Drained, chunkThen, drainedWithin, drained, drainInto}
 use Rattle.turns.proofs.FrontLaws.{Keeps, keeps-self, keeps-then}
 use Rattle.receive_batch.proofs.LookLaws.{Searched, refresh-searched}
 use Rattle.receive_batch.proofs.ChunkLaws.{chunk-least, chunk-some, chunk-filled, chunk-keeps}

@@ -12,12 +12,12 @@ use Rattle.demands.proofs.WholeChunk.{firstOf, given, ChunkFits, onto, take-up-
 use Rattle.lane.specs.declared.lane.Lane.{Lane}
 use Rattle.lane.specs.Lane.{chunkLimit}
 use Rattle.queues.specs.Header.{budget, capacity}
-use Rattle.queues.specs.Queue.{queueOf, frontSlot, poppedFront}
-use Rattle.receive_batch.specs.declared.drain.Front.{Front}
-use Rattle.receive_batch.specs.declared.drain.Front.the-variants as Front
+use Rattle.queues.specs.Queue.{queueOf, frontSlot, popFront}
+use Rattle.receive_batch.specs.declared.batch.Front.{Front}
+use Rattle.receive_batch.specs.declared.batch.Front.the-variants as Front
 use Rattle.store.specs.View.{view}
 use Rattle.store.specs.Order.{StoreInOrder}
-use Rattle.receive_batch.specs.Drain.{refreshActive, Reached, fullBudget, chunkSize, chunkGiven, Drained, chunkThen, drainedWithin, drained}
+use Rattle.receive_batch.specs.Batch.{refreshActive, Reached, fullBudget, chunkSize, chunkGiven, Drained, chunkThen, drainedWithin, drained}
 use Rattle.turns.proofs.DueLaws.{turning-of}
 use Rattle.receive_batch.proofs.LookLaws.{refresh-searched}
 use Rattle.refinement.proofs.LookView.{ReachedAs, none-queued, refresh-alike}
@@ -56,19 +56,19 @@ module _ (r : List ℕ) (s : State) (n left : ℕ) (some : 1 ≤ left) (enough :
     chunked : StoreInOrder (chunkGiven u c l) r
     chunked = chunk-in-order u r (a .in-order) l k c one (least .2) (least .1)
 
-    queue-seen : (polled s) .queue ≡ frontSlot u ∷ queueOf (poppedFront u)
+    queue-seen : (polled s) .queue ≡ frontSlot u ∷ queueOf (popFront u)
     unfolding view
     queue-seen = sym (ap (λ (z : State). z .queue) (a .alike)) ∙ chunk-queue u r (a .in-order) l k c one (least .2) (least .1)
 
     fits : ChunkFits (polled s) (frontSlot u) c
     fits = subst (λ (z : State). ChunkFits z (frontSlot u) c) (a .alike) (chunk-fits u r (a .in-order) l k c one (least .2) (least .1))
 
-    rules-chunk : takeUpTo left s ≡ onto (firstOf (view u r) (frontSlot u) c) (takeUpTo (left - c) (given (view u r) (frontSlot u) (queueOf (poppedFront u)) c))
+    rules-chunk : takeUpTo left s ≡ onto (firstOf (view u r) (frontSlot u) c) (takeUpTo (left - c) (given (view u r) (frontSlot u) (queueOf (popFront u)) c))
     rules-chunk =
-        subst (λ (z : State). takeUpTo left s ≡ onto (firstOf z (frontSlot u) c) (takeUpTo (left - c) (given z (frontSlot u) (queueOf (poppedFront u)) c))) (sym (a .alike))
-        (take-up-to-chunk left c s (frontSlot u) (queueOf (poppedFront u)) queue-seen fits (least .0))
+        subst (λ (z : State). takeUpTo left s ≡ onto (firstOf z (frontSlot u) c) (takeUpTo (left - c) (given z (frontSlot u) (queueOf (popFront u)) c))) (sym (a .alike))
+        (take-up-to-chunk left c s (frontSlot u) (queueOf (popFront u)) queue-seen fits (least .0))
 
-    rest : DrainedAs r (more (chunkGiven u c l) (left - c)) (takeUpTo (left - c) (given (view u r) (frontSlot u) (queueOf (poppedFront u)) c))
+    rest : DrainedAs r (more (chunkGiven u c l) (left - c)) (takeUpTo (left - c) (given (view u r) (frontSlot u) (queueOf (popFront u)) c))
     rest =
         subst (λ (z : State). DrainedAs r (more (chunkGiven u c l) (left - c)) (takeUpTo (left - c) z)) (chunk-view u r (a .in-order) l k c one (least .2) (least .1))
         (ih (chunkGiven u c l) (left - c) (omega (arith, one, enough)) chunked)

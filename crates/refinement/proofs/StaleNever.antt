@@ -26,7 +26,7 @@ use Rattle.store.specs.View.{flag, slotAt, view}
 use Rattle.store.specs.Order.{StoreInOrder}
 use Rattle.store.specs.Words.{Words}
 use Rattle.turns.specs.Turn.{Turning, pollFront}
-use Rattle.receive_batch.specs.Drain.{lookFront}
+use Rattle.receive_batch.specs.Batch.{lookFront}
 use Rattle.receive_from.specs.Target.{tryRecvFrom}
 use Rattle.store.proofs.ViewLaws.{slot-in}
 use Rattle.store.proofs.RefusalLaws.{seen}

@@ -28,8 +28,8 @@ use Rattle.store.specs.Order.{StoreInOrder}
 use Rattle.store.specs.Refusal.{andThen}
 use Rattle.store.specs.Words.{Words, withRings}
 use Rattle.turns.specs.Drained.{nothingTaken}
-use Rattle.all_lanes.specs.Batch.{releaseAll}
-use Rattle.receive_batch.specs.Drain.{Drained, drained, roomVerdict, batchVerdict, answerItems, batchAnswer, tryRecvBatchInto, handedBy, batchHands}
+use Rattle.all_lanes.specs.AllLanes.{releaseAll}
+use Rattle.receive_batch.specs.Batch.{Drained, drained, roomVerdict, batchVerdict, answerItems, batchAnswer, tryRecvBatchInto, handedBy, batchHands}
 use Rattle.store.proofs.RefusalLaws.{seen, firstOf, first-of-append, receiver-verdict, refused-alike, unless-refused-case}
 use Rattle.all_lanes.proofs.ReleaseConsumedLaws.{view-release-all, stores-release-all}
 use Rattle.refinement.proofs.NothingTakenLaws.{nothing-taken-alike, nothing-taken-keeps}

@@ -19,7 +19,7 @@ use Rattle.sender.specs.Sender.{senderWords}
 use Rattle.control.specs.Calls.{controlWords}
 use Rattle.receive.specs.Receive.{tryRecv, tryRecvFair}
 use Rattle.receive_from.specs.Target.{tryRecvFrom}
-use Rattle.receive_batch.specs.Drain.{tryRecvBatchInto, batchHands, batchInto}
+use Rattle.receive_batch.specs.Batch.{tryRecvBatchInto, batchHands, batchInto}
 use Rattle.refinement.specs.Hands.{handsOf}
 
 -- every receive
