@@ -38,12 +38,12 @@ use Rattle.receive_batch.specs.declared.batch.Front.{Front}
 use Rattle.receive_batch.specs.declared.batch.Front.the-variants as Front
 use Rattle.receive_batch.specs.declared.batch.Look.{Look}
 use Rattle.receive_batch.specs.declared.batch.Look.the-variants as Look
-use Rattle.turns.specs.Turn.{frontLane, retireIf, settleEmptyFront, meetBudget, rotateIf, turnBy, pollFront, after as afterTurn, turnsWithin, turns}
+use Rattle.turns.specs.Turn.{frontLane, retireIf, settleEmptyFront, meetBudget, rotateIf, turnBy, pollFront, afterTurn, turnsWithin, turns}
 use Rattle.turns.specs.Drained.{retireEmptyPaused, retireEmptyPausedLanes, emptyOrDrained, nothingTaken}
 use Rattle.receive.specs.Receive.{elseTake, takeFromWindow, fastTook, takeFast, takeIfPopped, takeFrontWindow, pollLoop, tryRecvRefill, takeOne, takeLone, takeFair, answerOne, tryRecv, tryRecvFair}
 use Rattle.turns.specs.Due.{collectIfDue}
 use Rattle.receive_from.specs.Target.{settleTarget, queueTarget, keepTarget, targetTook, takeFrom, tryRecvFrom}
-use Rattle.receive_batch.specs.Batch.{lookBy, lookFront, afterLook, runDownWithin, runDown, elseFront, refreshActive, fullBudget, chunkSize, gaveChunk, chunkGiven, Drained, chunkThen, drainedWithin, drained, answerItems, batchAnswer, tryRecvBatchInto}
+use Rattle.receive_batch.specs.Batch.{lookBy, lookFront, afterLook, runDownWithin, runDown, elseFront, refreshActive, fullBudget, chunkSize, gaveChunk, chunkGiven, HandsAndTable, chunkThen, drainedWithin, drained, answerItems, batchAnswer, tryRecvBatchInto}
 use Rattle.refinement.specs.Runs.{receiveWords, callWords}
 use Rattle.turns.proofs.FrontLaws.{head-left, head-met, head-gave}
 use Rattle.refinement.proofs.HeaderSteps.{place, Unwritten, Kept, At, other-word, at-by, at-put, at-head, at-pushed-back, at-removed, at-marked-if-idle, at-retired, at-slots, at-collected, unless-at, sender-at, control-at, at-release-all}
@@ -240,7 +240,7 @@ module _ {c : Kept} where
       (λ d. at-by (putLane t (e .lane)) p _ (head-rotated (putLane t (e .lane)) (c .word) (c .unwritten .inside) (other-word c (place queueFront) refl))) (λ d. p))
       (place budget) (fullBudget (budget t) - n) refl
 
-  at-chunk-then : (f : Front × List ℕ) (r : List ℕ) (left : ℕ) (more : List ℕ → ℕ → Drained) → At c (f .1) → ((u : List ℕ) (m : ℕ) → At c u → At c ((more u m) .1))
+  at-chunk-then : (f : Front × List ℕ) (r : List ℕ) (left : ℕ) (more : List ℕ → ℕ → HandsAndTable) → At c (f .1) → ((u : List ℕ) (m : ℕ) → At c u → At c ((more u m) .1))
       → At c ((chunkThen f r left more) .1)
   unfolding chunkThen
   at-chunk-then (Front.None, t) r left more h g = h
