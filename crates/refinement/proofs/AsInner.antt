@@ -48,8 +48,8 @@ module _ (M : StoreCalls) (i : AsInner M) where
     pub words-keep : (c : Call) → StoreInOrder ((M .words t r c) .1) ((M .words t r c) .2)
     words-keep c = rw (i .same-words t r o c) (inner.call-keeps t r o c)
 
-    pub hands-alike : (c : ReceiveCall) → M .hands t r c ≡ (receiveOutcome (view t r) c) .0
-    hands-alike c = i .same-hands t r o c ∙ inner.hands-alike t r o c
+    pub handed-alike : (c : ReceiveCall) → M .hands t r c ≡ (receiveOutcome (view t r) c) .0
+    handed-alike c = i .same-hands t r o c ∙ inner.hands-alike t r o c
 
   calls-keep : (w : List ℕ × List ℕ) (calls : List Call) → StoreInOrder (w .0) (w .1)
       → let end = afterList (listsOf M) w calls in StoreInOrder (end .0) (end .1)
