@@ -26,7 +26,7 @@ use Rattle.store.specs.Order.{Flags, Stores, StoreInOrder}
 use Rattle.store.specs.Registry.{retired, retireLane}
 use Rattle.turns.specs.Turn.{retireIf}
 use Rattle.store.proofs.ViewLaws.{slot-in, view-put-lane}
-use Rattle.store.proofs.StepLaws.{Step}
+use Rattle.store.proofs.StepLaws.{Step, issued-kept}
 use Rattle.store.proofs.StoreLaws.{lane-counted, registered-seen, OtherWindows, Owes, stores-after}
 use Rattle.store.proofs.SignalLaws.{idle-flag}
 use Rattle.store.proofs.RetireLaws.{view-retire-lane, step-retire-lane}
@@ -92,7 +92,7 @@ module _ (t r : List ℕ) (o : StoreInOrder t r) (x : ℕ) (h : x < issued t) (g
         go : (b : Bool) → view (cond b (retireLane u l) u) r ≡ rules.retireLaneIf b x (withQueue w (put x (settledEmpty slot) (view t r)))
         go true =
             ap (λ (m : Lane). view (retireLane u m) r) (sym (step .own))
-            ∙ view-retire-lane u r (step .shaped) x (rw (step .same-issued) h) room
+            ∙ view-retire-lane u r (step .shaped) x (rw (issued-kept step) h) room
             ∙ ap (rules.retireLane x) settled
         go false = settled
 

@@ -34,7 +34,7 @@ use Rattle.turns.specs.Drained.{retireEmptyPaused, retireEmptyPausedLanes, empt
 use Rattle.store.specs.Words.{withRings}
 use Rattle.store.proofs.ViewLaws.{slot-in}
 use Rattle.store.proofs.RefusalLaws.{seen}
-use Rattle.store.proofs.StepLaws.{Step, step-start}
+use Rattle.store.proofs.StepLaws.{Step, step-start, issued-kept}
 use Rattle.store.proofs.StoreLaws.{Owes, stores-after, windows-kept, lane-counted, room-in-free, issued-ring-in}
 use Rattle.store.proofs.RetireLaws.{view-retire-as, step-retire-lane}
 use Rattle.refinement.proofs.SameFlags.{flags-by, slot-by}
@@ -154,7 +154,7 @@ module _ (t r : List ℕ) (o : StoreInOrder t r) (x : ℕ) (h : x < issued t) wh
   view-slot = slot-cases (λ u b. view u r ≡ turns.retireLaneIf b x (view t r)) (λ g. view-retired-looked t r (o .stores) x h (room-if g)) refl
 
   issued-slot : issued (retireEmptyPaused t x) ≡ issued t
-  issued-slot = slot-cases (λ u b. issued u ≡ issued t) (λ g. step-retired t r (o .stores) x h g (room-if g) .same-issued) refl
+  issued-slot = slot-cases (λ u b. issued u ≡ issued t) (λ g. issued-kept (step-retired t r (o .stores) x h g (room-if g))) refl
 
   slot-in-order : StoreInOrder (retireEmptyPaused t x) r
   unfolding rules.retireEmptyPausedLanes

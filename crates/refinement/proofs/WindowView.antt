@@ -27,7 +27,7 @@ use Rattle.store.specs.View.{slotAt, view}
 use Rattle.store.specs.Order.{Stores, StoreInOrder}
 use Rattle.receive.specs.Receive.{takeFromWindow}
 use Rattle.store.proofs.ViewLaws.{slot-in, view-put-holding, view-budget}
-use Rattle.store.proofs.StepLaws.{Step, step-start, step-put-lane, step-budget, step-fast-slot}
+use Rattle.store.proofs.StepLaws.{Step, step-start, step-put-lane, step-budget, step-fast-slot, issued-kept, capacity-kept}
 use Rattle.store.proofs.StoreLaws.{below-slots, Owes, stores-after, windows-front}
 use Rattle.store.proofs.LaneFields.{Flagged, flagged}
 use Rattle.refinement.proofs.SameFlags.{flags-by, slot-by, key-by}
@@ -71,8 +71,8 @@ module _ (t r : List ℕ) (o : StoreInOrder t r) (x : ℕ) (q : List ℕ) (e : q
 
   view-stored : view (putLane u m) r ≡ put x (withRing left (unreleasedSeen m) (burstSeen m) slot) (view t r)
   view-stored =
-      view-put-holding u r (s .shaped) x (rw (s .same-issued) (front .is-issued)) m (ap (λ (z : Flagged). z .0) flags-now) left
-      (ap (λ (C : ℕ). heldItems (newRing x C) r m) (s .same-capacity))
+      view-put-holding u r (s .shaped) x (rw (issued-kept s) (front .is-issued)) m (ap (λ (z : Flagged). z .0) flags-now) left
+      (ap (λ (C : ℕ). heldItems (newRing x C) r m) (capacity-kept s))
       (ap (λ (z : Flagged). z .1) flags-now) (ap (λ (z : Flagged). z .3) flags-now) (ap (λ (z : Flagged). z .2) flags-now) (ap (λ (z : Flagged). z .5) flags-now)
       ∙ ap (λ (v : State). put x (withRing left (unreleasedSeen m) (burstSeen m) (v .slotOf x)) v) same
 

@@ -2,7 +2,7 @@
 -- Assumes nothing.
 use mathlib.Core.Path.{_≡_, refl, sym, ap, _∙_}
 use mathlib.Core.Logic.{_≢_}
-use mathlib.Core.Bool.{true, false}
+use mathlib.Core.Bool.{Bool, true}
 use mathlib.Core.List.{List, [], _∷_, _++_}
 use Prim.Native.Nat.{ℕ, suc, _+_, _-_, _/_, _%_, _^_, _≤_, _<_}
 use native.Mathlib.Nat.{pow-suc}
@@ -12,18 +12,20 @@ use lib.ListN.{length}
 use lib.Bits.{or-lt}
 use lib.Pow.{pow-mono, pow-pos}
 use Rattle.model.specs.Lists as rules
+use Rattle.model.specs.Lists.{either}
 use Rattle.demands.proofs.Counting.{equal, other, same?}
 use Rattle.lane.specs.declared.lane.Lane.{Lane}
-use Rattle.lane.specs.Table.{HasRow, headerWords, setHead, laneAt, putLane}
-use Rattle.lane.proofs.TableLaws.{frames, lane-own, other-lane-kept, has-row}
-use Rattle.queues.specs.Header.{Shaped, issued, slots, budget, alive, capacity, firstCursor, fastSlot, laneCount, livingCount, freeCount, queueCount}
+use Rattle.lane.specs.Table.{HasRow, headerWords, head, setHead, laneAt, putLane}
+use Rattle.lane.proofs.TableLaws.{frames, head-putLane, lane-own, other-lane-kept, other-head-kept, has-row}
+use Rattle.queues.specs.Header.{Shaped, issued, slots, budget, alive, capacity, firstCursor, fastSlot, laneCount, livingCount, freeCount, queueFront, queueCount, setBudget, setFastSlot, setLaneCount, setLivingCount}
 use Rattle.queues.specs.Queue.{queueOf, pushBack, popFront, rotateLeft, remove}
 use Rattle.queues.specs.Registry.{free, reissue}
 use Rattle.ready.specs.Ready.{pageWord, groupWord, Linked, mark}
-use Rattle.queues.proofs.QueueLaws.{queue-frames, header-in, length-queue, queue-pushed-back, queue-popped-front, queue-rotated, queue-removed, shaped-pushed-back, shaped-popped-front, shaped-rotated, shaped-removed, shaped-putLane}
-use Rattle.queues.proofs.RegistryLaws.{registry-frames, shaped-freed, shaped-reissued}
+use Rattle.queues.proofs.QueueLaws.{queue-frames, head-pushed-back, head-popped-front, head-rotated, head-removed, header-in, length-queue, queue-pushed-back, queue-popped-front, queue-rotated, queue-removed, shaped-pushed-back, shaped-popped-front, shaped-rotated, shaped-removed, shaped-putLane}
+use Rattle.queues.proofs.RegistryLaws.{registry-frames, head-freed, head-reissued, shaped-freed, shaped-reissued}
 use Rattle.ready.proofs.MarkLaws.{marked-case, head-marked, lane-marked, queue-marked, page-marked, other-page-marked, linked-marked}
 use Rattle.store.specs.Order.{MarkWords, Stores}
+use Rattle.store.proofs.HeaderWords.{place, Beside, apart}
 use Rattle.store.proofs.ViewLaws.{row-in, without-alike}
 
 -- marks stay linked where page words, group words and the number of issued slots stay
@@ -71,16 +73,18 @@ mark-words-marked t x s h k =
           (λ z. simp frames (k .groups-fit g (rw same at l)));
     }
 
+-- the header words that such a run may change
+abbrev pub moved : ℕ → Bool
+moved j =
+    either (eqb (place queueFront) j) (either (eqb (place queueCount) j) (either (eqb (place freeCount) j) (either (eqb (place budget) j)
+    (either (eqb (place fastSlot) j) (either (eqb (place laneCount) j) (eqb (place livingCount) j))))))
+
 -- From t to u lane x became l and no other lane changed; the queue is now w, `fast_slot` f, the budget b, the counts of lanes and living senders n and m.
 pub record Step (t u : List ℕ) (x : ℕ) (l : Lane) (w : List ℕ) (f b n m : ℕ) : Type 0 where
   pub shaped : Shaped u
   pub linked : Linked u
   pub mark-words : MarkWords t → MarkWords u
-  pub same-issued : issued u ≡ issued t
-  pub same-slots : slots u ≡ slots t
-  pub same-capacity : capacity u ≡ capacity t
-  pub same-alive : alive u ≡ alive t
-  pub same-cursor : firstCursor u ≡ firstCursor t
+  pub same : (j : ℕ) → Beside moved j → head u j ≡ head t j
   pub own : laneAt u x ≡ l
   pub others : (y : ℕ) → x ≢ y → laneAt u y ≡ laneAt t y
   pub queue : queueOf u ≡ w
@@ -96,11 +100,7 @@ step-from t s k x =
       shaped = s;
       linked = k;
       mark-words = λ m. m;
-      same-issued = refl;
-      same-slots = refl;
-      same-capacity = refl;
-      same-alive = refl;
-      same-cursor = refl;
+      same = λ j i. refl;
       own = refl;
       others = λ y n. refl;
       queue = refl;
@@ -113,43 +113,47 @@ step-from t s k x =
 pub step-start : (t r : List ℕ) → Stores t r → (x : ℕ) → Step t t x (laneAt t x) (queueOf t) (fastSlot t) (budget t) (laneCount t) (livingCount t)
 step-start t r o x = step-from t (o .shaped) (o .linked) x
 
--- the header words that no such run changes
-abbrev Sizes : Type 0
-Sizes = ℕ × ℕ × ℕ × ℕ × ℕ
-
-abbrev sizesOf : List ℕ → Sizes
-sizesOf t = (issued t, slots t, capacity t, alive t, firstCursor t)
-
--- A store that changes no lane, no mark and none of those words.
+-- A store that changes no lane, no mark and no other header words than such a run may.
 record Same (u v : List ℕ) : Type 0 where
-  sizes : sizesOf v ≡ sizesOf u
+  heads : (j : ℕ) → Beside moved j → head v j ≡ head u j
   lanes : (y : ℕ) → laneAt v y ≡ laneAt u y
   pages : (p : ℕ) → pageWord v p ≡ pageWord u p
   groups : (g : ℕ) → groupWord v g ≡ groupWord u g
 
-same-head : (u : List ℕ) (j v : ℕ) → ltb j headerWords ≡ true → eqb j 0 ≡ false → eqb j 4 ≡ false → eqb j 7 ≡ false → eqb j 8 ≡ false → eqb j 10 ≡ false → Same u (setHead u j v)
-same-head u j v p a b c d e =
+same-head : (u : List ℕ) (k v : ℕ) → ltb k headerWords ≡ true → moved k ≡ true → Same u (setHead u k v)
+same-head u k v p e =
     record {
-      sizes = simp (frames, a, b, c, d, e);
+      heads = λ j i. other-head-kept u k v j (apart i k e);
       lanes = λ y. simp (frames, p);
       pages = λ y. simp (frames, p);
       groups = λ y. simp (frames, p);
     }
 
 module _ {t u : List ℕ} {x : ℕ} {l : Lane} {w : List ℕ} {f b n m : ℕ} (k : Step t u x l w f b n m) where
+  pub issued-kept : issued u ≡ issued t
+  issued-kept = k .same (place issued) (record { in-header = refl; not-one = refl })
+
+  pub slots-kept : slots u ≡ slots t
+  slots-kept = k .same (place slots) (record { in-header = refl; not-one = refl })
+
+  pub capacity-kept : capacity u ≡ capacity t
+  capacity-kept = k .same (place capacity) (record { in-header = refl; not-one = refl })
+
+  pub alive-kept : alive u ≡ alive t
+  alive-kept = k .same (place alive) (record { in-header = refl; not-one = refl })
+
+  pub cursor-kept : firstCursor u ≡ firstCursor t
+  cursor-kept = k .same (place firstCursor) (record { in-header = refl; not-one = refl })
+
   step-same : {v w′ : List ℕ} {f′ b′ n′ m′ : ℕ} → Same u v → Shaped v → queueOf v ≡ w′ → fastSlot v ≡ f′ → budget v ≡ b′ → laneCount v ≡ n′ → livingCount v ≡ m′
       → Step t v x l w′ f′ b′ n′ m′
   step-same {v = v} same s q f′ b′ n′ m′ =
-      let e : issued v ≡ issued u = ap (λ (z : Sizes). z .0) (same .sizes) in
+      let e : issued v ≡ issued u = same .heads (place issued) (record { in-header = refl; not-one = refl }) in
       record {
         shaped = s;
         linked = linked-by u v e (same .pages) (same .groups) (k .linked);
         mark-words = λ q. mark-words-by u v e (same .pages) (same .groups) (k .mark-words q);
-        same-issued = e ∙ k .same-issued;
-        same-slots = ap (λ (z : Sizes). z .1) (same .sizes) ∙ k .same-slots;
-        same-capacity = ap (λ (z : Sizes). z .2) (same .sizes) ∙ k .same-capacity;
-        same-alive = ap (λ (z : Sizes). z .3) (same .sizes) ∙ k .same-alive;
-        same-cursor = ap (λ (z : Sizes). z .4) (same .sizes) ∙ k .same-cursor;
+        same = λ j i. same .heads j i ∙ k .same j i;
         own = same .lanes x ∙ k .own;
         others = λ y d. same .lanes y ∙ k .others y d;
         queue = q;
@@ -166,12 +170,8 @@ module _ {t u : List ℕ} {x : ℕ} {l : Lane} {w : List ℕ} {f b n m : ℕ} (k
         shaped = shaped-putLane u (k .shaped) o;
         linked = linked-by u (putLane u o) (simp frames) (λ p. simp frames) (λ g. simp frames) (k .linked);
         mark-words = λ q. mark-words-by u (putLane u o) (simp frames) (λ p. simp frames) (λ g. simp frames) (k .mark-words q);
-        same-issued = simp frames (k .same-issued);
-        same-slots = simp frames (k .same-slots);
-        same-capacity = simp frames (k .same-capacity);
-        same-alive = simp frames (k .same-alive);
-        same-cursor = simp frames (k .same-cursor);
-        own = lane-own u o x e (has-row u x (row-in u (k .shaped) x (rw (k .same-issued) h)));
+        same = λ j i. head-putLane u o j (i .in-header) ∙ k .same j i;
+        own = lane-own u o x e (has-row u x (row-in u (k .shaped) x (rw issued-kept h)));
         others = λ y d. other-lane-kept u o y (λ p. d (sym (p ∙ e))) ∙ k .others y d;
         queue = simp queue-frames (k .queue);
         fast = simp frames (k .fast);
@@ -186,28 +186,24 @@ module _ {t u : List ℕ} {x : ℕ} {l : Lane} {w : List ℕ} {f b n m : ℕ} (k
       let hd = head-marked u z in
       record {
         shaped = marked-case u z Shaped (λ e. simp frames (k .shaped)) (λ e. simp frames (k .shaped));
-        linked = linked-marked u z (k .shaped) (rw (k .same-issued) h) (k .linked);
-        mark-words = λ q. mark-words-marked u z (k .shaped) (rw (k .same-issued) h) (k .mark-words q);
-        same-issued = hd 0 refl ∙ k .same-issued;
-        same-slots = hd 4 refl ∙ k .same-slots;
-        same-capacity = hd 8 refl ∙ k .same-capacity;
-        same-alive = hd 7 refl ∙ k .same-alive;
-        same-cursor = hd 10 refl ∙ k .same-cursor;
+        linked = linked-marked u z (k .shaped) (rw issued-kept h) (k .linked);
+        mark-words = λ q. mark-words-marked u z (k .shaped) (rw issued-kept h) (k .mark-words q);
+        same = λ j i. hd j (i .in-header) ∙ k .same j i;
         own = lane-marked u z x ∙ k .own;
         others = λ y d. lane-marked u z y ∙ k .others y d;
         queue = queue-marked u z ∙ k .queue;
-        fast = hd 12 refl ∙ k .fast;
-        poll = hd 5 refl ∙ k .poll;
-        lanes = hd 13 refl ∙ k .lanes;
-        living = hd 14 refl ∙ k .living;
+        fast = hd (place fastSlot) refl ∙ k .fast;
+        poll = hd (place budget) refl ∙ k .poll;
+        lanes = hd (place laneCount) refl ∙ k .lanes;
+        living = hd (place livingCount) refl ∙ k .living;
       }
 
   -- a slot at the back of the queue, where that has room
   pub step-pushed-back : (z : ℕ) → length w < slots t → Step t (pushBack u z) x l (w ++ (z ∷ [])) f b n m
   step-pushed-back z h =
-      let room : queueCount u < slots u = omega (arith, length-queue u, ap length (k .queue), k .same-slots) in
+      let room : queueCount u < slots u = omega (arith, length-queue u, ap length (k .queue), slots-kept) in
       step-same
-      (record { sizes = simp queue-frames; lanes = λ y. simp queue-frames; pages = λ y. simp queue-frames; groups = λ y. simp queue-frames })
+      (record { heads = λ j i. head-pushed-back u z j (i .in-header) (apart i (place queueCount) refl); lanes = λ y. simp queue-frames; pages = λ y. simp queue-frames; groups = λ y. simp queue-frames })
       (shaped-pushed-back u (k .shaped) z room)
       (queue-pushed-back u (k .shaped) z room ∙ ap (λ (q : List ℕ). q ++ (z ∷ [])) (k .queue))
       (simp queue-frames (k .fast)) (simp queue-frames (k .poll)) (simp queue-frames (k .lanes)) (simp queue-frames (k .living))
@@ -216,7 +212,7 @@ module _ {t u : List ℕ} {x : ℕ} {l : Lane} {w : List ℕ} {f b n m : ℕ} (k
   pub step-removed : (z : ℕ) → Step t (remove u z) x l (rules.without z w) f b n m
   step-removed z =
       step-same
-      (record { sizes = simp queue-frames; lanes = λ y. simp queue-frames; pages = λ y. simp queue-frames; groups = λ y. simp queue-frames })
+      (record { heads = λ j i. head-removed u z j (i .in-header) (apart i (place queueCount) refl); lanes = λ y. simp queue-frames; pages = λ y. simp queue-frames; groups = λ y. simp queue-frames })
       (shaped-removed u (k .shaped) z)
       (queue-removed u (k .shaped) z ∙ without-alike z (queueOf u) ∙ ap (rules.without z) (k .queue))
       (simp queue-frames (k .fast)) (simp queue-frames (k .poll)) (simp queue-frames (k .lanes)) (simp queue-frames (k .living))
@@ -226,7 +222,7 @@ module _ {t u : List ℕ} {x : ℕ} {l : Lane} {w : List ℕ} {f b n m : ℕ} (k
     pub step-popped-front : Step t (popFront u) x l q f b n m
     step-popped-front =
         step-same
-        (record { sizes = simp queue-frames; lanes = λ y. simp queue-frames; pages = λ y. simp queue-frames; groups = λ y. simp queue-frames })
+        (record { heads = λ j i. head-popped-front u j (apart i (place queueFront) refl) (apart i (place queueCount) refl); lanes = λ y. simp queue-frames; pages = λ y. simp queue-frames; groups = λ y. simp queue-frames })
         (shaped-popped-front u (k .shaped))
         (queue-popped-front u (k .shaped) z q (k .queue ∙ e))
         (simp queue-frames (k .fast)) (simp queue-frames (k .poll)) (simp queue-frames (k .lanes)) (simp queue-frames (k .living))
@@ -235,7 +231,7 @@ module _ {t u : List ℕ} {x : ℕ} {l : Lane} {w : List ℕ} {f b n m : ℕ} (k
     pub step-rotated : Step t (rotateLeft u) x l (q ++ (z ∷ [])) f b n m
     step-rotated =
         step-same
-        (record { sizes = simp queue-frames; lanes = λ y. simp queue-frames; pages = λ y. simp queue-frames; groups = λ y. simp queue-frames })
+        (record { heads = λ j i. head-rotated u j (i .in-header) (apart i (place queueFront) refl); lanes = λ y. simp queue-frames; pages = λ y. simp queue-frames; groups = λ y. simp queue-frames })
         (shaped-rotated u (k .shaped))
         (queue-rotated u (k .shaped) z q (k .queue ∙ e))
         (simp queue-frames (k .fast)) (simp queue-frames (k .poll)) (simp queue-frames (k .lanes)) (simp queue-frames (k .living))
@@ -244,7 +240,7 @@ module _ {t u : List ℕ} {x : ℕ} {l : Lane} {w : List ℕ} {f b n m : ℕ} (k
   pub step-freed : (z : ℕ) → freeCount u < slots u → Step t (free u z) x l w f b n m
   step-freed z room =
       step-same
-      (record { sizes = simp registry-frames; lanes = λ y. simp registry-frames; pages = λ y. simp registry-frames; groups = λ y. simp registry-frames })
+      (record { heads = λ j i. head-freed u z j (i .in-header) (apart i (place freeCount) refl); lanes = λ y. simp registry-frames; pages = λ y. simp registry-frames; groups = λ y. simp registry-frames })
       (shaped-freed u (k .shaped) z room)
       (simp registry-frames (k .queue))
       (simp registry-frames (k .fast)) (simp registry-frames (k .poll)) (simp registry-frames (k .lanes)) (simp registry-frames (k .living))
@@ -253,31 +249,31 @@ module _ {t u : List ℕ} {x : ℕ} {l : Lane} {w : List ℕ} {f b n m : ℕ} (k
   pub step-reissued : Step t (reissue u) x l w f b n m
   step-reissued =
       step-same
-      (record { sizes = simp registry-frames; lanes = λ y. simp registry-frames; pages = λ y. simp registry-frames; groups = λ y. simp registry-frames })
+      (record { heads = λ j i. head-reissued u j (apart i (place freeCount) refl); lanes = λ y. simp registry-frames; pages = λ y. simp registry-frames; groups = λ y. simp registry-frames })
       (shaped-reissued u (k .shaped))
       (simp registry-frames (k .queue))
       (simp registry-frames (k .fast)) (simp registry-frames (k .poll)) (simp registry-frames (k .lanes)) (simp registry-frames (k .living))
 
   -- the budget
-  pub step-budget : (v : ℕ) → Step t (setHead u 5 v) x l w f v n m
+  pub step-budget : (v : ℕ) → Step t (setBudget u v) x l w f v n m
   step-budget v =
-      step-same (same-head u 5 v refl refl refl refl refl refl) (simp frames (k .shaped)) (simp queue-frames (k .queue))
+      step-same (same-head u (place budget) v refl refl) (simp frames (k .shaped)) (simp queue-frames (k .queue))
       (simp frames (k .fast)) (simp (frames, header-in u (k .shaped))) (simp frames (k .lanes)) (simp frames (k .living))
 
   -- `fast_slot`
-  pub step-fast-slot : (v : ℕ) → Step t (setHead u 12 v) x l w v b n m
+  pub step-fast-slot : (v : ℕ) → Step t (setFastSlot u v) x l w v b n m
   step-fast-slot v =
-      step-same (same-head u 12 v refl refl refl refl refl refl) (simp frames (k .shaped)) (simp queue-frames (k .queue))
+      step-same (same-head u (place fastSlot) v refl refl) (simp frames (k .shaped)) (simp queue-frames (k .queue))
       (simp (frames, header-in u (k .shaped))) (simp frames (k .poll)) (simp frames (k .lanes)) (simp frames (k .living))
 
   -- the count of lanes
-  pub step-lane-count : (v : ℕ) → Step t (setHead u 13 v) x l w f b v m
+  pub step-lane-count : (v : ℕ) → Step t (setLaneCount u v) x l w f b v m
   step-lane-count v =
-      step-same (same-head u 13 v refl refl refl refl refl refl) (simp frames (k .shaped)) (simp queue-frames (k .queue))
+      step-same (same-head u (place laneCount) v refl refl) (simp frames (k .shaped)) (simp queue-frames (k .queue))
       (simp frames (k .fast)) (simp frames (k .poll)) (simp (frames, header-in u (k .shaped))) (simp frames (k .living))
 
   -- the count of living senders
-  pub step-living-count : (v : ℕ) → Step t (setHead u 14 v) x l w f b n v
+  pub step-living-count : (v : ℕ) → Step t (setLivingCount u v) x l w f b n v
   step-living-count v =
-      step-same (same-head u 14 v refl refl refl refl refl refl) (simp frames (k .shaped)) (simp queue-frames (k .queue))
+      step-same (same-head u (place livingCount) v refl refl) (simp frames (k .shaped)) (simp queue-frames (k .queue))
       (simp frames (k .fast)) (simp frames (k .poll)) (simp frames (k .lanes)) (simp (frames, header-in u (k .shaped)))

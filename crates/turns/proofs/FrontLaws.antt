@@ -36,7 +36,7 @@ use Rattle.turns.specs.declared.turn.Turn.{Turn}
 use Rattle.turns.specs.declared.turn.Turn.the-variants as Turn
 use Rattle.turns.specs.Turn.{Turning, Ringed, retireIf, settleEmptyFront, meetBudget, lessOne, rotateIf, gaveFront, turnBy, pollFront, afterTurn, turnsWithin, turns}
 use Rattle.store.proofs.CountLaws.{one}
-use Rattle.store.proofs.StepLaws.{Step, step-from, step-put-lane, step-popped-front, step-rotated, step-freed, step-budget, step-lane-count}
+use Rattle.store.proofs.StepLaws.{Step, slots-kept, step-from, step-put-lane, step-popped-front, step-rotated, step-freed, step-budget, step-lane-count}
 use Rattle.store.proofs.RetireFrames.{freed-unless-last-is, length-retire-lane}
 use Rattle.store.proofs.LaneFields.{Fixed, Flagged, flagged, Emptied, PollKept, poll-kept}
 use Rattle.turns.proofs.TurnLaws.{slot-below, some-lane, not-free, free-room, queue-is, front-issued, front-registered, front-alone, front-ordered, turning-step, turning-met}
@@ -60,7 +60,7 @@ module _ {t u : List ℕ} {x : ℕ} {l : Lane} {w : List ℕ} {f b n m : ℕ} (k
   free-lowered = let a : freeOf lowered ≡ freeOf u = simp registry-frames in a ∙ kept
 
   room-lowered : freeCount lowered < slots lowered
-  room-lowered = omega (arith, ap length free-lowered, step-lowered .same-slots, free-length lowered, free-length t, free-room t k x h e)
+  room-lowered = omega (arith, ap length free-lowered, slots-kept step-lowered, free-length lowered, free-length t, free-room t k x h e)
     where
       free-length : (v : List ℕ) → length (freeOf v) ≡ freeCount v
       free-length v = length-free v

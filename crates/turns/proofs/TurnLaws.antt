@@ -29,7 +29,7 @@ use Rattle.queues.proofs.RegistryLaws.{registry-frames, length-free}
 use Rattle.store.specs.View.{flag}
 use Rattle.turns.specs.Turn.{registeredIn, Turning, Ringed, meetBudget}
 use Rattle.store.proofs.CountLaws.{one, passing-same, passing-but, passing-some}
-use Rattle.store.proofs.StepLaws.{Step, linked-by}
+use Rattle.store.proofs.StepLaws.{Step, linked-by, issued-kept, slots-kept, capacity-kept}
 
 -- ---- what a registered lane gives
 
@@ -97,7 +97,7 @@ module _ {t u : List ℕ} {x : ℕ} {l : Lane} {w : List ℕ} {f b n m : ℕ} (k
       let c = passing-but (λ y. flag (laneAt u y .registered)) (λ y. flag (laneAt t y .registered)) x 0 (issued t) (omega arith) (omega arith)
       (λ y d. ap (λ (z : Lane). flag (z .registered)) (s .others y d)) in
       let o : one (flag (laneAt u x .registered)) ≡ one (flag (l .registered)) = ap (λ (z : Lane). one (flag (z .registered))) (s .own) in
-      rw (s .same-issued) (omega (arith, s .lanes, k .counted, c, o, e))
+      rw (issued-kept s) (omega (arith, s .lanes, k .counted, c, o, e))
 
   -- the lane's own place in the queue and in the free list; the other lanes have theirs
   pub turning-step : (l .registered ≡ 1 → InOrder (capacity t) l)
@@ -107,21 +107,21 @@ module _ {t u : List ℕ} {x : ℕ} {l : Lane} {w : List ℕ} {f b n m : ℕ} (k
   turning-step o wo w1 wr wq fo f1 fr c =
       record {
         shaped = s .shaped;
-        power = rw (s .same-capacity) (k .power);
+        power = rw (capacity-kept s) (k .power);
         names =
             record {
               once = λ y. rw (s .queue) (once y);
-              issued-only = λ y a. rw (s .same-issued) (only y (rw (s .queue) at a));
-              flagged = λ y a. rw (s .queue) (flagged y (rw (s .same-issued) at a));
+              issued-only = λ y a. rw (issued-kept s) (only y (rw (s .queue) at a));
+              flagged = λ y a. rw (s .queue) (flagged y (rw (issued-kept s) at a));
             };
         linked = s .linked;
-        lanes = λ y a. rw (s .same-capacity) (ordered y (rw (s .same-issued) at a));
+        lanes = λ y a. rw (capacity-kept s) (ordered y (rw (issued-kept s) at a));
         queued-registered = λ y a. registered y (rw (s .queue) at a);
         free-once = λ y. elim (same? x y) [
           | equal e p i ↦ rw (← e) f1
           | other d p i ↦ rw (fo y d) (k .free-once y)
         ];
-        free-issued = λ y a. rw (s .same-issued) (elim (same? x y) [
+        free-issued = λ y a. rw (issued-kept s) (elim (same? x y) [
           | equal e p i ↦ rw (← e) h
           | other d p i ↦ k .free-issued y (rw (fo y d) at a)
         ]);
@@ -156,7 +156,7 @@ module _ {t u : List ℕ} {x : ℕ} {l : Lane} {w : List ℕ} {f b n m : ℕ} (k
           lane-case (λ (y : ℕ) (z : Lane). 1 ≤ count y (freeOf u) → z .registered ≡ 1 → ⊥) fr (λ y d a. k .free-unregistered y (rw (fo y d) at a))
 
   pub ringed-step : (r : List ℕ) → Ringed t r → Ringed u r
-  ringed-step r g = rw (s .same-slots, s .same-capacity) g
+  ringed-step r g = rw (slots-kept s, capacity-kept s) g
 
 -- ---- a table with the same lanes registered
 

@@ -1,0 +1,28 @@
+-- Header words by name, and those beside a set of them.
+-- Assumes nothing.
+use mathlib.Core.Path.{_≡_, refl, ap, _∙_}
+use mathlib.Core.Bool.{Bool, true, false}
+use mathlib.Core.List.{List}
+use Prim.Native.Nat.{ℕ}
+use borrow.Author.Tests.{eqb-true}
+use lib.Dec.{eqb, ltb}
+use Rattle.demands.proofs.Counting.{no}
+use Rattle.yring.specs.Lists.{tab}
+use Rattle.lane.specs.Table.{headerWords}
+
+-- the place of a header word, by what reads it: each word of this table is its own place
+abbrev pub place : (List ℕ → ℕ) → ℕ
+place word = word (tab 32 (λ i. i))
+
+-- a word of the header that is none of a set
+pub record Beside (set : ℕ → Bool) (j : ℕ) : Type 0 where
+  pub in-header : ltb j headerWords ≡ true
+  pub not-one : set j ≡ false
+
+-- so each of the set is another
+pub apart : {set : ℕ → Bool} {j : ℕ} → Beside set j → (k : ℕ) → set k ≡ true → eqb k j ≡ false
+apart {set = set} {j = j} n k e = go (eqb k j) refl
+  where
+    go : (b : Bool) → eqb k j ≡ b → b ≡ false
+    go true i = absurd (no e (ap set (eqb-true k j i) ∙ n .not-one))
+    go false i = refl
