@@ -24,5 +24,5 @@ module _ (M : StoreCalls) (i : AsInner M) where
       let v = storesAfter M x in
       let o = stays-in-order M i x in
       let here : firstCursor (v .0) ≡ x .opening .cursor =
-          calls-leave M i first-cursor-unwritten (openedStores x) (x .calls) (opened-in-order x) ∙ opening-puts-cursor (x .opening) (x .table) (x .rings) (x .accepted) in
+      calls-leave M i first-cursor-unwritten (openedStores x) (x .calls) (opened-in-order x) ∙ opening-puts-cursor (x .opening) (x .table) (x .rings) (x .accepted) in
       rw (i .same-words (v .0) (v .1) o (Sender (RegisterSender most))) (rw here at (registered-starts (v .0) (v .1) o most k))

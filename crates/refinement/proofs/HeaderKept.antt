@@ -45,8 +45,9 @@ use Rattle.turns.specs.Due.{collectIfDue}
 use Rattle.receive_from.specs.Target.{settleTarget, queueTarget, keepTarget, targetTook, takeFrom, tryRecvFrom}
 use Rattle.receive_batch.specs.Batch.{lookBy, lookFront, afterLook, runDownWithin, runDown, elseFront, refreshActive, fullBudget, chunkSize, gaveChunk, chunkGiven, HandsAndTable, chunkThen, drainedWithin, drained, answerItems, batchAnswer, tryRecvBatchInto}
 use Rattle.refinement.specs.Runs.{receiveWords, callWords}
+use Rattle.store.proofs.HeaderWords.{place, apart}
 use Rattle.turns.proofs.FrontLaws.{head-left, head-met, head-gave}
-use Rattle.refinement.proofs.HeaderSteps.{place, Unwritten, Kept, At, other-word, at-by, at-put, at-head, at-pushed-back, at-removed, at-marked-if-idle, at-retired, at-slots, at-collected, unless-at, sender-at, control-at, at-release-all}
+use Rattle.refinement.proofs.HeaderSteps.{Unwritten, Kept, At, at-by, at-put, at-head, at-pushed-back, at-removed, at-marked-if-idle, at-retired, at-slots, at-collected, unless-at, sender-at, control-at, at-release-all}
 
 -- of an answer with a table
 abbrev TableAt : {A : Type 0} → Kept → A × List ℕ → Type 0
@@ -63,14 +64,14 @@ module _ {c : Kept} where
   at-left : (t : List ℕ) → At c t → (found : EmptyLane) → At c (meetBudget (settleEmptyFront t found))
   at-left t h found =
       at-by t h _
-      (head-met (settleEmptyFront t found) (c .word) (other-word c (place budget) refl)
-      ∙ head-left t found (c .word) (c .unwritten .inside) (other-word c (place queueFront) refl) (other-word c (place queueCount) refl)
-      (other-word c (place freeCount) refl) (other-word c (place laneCount) refl))
+      (head-met (settleEmptyFront t found) (c .word) (apart (c .unwritten) (place budget) refl)
+      ∙ head-left t found (c .word) (c .unwritten .in-header) (apart (c .unwritten) (place queueFront) refl) (apart (c .unwritten) (place queueCount) refl)
+      (apart (c .unwritten) (place freeCount) refl) (apart (c .unwritten) (place laneCount) refl))
 
   at-turn : (t : List ℕ) → At c t → (p : LanePoll) → At c ((turnBy t p) .1)
   unfolding turnBy
   at-turn t h (LanePoll.Item item rotate released l) =
-      at-by t h _ (head-gave t rotate l (c .word) (c .unwritten .inside) (other-word c (place queueFront) refl) (other-word c (place budget) refl))
+      at-by t h _ (head-gave t rotate l (c .word) (c .unwritten .in-header) (apart (c .unwritten) (place queueFront) refl) (apart (c .unwritten) (place budget) refl))
   at-turn t h (LanePoll.Idle found) = at-left t h found
 
   at-front : (t r : List ℕ) (fair : Bool) → At c t → At c ((pollFront t r fair) .1)
@@ -236,8 +237,8 @@ module _ {c : Kept} where
       let e = endFullBurst (moveChunk (capacity t) n l) in
       let p = at-put t h (e .lane) in
       at-head (rotateIf (e .ended) (putLane t (e .lane)))
-      (cond-holds (At c) (e .ended) (rotateLeft (putLane t (e .lane))) (putLane t (e .lane)) 
-      (λ d. at-by (putLane t (e .lane)) p _ (head-rotated (putLane t (e .lane)) (c .word) (c .unwritten .inside) (other-word c (place queueFront) refl))) (λ d. p))
+      (cond-holds (At c) (e .ended) (rotateLeft (putLane t (e .lane))) (putLane t (e .lane))
+      (λ d. at-by (putLane t (e .lane)) p _ (head-rotated (putLane t (e .lane)) (c .word) (c .unwritten .in-header) (apart (c .unwritten) (place queueFront) refl))) (λ d. p))
       (place budget) (fullBudget (budget t) - n) refl
 
   at-chunk-then : (f : Front × List ℕ) (r : List ℕ) (left : ℕ) (more : List ℕ → ℕ → HandsAndTable) → At c (f .1) → ((u : List ℕ) (m : ℕ) → At c u → At c ((more u m) .1))
@@ -301,16 +302,16 @@ module _ {j : ℕ} (n : Unwritten j) (t r : List ℕ) where
 -- ---- the words that no call writes
 
 pub slots-unwritten : Unwritten (place slots)
-slots-unwritten = record { inside = refl; by-none = refl }
+slots-unwritten = record { in-header = refl; not-one = refl }
 
 pub capacity-unwritten : Unwritten (place capacity)
-capacity-unwritten = record { inside = refl; by-none = refl }
+capacity-unwritten = record { in-header = refl; not-one = refl }
 
 pub channel-unwritten : Unwritten (place channel)
-channel-unwritten = record { inside = refl; by-none = refl }
+channel-unwritten = record { in-header = refl; not-one = refl }
 
 pub first-cursor-unwritten : Unwritten (place firstCursor)
-first-cursor-unwritten = record { inside = refl; by-none = refl }
+first-cursor-unwritten = record { in-header = refl; not-one = refl }
 
 pub first-generation-unwritten : Unwritten (place firstGeneration)
-first-generation-unwritten = record { inside = refl; by-none = refl }
+first-generation-unwritten = record { in-header = refl; not-one = refl }

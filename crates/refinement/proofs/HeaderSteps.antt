@@ -1,24 +1,21 @@
 -- A header word that no call writes stays what it is: every store of a lane, a mark, the queue, the free list or another header word, and what is made of
 -- these for sender calls and control calls. Of any words, in order or not.
 -- Assumes nothing.
-use mathlib.Core.Path.{_≡_, refl, ap, _∙_}
+use mathlib.Core.Path.{_≡_, refl, _∙_}
 use mathlib.Core.Bool.{Bool, true, false, cond}
 use mathlib.Core.List.{List, [], _∷_, foldl}
 use Prim.Native.Nat.{ℕ, zero, suc, _+_, _-_, _*_}
-use borrow.Author.Tests.{eqb-true}
-use lib.Dec.{eqb, ltb}
+use lib.Dec.{eqb}
 use Rattle.model.specs.Lists.{either}
 use Rattle.model.specs.declared.SenderCall.{SenderCall}
 use Rattle.model.specs.declared.SenderCall.the-variants.{RegisterSender, TrySend, TrySendUnsignaled, DropSender}
 use Rattle.model.specs.declared.ControlCall.{ControlCall}
 use Rattle.model.specs.declared.ControlCall.the-variants.{Pause, Resume, CloseLane, ReleaseConsumed, PollAllLanes, CloseReceiver, CountHeld}
-use Rattle.demands.proofs.Counting.{no}
 use Rattle.lane.specs.declared.lane.Lane.{Lane}
 use Rattle.lane.specs.declared.producer.Sent.{Sent}
 use Rattle.lane.specs.declared.producer.Sent.the-variants as Sent
 use Rattle.lane.specs.Lane.{newLane}
-use Rattle.yring.specs.Lists.{tab}
-use Rattle.lane.specs.Table.{headerWords, head, setHead, setCell, laneAt, putLane}
+use Rattle.lane.specs.Table.{head, setHead, setCell, laneAt, putLane}
 use Rattle.lane.proofs.OrderLaws.{cond-holds}
 use Rattle.lane.proofs.TableLaws.{head-putLane, head-setCell, other-head-kept}
 use Rattle.queues.specs.Header.{issued, queueFront, queueCount, freeCount, budget, groupCursor, alive, firstCursor, fastSlot, laneCount, livingCount, setIssued, setGroupCursor, setLaneCount}
@@ -32,6 +29,7 @@ use Rattle.store.specs.declared.refusal.Verdict.{Verdict}
 use Rattle.store.specs.Words.{Words, unlessRefused}
 use Rattle.store.specs.Registry.{retired, retireLane}
 use Rattle.store.specs.Signal.{markIfIdle}
+use Rattle.store.proofs.HeaderWords.{place, Beside, apart}
 use Rattle.store.proofs.EnqueueLaws.{head-enqueued}
 use Rattle.store.proofs.SignalFrames.{head-marked-if-idle}
 use Rattle.store.proofs.RefusalLaws.{unless-refused-case}
@@ -42,10 +40,6 @@ use Rattle.all_lanes.specs.AllLanes.{forSlots, releaseSlot, releaseAll, release
 use Rattle.control.specs.Control.{withTurn, pausedLane, pauseLane, pause, resumeLane, resume, close, closeLane, closeReceiver}
 use Rattle.control.specs.Calls.{controlWords}
 
--- the place of a header word, by what reads it: each word of this table is its own place
-abbrev pub place : (List ℕ → ℕ) → ℕ
-place word = word (tab 32 (λ i. i))
-
 -- the header words that some call writes
 abbrev pub written : ℕ → Bool
 written j =
@@ -53,9 +47,8 @@ written j =
     (either (eqb (place budget) j) (either (eqb (place groupCursor) j) (either (eqb (place alive) j) (either (eqb (place fastSlot) j)
     (either (eqb (place laneCount) j) (eqb (place livingCount) j)))))))))
 
-pub record Unwritten (j : ℕ) : Type 0 where
-  pub inside : ltb j headerWords ≡ true
-  pub by-none : written j ≡ false
+abbrev pub Unwritten : ℕ → Type 0
+Unwritten j = Beside written j
 
 -- a header word that no call writes, and a value
 pub record Kept : Type 0 where
@@ -67,14 +60,6 @@ pub record Kept : Type 0 where
 pub record At (c : Kept) (t : List ℕ) : Type 0 where
   pub holds : head t (c .word) ≡ c .value
 
--- it is none of those that calls write
-pub other-word : (c : Kept) (k : ℕ) → written k ≡ true → eqb k (c .word) ≡ false
-other-word c k e = go (eqb k (c .word)) refl
-  where
-    go : (b : Bool) → eqb k (c .word) ≡ b → b ≡ false
-    go true i = absurd (no e (ap (λ (z : ℕ). written z) (eqb-true k (c .word) i) ∙ c .unwritten .by-none))
-    go false i = refl
-
 module _ {c : Kept} (t : List ℕ) (h : At c t) where
   -- ---- one store
 
@@ -82,28 +67,28 @@ module _ {c : Kept} (t : List ℕ) (h : At c t) where
   at-by u e = record { holds = e ∙ h .holds }
 
   pub at-put : (l : Lane) → At c (putLane t l)
-  at-put l = at-by (putLane t l) (head-putLane t l (c .word) (c .unwritten .inside))
+  at-put l = at-by (putLane t l) (head-putLane t l (c .word) (c .unwritten .in-header))
 
   pub at-head : (k v : ℕ) → written k ≡ true → At c (setHead t k v)
-  at-head k v e = at-by (setHead t k v) (other-head-kept t k v (c .word) (other-word c k e))
+  at-head k v e = at-by (setHead t k v) (other-head-kept t k v (c .word) (apart (c .unwritten) k e))
 
   pub at-cell : (column row v : ℕ) → At c (setCell t column row v)
-  at-cell column row v = at-by (setCell t column row v) (head-setCell t column row v (c .word) (c .unwritten .inside))
+  at-cell column row v = at-by (setCell t column row v) (head-setCell t column row v (c .word) (c .unwritten .in-header))
 
   pub at-pushed-back : (x : ℕ) → At c (pushBack t x)
-  at-pushed-back x = at-by (pushBack t x) (head-pushed-back t x (c .word) (c .unwritten .inside) (other-word c (place queueCount) refl))
+  at-pushed-back x = at-by (pushBack t x) (head-pushed-back t x (c .word) (c .unwritten .in-header) (apart (c .unwritten) (place queueCount) refl))
 
   pub at-removed : (x : ℕ) → At c (remove t x)
-  at-removed x = at-by (remove t x) (head-removed t x (c .word) (c .unwritten .inside) (other-word c (place queueCount) refl))
+  at-removed x = at-by (remove t x) (head-removed t x (c .word) (c .unwritten .in-header) (apart (c .unwritten) (place queueCount) refl))
 
   at-freed : (x : ℕ) → At c (free t x)
-  at-freed x = at-by (free t x) (head-freed t x (c .word) (c .unwritten .inside) (other-word c (place freeCount) refl))
+  at-freed x = at-by (free t x) (head-freed t x (c .word) (c .unwritten .in-header) (apart (c .unwritten) (place freeCount) refl))
 
   at-enqueued : (x : ℕ) → At c (enqueue t x)
-  at-enqueued x = at-by (enqueue t x) (head-enqueued t x (c .word) (c .unwritten .inside) (other-word c (place queueCount) refl))
+  at-enqueued x = at-by (enqueue t x) (head-enqueued t x (c .word) (c .unwritten .in-header) (apart (c .unwritten) (place queueCount) refl))
 
   pub at-marked-if-idle : (l : Lane) → At c (markIfIdle t l)
-  at-marked-if-idle l = at-by (markIfIdle t l) (head-marked-if-idle t l (c .word) (c .unwritten .inside))
+  at-marked-if-idle l = at-by (markIfIdle t l) (head-marked-if-idle t l (c .word) (c .unwritten .in-header))
 
 -- a lane retires
 pub at-retired : {c : Kept} (t : List ℕ) → At c t → (l : Lane) → At c (retireLane t l)
@@ -166,8 +151,8 @@ module _ {c : Kept} (t : List ℕ) (h : At c t) where
   taken-at =
       cond-holds (At c) (eqb (freeCount t) 0) (setIssued (openPage t (issued t)) (issued t + 1)) (reissue t)
       (λ e.
-          at-head (openPage t (issued t)) (at-by t h (openPage t (issued t)) (head-opened-page t (issued t) (c .word) (c .unwritten .inside))) (place issued) (issued t + 1) refl)
-      (λ e. at-by t h (reissue t) (head-reissued t (c .word) (other-word c (place freeCount) refl)))
+      at-head (openPage t (issued t)) (at-by t h (openPage t (issued t)) (head-opened-page t (issued t) (c .word) (c .unwritten .in-header))) (place issued) (issued t + 1) refl)
+      (λ e. at-by t h (reissue t) (head-reissued t (c .word) (apart (c .unwritten) (place freeCount) refl)))
 
   registered-at : At c (registerLane t (dueKey t))
   unfolding registerLane

@@ -36,7 +36,6 @@ use Rattle.store.specs.Order.{Flags, Fast, MarkWords, Stores}
 use Rattle.store.proofs.ViewLaws.{row-in, view-put-lane, put-put}
 use Rattle.store.proofs.CountLaws.{SlotSum, lanes-sum, living-sum, number-more}
 use Rattle.store.proofs.StepLaws.{linked-by, mark-words-by}
-use Rattle.store.proofs.StoreLaws.{registered-by, living-by}
 
 -- ---- the page and the group of a slot opened
 
