@@ -6,6 +6,7 @@ use mathlib.Core.List.{List}
 use Prim.Native.Nat.{ℕ}
 use borrow.Author.Tests.{eqb-true}
 use lib.Dec.{eqb, ltb}
+use Rattle.model.specs.Lists.{if}
 use Rattle.demands.proofs.Counting.{no}
 use Rattle.yring.specs.Lists.{tab}
 use Rattle.lane.specs.Table.{headerWords}
@@ -26,3 +27,7 @@ apart {set = set} {j = j} n k e = go (eqb k j) refl
     go : (b : Bool) → eqb k j ≡ b → b ≡ false
     go true i = absurd (no e (ap set (eqb-true k j i) ∙ n .not-one))
     go false i = refl
+
+-- a header, by places, with one word changed
+abbrev pub withWord : (List ℕ → ℕ) → ℕ → (ℕ → ℕ) → ℕ → ℕ
+withWord word v h j = if (eqb (place word) j) v (h j)

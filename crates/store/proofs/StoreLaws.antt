@@ -40,8 +40,9 @@ use Rattle.store.specs.View.{flag, slotAt, view}
 use Rattle.store.specs.Order.{Flags, Fast, Stores, StoreInOrder}
 use Rattle.store.specs.Words.{Words}
 use Rattle.store.proofs.ViewLaws.{slot-in, row-in}
+use Rattle.store.proofs.HeaderWords.{place}
 use Rattle.store.proofs.CountLaws.{one, SlotSum, lanes-sum, living-sum, number-some, number-but}
-use Rattle.store.proofs.StepLaws.{Step, issued-kept, slots-kept, capacity-kept, alive-kept, cursor-kept}
+use Rattle.store.proofs.StepLaws.{Step, issued-kept, slots-kept, capacity-kept, alive-kept, cursor-kept, fast-now, budget-now, lanes-now, living-now}
 use Rattle.store.proofs.RefusalLaws.{seen}
 
 -- ---- what a call takes from a store in order
@@ -190,19 +191,19 @@ abbrev pub OtherWindows : List ℕ → ℕ → List ℕ → ℕ → ℕ → Type
 OtherWindows t x w f b =
     (y : ℕ) → x ≢ y → y < issued t → laneAt t y .registered ≡ 1 → 0 < laneAt t y .window → Fast y f w (laneAt t y .window) b
 
--- what a call owes for the lane x that became l, the queue w, `fast_slot` f, the budget b, and the counts n and m
-pub record Owes (t : List ℕ) (x : ℕ) (l : Lane) (w : List ℕ) (f b n m : ℕ) : Type 0 where
+-- what a call owes for the lane x that became l, the queue w and the header h
+pub record Owes (t : List ℕ) (x : ℕ) (l : Lane) (w : List ℕ) (h : ℕ → ℕ) : Type 0 where
   pub flags : Flags l
   pub order : l .registered ≡ 1 → InOrder (capacity t) l
-  pub fast-below : f < slots t
+  pub fast-below : h (place fastSlot) < slots t
   -- lane x stands in the queue as its queued word says, the others stand there as before
   pub once : count x w ≤ 1
   pub flagged : l .registered ≡ 1 → l .queued ≡ count x w
   pub rest : (y : ℕ) → x ≢ y → count y w ≡ count y (queueOf t)
-  pub window : l .registered ≡ 1 → 0 < l .window → Fast x f w (l .window) b
-  pub windows : OtherWindows t x w f b
-  pub lane-count : n + laneAt t x .registered ≡ laneCount t + l .registered
-  pub living-count : m + laneAt t x .living ≡ livingCount t + l .living
+  pub window : l .registered ≡ 1 → 0 < l .window → Fast x (h (place fastSlot)) w (l .window) (h (place budget))
+  pub windows : OtherWindows t x w (h (place fastSlot)) (h (place budget))
+  pub lane-count : h (place laneCount) + laneAt t x .registered ≡ laneCount t + l .registered
+  pub living-count : h (place livingCount) + laneAt t x .living ≡ livingCount t + l .living
 
 without-first : (x y : ℕ) (q : List ℕ) → x ≢ y → take 1 q ≡ y ∷ [] → take 1 (rules.without x q) ≡ y ∷ []
 unfolding rules.without rules.keep
@@ -214,7 +215,7 @@ without-first x y (a ∷ q) n e =
     first : {a b : ℕ} → a ∷ [] ≡ b ∷ [] → a ≡ b
     first p = cc
 
-module _ (t r u q : List ℕ) (o : Stores t r) (x : ℕ) (h : x < issued t) (l : Lane) (w : List ℕ) (f b n m : ℕ) (k : Step t u x l w f b n m) (d : Owes t x l w f b n m) where
+module _ (t r u q : List ℕ) (o : Stores t r) (x : ℕ) (h : x < issued t) (l : Lane) (w : List ℕ) (g : ℕ → ℕ) (k : Step t u x l w g) (d : Owes t x l w g) where
   -- what holds of lane x as it is now, and of the other lanes as they were, holds of the lanes now
   own-or : (P : ℕ → Lane → Type 0) (y : ℕ) → P x l → (x ≢ y → P y (laneAt t y)) → P y (laneAt u y)
   own-or P y a c = elim (same? x y) [
@@ -240,12 +241,12 @@ module _ (t r u q : List ℕ) (o : Stores t r) (x : ℕ) (h : x < issued t) (l :
 
   lanes-after : laneCount u ≡ registeredLanes (view u q)
   lanes-after =
-      sum-after lanes-sum (k .lanes) (o .lanes-counted)
+      sum-after lanes-sum (lanes-now k) (o .lanes-counted)
       (rw (one-flag _ (o .flags x h .registered-flag), one-flag _ (d .flags .registered-flag)) (d .lane-count))
 
   living-after : livingCount u ≡ livingSenders (view u q)
   living-after =
-      sum-after living-sum (k .living) (o .living-counted)
+      sum-after living-sum (living-now k) (o .living-counted)
       (rw (one-flag _ (o .flags x h .living-flag), one-flag _ (d .flags .living-flag)) (d .living-count))
 
   -- the run of stores leaves what a store in order has beside the rules' state
@@ -253,7 +254,7 @@ module _ (t r u q : List ℕ) (o : Stores t r) (x : ℕ) (h : x < issued t) (l :
   stores-after long =
       record {
         shaped = k .shaped;
-        fast-below = rw (k .fast, slots-kept k) (d .fast-below);
+        fast-below = rw (fast-now k, slots-kept k) (d .fast-below);
         power = rw (capacity-kept k) (o .power);
         rings-room = rw (slots-kept k, capacity-kept k) long;
         alive-flag = rw (alive-kept k) (o .alive-flag);
@@ -263,8 +264,8 @@ module _ (t r u q : List ℕ) (o : Stores t r) (x : ℕ) (h : x < issued t) (l :
         named = names-after;
         linked = k .linked;
         mark-words = k .mark-words (o .mark-words);
-        windows = λ y c. rw (k .fast, k .queue, k .poll)
-            (own-or (λ z j. z < issued t → j .registered ≡ 1 → 0 < j .window → Fast z f w (j .window) b) y (λ z. d .window) (λ g. d .windows y g) (rw (issued-kept k) at c));
+        windows = λ y c. rw (fast-now k, k .queue, budget-now k)
+            (own-or (λ z j. z < issued t → j .registered ≡ 1 → 0 < j .window → Fast z (g (place fastSlot)) w (j .window) (g (place budget))) y (λ z. d .window) (λ g. d .windows y g) (rw (issued-kept k) at c));
         lanes-counted = lanes-after;
         living-counted = living-after;
       }
