@@ -298,7 +298,7 @@ def code_of(path, text):
 
 
 def is_field(text, at, name, own):
-    """A field that is read (` .name`), set (`{ name = ..; }`) or declared (`pub name : ..` further in; `own` are the names that the file declares)."""
+    """A field that is read (` .name`), set (`{ name = ..; }`) or declared (`pub name : ..` further in, and none of the file's `own` names)."""
     before = text[max(0, at - 200):at]
     if re.search(r"(^|[\s(])\.$", before):
         return True
