@@ -309,7 +309,13 @@ def is_field(text, at, name, own):
 
 
 def quoted(text, names):
-    """Text with the new names between backticks: in a line, or between fences."""
+    """Text with the new names between backticks: in a line, or between fences, where comments and fields are left alone."""
     def put(found):
-        return re.sub(rf"(?<!{source.PART})({source.NAME})(?!{source.PART})", lambda m: names.get(m[1], m[1]), found[0])
+        piece = found[0]
+        spans = comments(piece) + rt_comments(piece) if piece.startswith("```") else []
+
+        def one(name):
+            said = any(start <= name.start() < end for start, end in spans)
+            return name[0] if said or is_field(piece, name.start(), name[0], ()) else names.get(name[0], name[0])
+        return re.sub(rf"(?<!{source.PART}){source.NAME}(?!{source.PART})", one, piece)
     return re.sub(r"(?ms)^```.*?^```|`[^`\n]*`", put, text)
