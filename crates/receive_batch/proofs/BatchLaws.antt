@@ -29,8 +29,8 @@ use Rattle.store.specs.Refusal.{receiverVerdict, andThen}
 use Rattle.store.specs.Words.{unlessRefused, withRings}
 use Rattle.turns.specs.Turn.{Turning}
 use Rattle.turns.specs.Drained.{Idle}
-use Rattle.all_lanes.specs.Batch.{forSlots, AllRefundable, releaseSlot, releaseAll}
-use Rattle.receive_batch.specs.Drain.{drained, drainInto, roomVerdict, batchVerdict, answerItems, RestsAt, batchAnswer, tryRecvBatchInto, handedBy, batchHands, batchInto}
+use Rattle.all_lanes.specs.AllLanes.{forSlots, AllRefundable, releaseSlot, releaseAll}
+use Rattle.receive_batch.specs.Batch.{drained, drainInto, roomVerdict, batchVerdict, answerItems, RestsAt, batchAnswer, tryRecvBatchInto, handedBy, batchHands, batchInto}
 use Rattle.store.proofs.CountLaws.{one}
 use Rattle.store.proofs.StepLaws.{Step, step-from, step-put-lane}
 use Rattle.store.proofs.CreditLaws.{GivesBack, gives-back}

@@ -18,7 +18,7 @@ use Rattle.lane.specs.Table.{laneAt}
 use Rattle.queues.specs.Queue.{queueOf}
 use Rattle.store.specs.View.{view}
 use Rattle.store.specs.Order.{StoreInOrder}
-use Rattle.receive_batch.specs.Drain.{tryRecvBatchInto, batchHands, batchInto}
+use Rattle.receive_batch.specs.Batch.{tryRecvBatchInto, batchHands, batchInto}
 use Rattle.refinement.specs.Runs.{receiveWords, handsWords, outputWords, callWords}
 use Rattle.store.proofs.RefusalLaws.{seen}
 use Rattle.sender.proofs.SenderLaws.{sender-calls-alike, sender-calls-keep-order}

@@ -8,7 +8,7 @@ ghost use lib.ListN.{getD};
 ghost use Rattle.yring.specs.Cursor.{after, distance, Capacity};
 ghost use Rattle.yring.specs.Ring.{Within};
 ghost use Rattle.lane.specs.Order.{InOrder, Filled};
-use lane::consumer::Sent;
+use lane::producer::Sent;
 use lane::lane::Lane;
 use lane::lane::LanePoll;
 use lane::lane::Refill;
