@@ -6,19 +6,21 @@ A list has a line for each name; # starts a comment. The new names hold all at o
     module CRATE::OLD CRATE::NEW    a file of a crate: src/OLD.rt with proofs/OLD/, or OLD.antt in specs/ or proofs/
     name OLD NEW                    a definition, one of specs/
     law OLD NEW                     a law, or whatever else proofs/ has
+    function CRATE::OLD NEW         a function or method of src/, with the folder of its proof and what proofs call it
 
 A definition or law is meant wherever one of that name is declared. CRATE::OLD in place of OLD means one crate's alone, and CRATE::MODULE::OLD one
 file's. CRATE and MODULE are those that the list leaves, and not those before it.
 
-A name is changed only where it is that definition: in the file that declares it, and in files that import it from there. Fields of records
-(`l .paused`, `paused = 0`), names that are part of a longer one, code, and words of comments are left alone; in comments and documents a name is
-changed between backticks, and a folder wherever it stands.
+A definition's or law's name is changed only where it is meant: in the file that declares it, and in files that import it from there. Fields of
+records (`l .paused`, `paused = 0`), declarations and clauses in which a parameter, λ or let has the name, names that are part of a longer one,
+code, and words of comments are left alone; in comments and documents a name is changed between backticks, and a folder wherever it stands. A
+function's name is changed in code: in its crate where it is called, and elsewhere behind its module's name.
 """
 import re
 
 import source
 
-KINDS = {"crate", "module", "name", "law"}
+KINDS = {"crate", "module", "name", "law", "function"}
 MODULE = re.compile(r"Rattle·(\w+)(?:·(?:specs|proofs))?\.(specs|proofs)\.(.+)")
 USE = re.compile(r"^[ \t]*(pub |ghost )?use\s+([^\s;{]+?)(?:\.\{([^}]*)\})?(?:\s+as\s+(\S+?))?[ \t]*;?[ \t]*$", re.M)
 
@@ -31,13 +33,13 @@ class Names:
     """A list of changed names."""
 
     def __init__(self, text):
-        self.crates, self.modules, self.names = {}, {}, []
+        self.crates, self.modules, self.names, self.functions = {}, {}, [], {}
         for number, line in enumerate(text.split("\n"), 1):
             words = line.split("#")[0].split()
             if not words:
                 continue
             if len(words) != 3 or words[0] not in KINDS:
-                raise Wrong(f"line {number}: expected 'crate', 'module', 'name' or 'law' and two names: {line.strip()}")
+                raise Wrong(f"line {number}: expected 'crate', 'module', 'name', 'law' or 'function' and two names: {line.strip()}")
             kind, old, new = words
             if kind == "crate":
                 self.crates[old] = new
@@ -46,6 +48,11 @@ class Names:
                 if not name or not new.startswith(crate + "::"):
                     raise Wrong(f"line {number}: expected CRATE::OLD CRATE::NEW with one crate: {line.strip()}")
                 self.modules[crate, name] = new.removeprefix(crate + "::")
+            elif kind == "function":
+                crate, _, name = old.partition("::")
+                if not re.fullmatch(r"\w+", name):
+                    raise Wrong(f"line {number}: expected CRATE::OLD: {line.strip()}")
+                self.functions[crate, name] = new.split("::")[-1]
             else:
                 *where, name = old.split("::")
                 if len(where) > 2:
@@ -62,12 +69,15 @@ class Names:
             folder, (stem, dot, ending) = part[2], part[3].partition(".")
             if (folder, ending) in (("src", "rt"), ("specs", "antt"), ("proofs", "antt"), ("proofs", "")):
                 part[3] = self.modules.get((part[1], stem), stem) + dot + ending
+            if folder == "proofs" and part[-1] == "Proof.antt":
+                part[-2] = self.functions.get((part[1], part[-2]), part[-2])
         return "/".join(part)
 
     def applied(self, files):
         """A repository's files, by path, with the new names; and what a person should look at."""
         moved = {self.path(path): self.with_folders(self.path(path), text) for path, text in files.items()}
-        return self.with_names(moved)
+        after, look = self.with_names(moved)
+        return self.with_functions(after), look
 
     # crates and modules
 
@@ -93,6 +103,43 @@ class Names:
                 if path.endswith(".edit"):
                     text = re.sub(rf"(?m)^(file: (?:src|specs|proofs)/){old}(?=[./])", rf"\g<1>{new}", text)
         return text
+
+    # functions
+
+    def with_functions(self, files):
+        """The files with the new names of functions."""
+        declared = {(path.split("/")[1], f.name.split("::")[-1])
+                    for path, text in files.items() if path.endswith(".rt") for f in source.functions(text)}
+        missing = [f"no function {crate}::{old}" for crate, old in self.functions if (crate, old) not in declared]
+        if missing:
+            raise Wrong("\n".join(missing))
+        done = dict(files)
+        for (crate, old), new in self.functions.items():
+            callers = {crate}
+            modules = {path.split("/")[3].removesuffix(".rt") for path, text in files.items() if path.startswith(f"crates/{crate}/src/")
+                       and any(f.name.split("::")[-1] == old for f in source.functions(text))}
+            for path in files:
+                part = path.split("/")
+                if not path.startswith("crates/") or not path.endswith((".rt", ".edit")):
+                    continue
+                text = done[path]
+                if part[1] == crate:
+                    done[path] = called(text, rf"(?<![\w'-]){old}(?=\()", new)
+                else:
+                    for module in modules:
+                        here = re.findall(rf"(?m)^use {crate}::{module}(?: as (\w+))?;", text)
+                        for alias in here + ([f"{crate}::{module}"] if f"{crate}::{module}::" in text else []):
+                            done[path] = called(done[path], rf"(?<![\w:]){alias or module}::{old}(?=\()", f"{alias or module}::{new}")
+                    if done[path] != text:
+                        callers.add(part[1])
+            a, b = old.replace("_", "-"), new.replace("_", "-")
+            for path in files:
+                if path.endswith("Proof.antt") and path.split("/")[1] in callers:
+                    done[path] = proof_names(done[path], a, b)
+                for pattern in (rf"(Rattle\.{crate}\.proofs\.(?:\w+\.)*){old}(?=\.(?:Statement|Tie|Reads|Lts)\b)",
+                                rf"(`{crate}::(?:\w+::)+){old}(?=`)", rf"(crates/{crate}/proofs/(?:\w+/)*){old}(?=/)"):
+                    done[path] = re.sub(pattern, rf"\g<1>{new}", done[path])
+        return done
 
     # definitions and laws
 
@@ -177,13 +224,17 @@ class Names:
         """An .antt or .rt file with the new names."""
         alone, behind = self.scope(path, text, sites)
         for old, new in alone.items():
-            if new not in alone and re.search(rf"(?<![\s(]\.){source.whole(new)}", code_of(path, text)):
+            if new not in alone and re.search(rf"(?<!\.){source.whole(new)}(?!\.)", code_of(path, text)):
                 look.append(f"{path}: has {new} already, and now for {old} too")
         imports = [(m.start(3), m.end(3), resolve(m[2])) for m in USE.finditer(text) if m[3] is not None]
-        return self.replaced(path, text, lambda at: imported(imports, at, sites), alone, behind, in_words, sites)
+        left = set()
+        done = self.replaced(path, text, lambda at: imported(imports, at, sites), alone, behind, in_words, sites, left=left)
+        look += [f"{path}: {name} is also bound there, and left where it is" for name in sorted(left)]
+        return done
 
-    def replaced(self, path, text, at_import, alone, behind, in_words, sites, logic=None):
-        """Text with the new names, where `at_import` says what an import list at a place is of."""
+    def replaced(self, path, text, at_import, alone, behind, in_words, sites, logic=None, left=None):
+        """Text with the new names, where `at_import` says what an import list at a place is of; `left` gets those that are bound somewhere."""
+        left = left if left is not None else set()
         spans = comments(text) if path.endswith(".antt") else rt_comments(text)
         logic = logic if logic is not None else (None if path.endswith(".antt") else rt_logic(text))
 
@@ -204,8 +255,12 @@ class Names:
                 return module + known.get(name, name)
             if name not in alone or is_field(text, at, name, own):
                 return found[0]
+            if any(start <= at < end and name in names for start, end, names in bound):
+                left.add(name)
+                return found[0]
             return alone[name]
         own = sites.get(self.place(path), {})
+        bound = bound_antt(text) if path.endswith(".antt") else bound_rt(text)
         return re.sub(rf"(?<!{source.PART})((?:{source.NAME}\.)+)?({source.NAME})(?!{source.PART})", put, text)
 
     def edited(self, path, text, files, sites, in_words):
@@ -230,6 +285,27 @@ class Names:
                 line = word + colon + piece
             done.append(line)
         return "\n".join(done)
+
+
+# functions
+
+
+def called(text, pattern, new):
+    """Code with another name of a function: not in contracts, and not in comments but between backticks."""
+    spans = rt_logic(text) + rt_comments(text)
+    return re.sub(pattern, lambda m: m[0] if any(start <= m.start() < end for start, end in spans) else new, text)
+
+
+def proof_names(text, old, new):
+    """A function's proof with another name of a function that it calls, or its own: `.old .ensures`, `old-requires`, `Need-sub-old`."""
+    kept = {name for use in uses(text) for name in use.names.values()}
+    needed = re.compile(rf"((?:Need-)?(?:(?:add|sub|mul|div|rem)-)?){re.escape(old)}(\d*(?:-(?:requires|arg|spec)[\d-]*)?)")
+
+    def put(found):
+        name = needed.fullmatch(found[0])
+        return name[1] + new + name[2] if name and found[0] not in kept else found[0]
+    text = re.sub(rf"(?<=\s\.){re.escape(old)}(?=\d* \.(?:ensures|result)\b)", new, text)
+    return re.sub(rf"(?<!{source.PART})(?<!\s\.){source.NAME}", put, text)
 
 
 # imports
@@ -288,6 +364,52 @@ def rt_comments(text):
 def rt_logic(text):
     """Where the contracts of an .rt file are: what stands between corners, and in `ghost` blocks."""
     return [m.span() for m in re.finditer(r"⌜[^⌝]*⌝?|(?:^|(?<=\n))[ \t]*ghost use[^;]*;", text)]
+
+
+def bound_antt(text):
+    """Where names are bound in an .antt file: start, end and names of each declaration and clause, those of the modules around it too."""
+    pieces, depths, at = [], [0], 0   # a piece: where it starts, how far in, its text
+    for whole, line in zip(text.split("\n"), source.bare_antt(text).split("\n")):
+        depth = len(line) - len(line.lstrip())
+        starts = bool(line.strip()) and line.lstrip()[0] not in ")]}"
+        while starts and depth < depths[-1]:
+            depths.pop()
+        if starts and depth == depths[-1]:
+            pieces.append((at, depth, line.lstrip()))
+            if line.lstrip().startswith("module "):
+                depths.append(depth + 2)
+        elif pieces:
+            pieces[-1] = pieces[-1][:2] + (pieces[-1][2] + "\n" + line,)
+        at += len(whole) + 1
+    found, modules = [], []
+    for (start, depth, piece), end in zip(pieces, [start for start, _, _ in pieces[1:]] + [len(text)]):
+        while modules and depth < modules[-1][0]:
+            modules.pop()
+        names = binders(piece).union(*(names for _, names in modules))
+        found.append((start, end, names))
+        if piece.startswith("module "):
+            modules.append((depth + 2, names))
+    return found
+
+
+def binders(piece):
+    """The names that a declaration or clause binds."""
+    names = set()
+    for group in re.findall(r"[({]([^(){}:=]+) :", piece):
+        names.update(group.split())
+    for group in re.findall(r"λ ([^.]*)\.", piece):
+        names.update(re.findall(source.NAME, re.sub(r":[^()]*(?:\([^()]*\)[^()]*)*\)", ")", group)))
+    names.update(re.findall(rf"\blet ({source.NAME}) [:=]", piece))
+    names.update(re.findall(rf"(?m)^\s+({source.NAME}) : ", piece.partition("\n")[2]))
+    left = re.match(rf"{source.NAME} ([^=\n]*) =(?=\s)", piece)
+    if left and " : " not in left[1]:
+        names.update(re.findall(source.NAME, left[1]))
+    return names
+
+
+def bound_rt(text):
+    """The same of the functions of an .rt file: their parameters."""
+    return [(f.start, f.end, set(re.findall(r"(\w+)\s*:", f.parameters))) for f in source.functions(text)]
 
 
 def code_of(path, text):
