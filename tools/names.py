@@ -2,14 +2,14 @@
 
 A list has a line for each name; # starts a comment. The new names hold all at one time, so that two may be exchanged.
 
-    crate OLD NEW                   a crate: its folder, and whatever names it
-    module CRATE::OLD CRATE::NEW    a file of a crate: src/OLD.rt with proofs/OLD/, or OLD.antt in specs/ or proofs/
-    name OLD NEW                    a definition, one of specs/
-    law OLD NEW                     a law, or whatever else proofs/ has
-    function CRATE::OLD NEW         a function or method of src/, with the folder of its proof and what proofs call it
+    crate OLD NEW                     a crate: its folder, and whatever names it
+    module CRATE::OLD CRATE::NEW      a file of a crate: src/OLD.rt with proofs/OLD/, or OLD.antt in specs/ or proofs/
+    name [CRATE [MODULE]] OLD NEW     a definition, one of specs/
+    law [CRATE [MODULE]] OLD NEW      a law, or whatever else proofs/ has
+    fn CRATE [MODULE] OLD NEW         a function or method of src/, with the folder of its proof and what proofs call it
 
-A definition or law is meant wherever one of that name is declared. CRATE::OLD in place of OLD means one crate's alone, and CRATE::MODULE::OLD one
-file's. CRATE and MODULE are those that the list leaves, and not those before it.
+Without CRATE every definition or law of that name is meant; with it one crate's alone, and with MODULE one file's. CRATE and MODULE are those that
+the list leaves, and not those before it.
 
 A definition's or law's name is changed only where it is meant: in the file that declares it, and in files that import it from there. Fields of
 records (`l .paused`, `paused = 0`), declarations and clauses in which a parameter, λ or let has the name, names that are part of a longer one,
@@ -20,7 +20,7 @@ import re
 
 import source
 
-KINDS = {"crate", "module", "name", "law", "function"}
+KINDS = {"crate", "module", "name", "law", "fn"}
 MODULE = re.compile(r"Rattle·(\w+)(?:·(?:specs|proofs))?\.(specs|proofs)\.(.+)")
 USE = re.compile(r"^[ \t]*(pub |ghost )?use\s+([^\s;{]+?)(?:\.\{([^}]*)\})?(?:\s+as\s+(\S+?))?[ \t]*;?[ \t]*$", re.M)
 
@@ -38,9 +38,10 @@ class Names:
             words = line.split("#")[0].split()
             if not words:
                 continue
-            if len(words) != 3 or words[0] not in KINDS:
-                raise Wrong(f"line {number}: expected 'crate', 'module', 'name', 'law' or 'function' and two names: {line.strip()}")
-            kind, old, new = words
+            places = {"name": (0, 2), "law": (0, 2), "fn": (1, 2)}.get(words[0], (0, 0))
+            if words[0] not in KINDS or not places[0] <= len(words) - 3 <= places[1]:
+                raise Wrong(f"line {number}: expected 'crate', 'module', 'name', 'law' or 'fn' and two names: {line.strip()}")
+            kind, *where, old, new = words
             if kind == "crate":
                 self.crates[old] = new
             elif kind == "module":
@@ -48,16 +49,10 @@ class Names:
                 if not name or not new.startswith(crate + "::"):
                     raise Wrong(f"line {number}: expected CRATE::OLD CRATE::NEW with one crate: {line.strip()}")
                 self.modules[crate, name] = new.removeprefix(crate + "::")
-            elif kind == "function":
-                crate, _, name = old.partition("::")
-                if not re.fullmatch(r"\w+", name):
-                    raise Wrong(f"line {number}: expected CRATE::OLD: {line.strip()}")
-                self.functions[crate, name] = new.split("::")[-1]
+            elif kind == "fn":
+                self.functions[where[0], old] = new
             else:
-                *where, name = old.split("::")
-                if len(where) > 2:
-                    raise Wrong(f"line {number}: expected CRATE::MODULE::OLD at most: {line.strip()}")
-                self.names.append((kind, where, name, new.split("::")[-1], number))
+                self.names.append((kind, where, old, new, number))
 
     def path(self, path):
         """A file's path with the new names of crates and modules."""
@@ -79,10 +74,30 @@ class Names:
         after, look = self.with_names(moved)
         return self.with_functions(after), look
 
+    def in_documents(self, files):
+        """The same of documents and tests alone, in a tree whose crates have the new names already."""
+        news = {}
+        for _, _, old, new, _ in self.names:
+            news.setdefault(old, set()).add(new)
+        for (_, old), new in self.functions.items():
+            news.setdefault(old, set()).add(new)
+        declared = {item.name for path, text in files.items() if path.endswith(".antt") for item in source.antt_items(text)}
+        declared |= {f.name.split("::")[-1] for path, text in files.items() if path.endswith(".rt") for f in source.functions(text)}
+        sure = {old: new for old, (new, *more) in news.items() if not more and old not in declared}
+        done, look = {}, []
+        for path, text in files.items():
+            done[path] = text
+            if is_document(path):
+                text = self.with_folders(path, text, documents=True)
+                done[path] = quoted(text, sure) if path.endswith(".md") else text
+                look += [f"{path}: '{old}' may be the one that is now {' or '.join(sorted(new))}" for old, new in sorted(news.items())
+                         if (old not in sure or not path.endswith(".md")) and is_quoted(text, old)]
+        return done, look
+
     # crates and modules
 
-    def with_folders(self, path, text):
-        """A file's text with the new names of crates and modules; `path` is its new path."""
+    def with_folders(self, path, text, documents=False):
+        """A file's text with the new names of crates and modules; `path` is its new path. With `documents` only where a folder or file is named."""
         own = path.split("/")[1] if path.startswith("crates/") else None
         for old, new in self.crates.items():
             text = re.sub(rf"Rattle.{old}(?=[.·])", f"Rattle.{new}", text)
@@ -90,7 +105,8 @@ class Names:
             text = re.sub(rf"(?<=/lib){old}(?=\.a)", new, text)
             if path.endswith((".rt", ".edit")):
                 text = re.sub(rf"(?<![\w:.]){old}(?=::)", new, text)
-            text = re.sub(rf"`{old}(?=`|::)", f"`{new}", text)
+            if not documents:
+                text = re.sub(rf"`{old}(?=`|::)", f"`{new}", text)
         if path == "crates.txt":
             text = "\n".join(line if line.startswith("#") else re.sub(r"\w+", lambda m: self.crates.get(m[0], m[0]), line)
                              for line in text.split("\n"))
@@ -158,7 +174,7 @@ class Names:
                     if found.setdefault(place, {}).setdefault(old, new) != new:
                         raise Wrong(f"line {number}: {old} of {path} has two new names")
                     seen.add(number)
-        missing = [f"line {number}: no {'definition' if kind == 'name' else 'law'} {'::'.join([*where, old])}"
+        missing = [f"line {number}: no {'definition' if kind == 'name' else 'law'} {' '.join([*where, old])}"
                    for kind, where, old, new, number in self.names if number not in seen]
         if missing:
             raise Wrong("\n".join(missing))
@@ -200,13 +216,10 @@ class Names:
                 done[path] = self.renamed(path, text, sites, in_words, look)
             elif path.endswith(".edit"):
                 done[path] = self.edited(path, text, files, sites, in_words)
-            elif path.endswith(".md") or path.startswith("tests/") and not path.startswith("tests/data/"):
-                done[path] = quoted(text, in_words)
-                for old in kept:
-                    if re.search(rf"`[^`\n]*{source.whole(old)}[^`\n]*`", text):
-                        look.append(f"{path}: `{old}` may be the one that is now {single[old]}")
             else:
-                done[path] = text
+                done[path] = quoted(text, in_words) if path.endswith(".md") else text
+                look += [f"{path}: '{old}' may be the one that is now {single[old]}" for old in (kept if path.endswith(".md") else single)
+                         if is_document(path) and is_quoted(text, old)]
         return done, look
 
     def scope(self, path, text, sites):
@@ -285,6 +298,11 @@ class Names:
                 line = word + colon + piece
             done.append(line)
         return "\n".join(done)
+
+
+def is_document(path):
+    """A document or a test; a test's backticks and quotes may be of names in its own language, and are left to a person."""
+    return path.endswith(".md") or path.startswith("tests/") and not path.startswith("tests/data/")
 
 
 # functions
@@ -430,6 +448,14 @@ def is_field(text, at, name, own):
     return name not in own and bool(re.search(r"\n[ \t]+pub $", before)) and after.startswith(" :")
 
 
+QUOTED = re.compile(r"^```.*?^```|`[^`\n]*`", re.M | re.S)
+
+
+def is_quoted(text, name):
+    """A name stands between backticks, or is a text by itself."""
+    return f'"{name}"' in text or any(re.search(source.whole(name), piece) for piece in QUOTED.findall(text))
+
+
 def quoted(text, names):
     """Text with the new names between backticks: in a line, or between fences, where comments and fields are left alone."""
     def put(found):
@@ -440,4 +466,4 @@ def quoted(text, names):
             said = any(start <= name.start() < end for start, end in spans)
             return name[0] if said or is_field(piece, name.start(), name[0], ()) else names.get(name[0], name[0])
         return re.sub(rf"(?<!{source.PART}){source.NAME}(?!{source.PART})", one, piece)
-    return re.sub(r"(?ms)^```.*?^```|`[^`\n]*`", put, text)
+    return QUOTED.sub(put, text)
