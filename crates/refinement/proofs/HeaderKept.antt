@@ -45,15 +45,15 @@ use Rattle.turns.specs.Due.{collectIfDue}
 use Rattle.receive_from.specs.Target.{settleTarget, queueTarget, keepTarget, targetTook, takeFrom, tryRecvFrom}
 use Rattle.receive_batch.specs.Batch.{lookBy, lookFront, afterLook, runDownWithin, runDown, elseFront, refreshActive, fullBudget, chunkSize, gaveChunk, chunkGiven, HandsAndTable, chunkThen, drainedWithin, drained, answerItems, batchAnswer, tryRecvBatchInto}
 use Rattle.refinement.specs.Runs.{receiveWords, callWords}
-use Rattle.store.proofs.HeaderWords.{place, apart}
+use Rattle.store.proofs.HeaderWords.{placeOf, beside, apart}
 use Rattle.turns.proofs.FrontLaws.{head-left, head-met, head-gave}
-use Rattle.refinement.proofs.HeaderSteps.{Unwritten, Kept, At, at-by, at-put, at-head, at-pushed-back, at-removed, at-marked-if-idle, at-retired, at-slots, at-collected, unless-at, sender-at, control-at, at-release-all}
+use Rattle.refinement.proofs.HeaderSteps.{Unwritten, KeptWord, At, at-by, at-put, at-head, at-pushed-back, at-removed, at-marked-if-idle, at-retired, at-slots, at-collected, unless-at, sender-at, control-at, at-release-all}
 
 -- of an answer with a table
-abbrev TableAt : {A : Type 0} → Kept → A × List ℕ → Type 0
+abbrev TableAt : {A : Type 0} → KeptWord → A × List ℕ → Type 0
 TableAt c o = At c (o .1)
 
-module _ {c : Kept} where
+module _ {c : KeptWord} where
   -- ---- turns
 
   at-retired-if : (dropped : Bool) (t : List ℕ) → At c t → (l : Lane) → At c (retireIf dropped t l)
@@ -64,14 +64,14 @@ module _ {c : Kept} where
   at-left : (t : List ℕ) → At c t → (found : EmptyLane) → At c (meetBudget (settleEmptyFront t found))
   at-left t h found =
       at-by t h _
-      (head-met (settleEmptyFront t found) (c .word) (apart (c .unwritten) (place budget) refl)
-      ∙ head-left t found (c .word) (c .unwritten .in-header) (apart (c .unwritten) (place queueFront) refl) (apart (c .unwritten) (place queueCount) refl)
-      (apart (c .unwritten) (place freeCount) refl) (apart (c .unwritten) (place laneCount) refl))
+      (head-met (settleEmptyFront t found) (c .word) (apart (c .unwritten) (placeOf budget) refl)
+      ∙ head-left t found (c .word) (c .unwritten .in-header) (apart (c .unwritten) (placeOf queueFront) refl) (apart (c .unwritten) (placeOf queueCount) refl)
+      (apart (c .unwritten) (placeOf freeCount) refl) (apart (c .unwritten) (placeOf laneCount) refl))
 
   at-turn : (t : List ℕ) → At c t → (p : LanePoll) → At c ((turnBy t p) .1)
   unfolding turnBy
   at-turn t h (LanePoll.Item item rotate released l) =
-      at-by t h _ (head-gave t rotate l (c .word) (c .unwritten .in-header) (apart (c .unwritten) (place queueFront) refl) (apart (c .unwritten) (place budget) refl))
+      at-by t h _ (head-gave t rotate l (c .word) (c .unwritten .in-header) (apart (c .unwritten) (placeOf queueFront) refl) (apart (c .unwritten) (placeOf budget) refl))
   at-turn t h (LanePoll.Idle found) = at-left t h found
 
   at-front : (t r : List ℕ) (fair : Bool) → At c t → At c ((pollFront t r fair) .1)
@@ -105,7 +105,7 @@ module _ {c : Kept} where
 
   at-window-took : (t : List ℕ) → At c t → (item : ℕ) (l : Lane) → At c ((takeFromWindow t item l) .1)
   unfolding takeFromWindow
-  at-window-took t h item l = at-head (putLane t l) (at-put t h l) (place budget) (budget t - 1) refl
+  at-window-took t h item l = at-head (putLane t l) (at-put t h l) (placeOf budget) (budget t - 1) refl
 
   at-fast-took : (t : List ℕ) → At c t → (p : Popped) → At c ((fastTook t p) .1)
   unfolding fastTook
@@ -114,7 +114,7 @@ module _ {c : Kept} where
 
   at-open-took : (t : List ℕ) → At c t → (p : Popped) → At c ((takeIfPopped t p) .1)
   unfolding takeIfPopped
-  at-open-took t h (Popped.Item item l) = at-window-took (setFastSlot t (l .key .slot)) (at-head t h (place fastSlot) (l .key .slot) refl) item l
+  at-open-took t h (Popped.Item item l) = at-window-took (setFastSlot t (l .key .slot)) (at-head t h (placeOf fastSlot) (l .key .slot) refl) item l
   at-open-took t h (Popped.Nothing l) = h
 
   at-fast : (t r : List ℕ) → At c t → At c ((takeFast t r) .1)
@@ -132,7 +132,7 @@ module _ {c : Kept} where
   unfolding collectIfDue
   at-due t h =
       cond-holds (At c) (eqb (budget t) 0) _ t
-      (λ e. cond-holds (At c) (eqb (queueCount t) 0) t (setBudget (collectReady false t) 64) (λ f. h) (λ f. at-head (collectReady false t) (at-collected false t h) (place budget) 64 refl)) (λ e. h)
+      (λ e. cond-holds (At c) (eqb (queueCount t) 0) t (setBudget (collectReady false t) 64) (λ f. h) (λ f. at-head (collectReady false t) (at-collected false t h) (placeOf budget) 64 refl)) (λ e. h)
 
   at-poll-loop : (t r : List ℕ) → At c t → At c ((pollLoop t r) .1)
   unfolding pollLoop
@@ -152,7 +152,7 @@ module _ {c : Kept} where
   at-fair : (t r : List ℕ) → At c t → At c ((takeFair t r) .1)
   unfolding takeFair
   at-fair t r h =
-      let p = at-head (collectReady true t) (at-collected true t h) (place budget) 64 refl in
+      let p = at-head (collectReady true t) (at-collected true t h) (placeOf budget) 64 refl in
       at-else (takeLone (setBudget (collectReady true t) 64) r) _ (at-lone (setBudget (collectReady true t) 64) r p) (λ u k. at-turns u r true k)
 
   -- ---- nothing taken
@@ -238,8 +238,8 @@ module _ {c : Kept} where
       let p = at-put t h (e .lane) in
       at-head (rotateIf (e .ended) (putLane t (e .lane)))
       (cond-holds (At c) (e .ended) (rotateLeft (putLane t (e .lane))) (putLane t (e .lane))
-      (λ d. at-by (putLane t (e .lane)) p _ (head-rotated (putLane t (e .lane)) (c .word) (c .unwritten .in-header) (apart (c .unwritten) (place queueFront) refl))) (λ d. p))
-      (place budget) (fullBudget (budget t) - n) refl
+      (λ d. at-by (putLane t (e .lane)) p _ (head-rotated (putLane t (e .lane)) (c .word) (c .unwritten .in-header) (apart (c .unwritten) (placeOf queueFront) refl))) (λ d. p))
+      (placeOf budget) (fullBudget (budget t) - n) refl
 
   at-chunk-then : (f : Front × List ℕ) (r : List ℕ) (left : ℕ) (more : List ℕ → ℕ → HandsAndTable) → At c (f .1) → ((u : List ℕ) (m : ℕ) → At c u → At c ((more u m) .1))
       → At c ((chunkThen f r left more) .1)
@@ -283,7 +283,7 @@ module _ {c : Kept} where
 -- ---- the same, without the value
 
 -- what a table holds at such a word
-abbrev now : {j : ℕ} → Unwritten j → List ℕ → Kept
+abbrev now : {j : ℕ} → Unwritten j → List ℕ → KeptWord
 now {j = j} n t = record { word = j; value = head t j; unwritten = n }
 
 holds-now : {j : ℕ} (n : Unwritten j) (t : List ℕ) → At (now n t) t
@@ -301,17 +301,17 @@ module _ {j : ℕ} (n : Unwritten j) (t r : List ℕ) where
 
 -- ---- the words that no call writes
 
-pub slots-unwritten : Unwritten (place slots)
-slots-unwritten = record { in-header = refl; not-one = refl }
+pub slots-unwritten : Unwritten (placeOf slots)
+slots-unwritten = beside refl refl
 
-pub capacity-unwritten : Unwritten (place capacity)
-capacity-unwritten = record { in-header = refl; not-one = refl }
+pub capacity-unwritten : Unwritten (placeOf capacity)
+capacity-unwritten = beside refl refl
 
-pub channel-unwritten : Unwritten (place channel)
-channel-unwritten = record { in-header = refl; not-one = refl }
+pub channel-unwritten : Unwritten (placeOf channel)
+channel-unwritten = beside refl refl
 
-pub first-cursor-unwritten : Unwritten (place firstCursor)
-first-cursor-unwritten = record { in-header = refl; not-one = refl }
+pub first-cursor-unwritten : Unwritten (placeOf firstCursor)
+first-cursor-unwritten = beside refl refl
 
-pub first-generation-unwritten : Unwritten (place firstGeneration)
-first-generation-unwritten = record { in-header = refl; not-one = refl }
+pub first-generation-unwritten : Unwritten (placeOf firstGeneration)
+first-generation-unwritten = beside refl refl

@@ -29,7 +29,7 @@ use Rattle.store.specs.declared.refusal.Verdict.{Verdict}
 use Rattle.store.specs.Words.{Words, unlessRefused}
 use Rattle.store.specs.Registry.{retired, retireLane}
 use Rattle.store.specs.Signal.{markIfIdle}
-use Rattle.store.proofs.HeaderWords.{place, Beside, apart}
+use Rattle.store.proofs.HeaderWords.{placeOf, Beside, apart}
 use Rattle.store.proofs.EnqueueLaws.{head-enqueued}
 use Rattle.store.proofs.SignalFrames.{head-marked-if-idle}
 use Rattle.store.proofs.RefusalLaws.{unless-refused-case}
@@ -43,24 +43,24 @@ use Rattle.control.specs.Calls.{controlWords}
 -- the header words that some call writes
 abbrev pub written : ℕ → Bool
 written j =
-    either (eqb (place issued) j) (either (eqb (place queueFront) j) (either (eqb (place queueCount) j) (either (eqb (place freeCount) j)
-    (either (eqb (place budget) j) (either (eqb (place groupCursor) j) (either (eqb (place alive) j) (either (eqb (place fastSlot) j)
-    (either (eqb (place laneCount) j) (eqb (place livingCount) j)))))))))
+    either (eqb (placeOf issued) j) (either (eqb (placeOf queueFront) j) (either (eqb (placeOf queueCount) j) (either (eqb (placeOf freeCount) j)
+    (either (eqb (placeOf budget) j) (either (eqb (placeOf groupCursor) j) (either (eqb (placeOf alive) j) (either (eqb (placeOf fastSlot) j)
+    (either (eqb (placeOf laneCount) j) (eqb (placeOf livingCount) j)))))))))
 
 abbrev pub Unwritten : ℕ → Type 0
 Unwritten j = Beside written j
 
 -- a header word that no call writes, and a value
-pub record Kept : Type 0 where
+pub record KeptWord : Type 0 where
   pub word : ℕ
   pub value : ℕ
   pub unwritten : Unwritten word
 
 -- the word of this table has the value
-pub record At (c : Kept) (t : List ℕ) : Type 0 where
+pub record At (c : KeptWord) (t : List ℕ) : Type 0 where
   pub holds : head t (c .word) ≡ c .value
 
-module _ {c : Kept} (t : List ℕ) (h : At c t) where
+module _ {c : KeptWord} (t : List ℕ) (h : At c t) where
   -- ---- one store
 
   pub at-by : (u : List ℕ) → head u (c .word) ≡ head t (c .word) → At c u
@@ -76,40 +76,40 @@ module _ {c : Kept} (t : List ℕ) (h : At c t) where
   at-cell column row v = at-by (setCell t column row v) (head-setCell t column row v (c .word) (c .unwritten .in-header))
 
   pub at-pushed-back : (x : ℕ) → At c (pushBack t x)
-  at-pushed-back x = at-by (pushBack t x) (head-pushed-back t x (c .word) (c .unwritten .in-header) (apart (c .unwritten) (place queueCount) refl))
+  at-pushed-back x = at-by (pushBack t x) (head-pushed-back t x (c .word) (c .unwritten .in-header) (apart (c .unwritten) (placeOf queueCount) refl))
 
   pub at-removed : (x : ℕ) → At c (remove t x)
-  at-removed x = at-by (remove t x) (head-removed t x (c .word) (c .unwritten .in-header) (apart (c .unwritten) (place queueCount) refl))
+  at-removed x = at-by (remove t x) (head-removed t x (c .word) (c .unwritten .in-header) (apart (c .unwritten) (placeOf queueCount) refl))
 
   at-freed : (x : ℕ) → At c (free t x)
-  at-freed x = at-by (free t x) (head-freed t x (c .word) (c .unwritten .in-header) (apart (c .unwritten) (place freeCount) refl))
+  at-freed x = at-by (free t x) (head-freed t x (c .word) (c .unwritten .in-header) (apart (c .unwritten) (placeOf freeCount) refl))
 
   at-enqueued : (x : ℕ) → At c (enqueue t x)
-  at-enqueued x = at-by (enqueue t x) (head-enqueued t x (c .word) (c .unwritten .in-header) (apart (c .unwritten) (place queueCount) refl))
+  at-enqueued x = at-by (enqueue t x) (head-enqueued t x (c .word) (c .unwritten .in-header) (apart (c .unwritten) (placeOf queueCount) refl))
 
   pub at-marked-if-idle : (l : Lane) → At c (markIfIdle t l)
   at-marked-if-idle l = at-by (markIfIdle t l) (head-marked-if-idle t l (c .word) (c .unwritten .in-header))
 
 -- a lane retires
-pub at-retired : {c : Kept} (t : List ℕ) → At c t → (l : Lane) → At c (retireLane t l)
+pub at-retired : {c : KeptWord} (t : List ℕ) → At c t → (l : Lane) → At c (retireLane t l)
 unfolding retireLane
 at-retired {c = c} t h l =
-    let p = at-head (putLane t (retired l)) (at-put t h (retired l)) (place laneCount) (laneCount t - 1) refl in
+    let p = at-head (putLane t (retired l)) (at-put t h (retired l)) (placeOf laneCount) (laneCount t - 1) refl in
     freed-unless-last-is _ l (At c) p (at-freed _ p (l .key .slot))
 
 -- one thing done for slot after slot
-pub at-slots : {c : Kept} (f : List ℕ → ℕ → List ℕ) → ((t : List ℕ) → At c t → (x : ℕ) → At c (f t x)) → (n x : ℕ) (t : List ℕ) → At c t → At c (forSlots f n x t)
+pub at-slots : {c : KeptWord} (f : List ℕ → ℕ → List ℕ) → ((t : List ℕ) → At c t → (x : ℕ) → At c (f t x)) → (n x : ℕ) (t : List ℕ) → At c t → At c (forSlots f n x t)
 unfolding forSlots
 at-slots f k zero x t h = h
 at-slots f k (suc n) x t h = at-slots f k n (x + 1) (f t x) (k t h x)
 
 -- ---- collecting
 
-at-fold : {c : Kept} (f : List ℕ → ℕ → List ℕ) → ((t : List ℕ) → At c t → (x : ℕ) → At c (f t x)) → (xs t : List ℕ) → At c t → At c (foldl f t xs)
+at-fold : {c : KeptWord} (f : List ℕ → ℕ → List ℕ) → ((t : List ℕ) → At c t → (x : ℕ) → At c (f t x)) → (xs t : List ℕ) → At c t → At c (foldl f t xs)
 at-fold f k [] t h = h
 at-fold f k (x ∷ xs) t h = at-fold f k xs (f t x) (k t h x)
 
-module _ {c : Kept} where
+module _ {c : KeptWord} where
   at-offered : (t : List ℕ) → At c t → (x : ℕ) → At c (offer t x)
   unfolding offer
   at-offered t h x = cond-holds (At c) (wanted t x) (enqueue t x) t (λ e. at-enqueued t h x) (λ e. h)
@@ -128,7 +128,7 @@ module _ {c : Kept} where
   at-from n (suc k) all t next h =
       let g = groupAt n next in
       let taken = setGroupCursor (collectGroup t g) (g + 1) in
-      let p : At c taken = at-head (collectGroup t g) (at-group t h g) (place groupCursor) (g + 1) refl in
+      let p : At c taken = at-head (collectGroup t g) (at-group t h g) (placeOf groupCursor) (g + 1) refl in
       cond-holds (At c) (eqb (groupWord t g) 0) (collectedFrom n k all t (g + 1)) (cond all (collectedFrom n k all taken (g + 1)) taken)
       (λ e. at-from n k all t (g + 1) h)
       (λ e. cond-holds (At c) all (collectedFrom n k all taken (g + 1)) taken (λ f. at-from n k all taken (g + 1) p) (λ f. p))
@@ -139,7 +139,7 @@ module _ {c : Kept} where
 
 -- ---- a call
 
-module _ {c : Kept} (t : List ℕ) (h : At c t) where
+module _ {c : KeptWord} (t : List ℕ) (h : At c t) where
   -- a refused call leaves every word
   pub unless-at : (v : Verdict) (r : List ℕ) (w : Words) → At c (w .1) → At c ((unlessRefused v t r w) .1)
   unless-at v r w k = unless-refused-case (λ z. At c (z .1)) v t r w (λ why e. h) (λ e. k)
@@ -151,16 +151,16 @@ module _ {c : Kept} (t : List ℕ) (h : At c t) where
   taken-at =
       cond-holds (At c) (eqb (freeCount t) 0) (setIssued (openPage t (issued t)) (issued t + 1)) (reissue t)
       (λ e.
-      at-head (openPage t (issued t)) (at-by t h (openPage t (issued t)) (head-opened-page t (issued t) (c .word) (c .unwritten .in-header))) (place issued) (issued t + 1) refl)
-      (λ e. at-by t h (reissue t) (head-reissued t (c .word) (apart (c .unwritten) (place freeCount) refl)))
+      at-head (openPage t (issued t)) (at-by t h (openPage t (issued t)) (head-opened-page t (issued t) (c .word) (c .unwritten .in-header))) (placeOf issued) (issued t + 1) refl)
+      (λ e. at-by t h (reissue t) (head-reissued t (c .word) (apart (c .unwritten) (placeOf freeCount) refl)))
 
   registered-at : At c (registerLane t (dueKey t))
   unfolding registerLane
   registered-at =
       let u : List ℕ = putLane (takeSlot t) (newLane (dueKey t) (firstCursor t)) in
       let v : List ℕ = setLaneCount u (laneCount t + 1) in
-      let p : At c v = at-head u (at-put (takeSlot t) taken-at (newLane (dueKey t) (firstCursor t))) (place laneCount) (laneCount t + 1) refl in
-      at-head v p (place livingCount) (livingCount t + 1) refl
+      let p : At c v = at-head u (at-put (takeSlot t) taken-at (newLane (dueKey t) (firstCursor t))) (placeOf laneCount) (laneCount t + 1) refl in
+      at-head v p (placeOf livingCount) (livingCount t + 1) refl
 
   signaled-at : (s : Sent × List ℕ) → At c ((sendSignaled t s) .1)
   unfolding sendSignaled takeSignaled
@@ -176,7 +176,7 @@ module _ {c : Kept} (t : List ℕ) (h : At c t) where
   unfolding dropLane
   dropped-at l =
       let u : List ℕ = putLane t (withSender 1 0 l) in
-      at-head (markIfIdle u l) (at-marked-if-idle u (at-put t h (withSender 1 0 l)) l) (place livingCount) (livingCount t - 1) refl
+      at-head (markIfIdle u l) (at-marked-if-idle u (at-put t h (withSender 1 0 l)) l) (placeOf livingCount) (livingCount t - 1) refl
 
   pub sender-at : (r : List ℕ) (s : SenderCall) → At c ((senderWords t r s) .1)
   unfolding senderWords registerSender trySend trySendUnsignaled dropSender
@@ -187,7 +187,7 @@ module _ {c : Kept} (t : List ℕ) (h : At c t) where
 
 -- ---- control calls
 
-module _ {c : Kept} where
+module _ {c : KeptWord} where
   at-release-slot : (t : List ℕ) → At c t → (x : ℕ) → At c (releaseSlot t x)
   unfolding releaseSlot
   at-release-slot t h x = cond-holds (At c) (eqb (laneAt t x .registered) 1) _ t (λ e. at-put t h _) (λ e. h)
@@ -204,7 +204,7 @@ module _ {c : Kept} where
   unfolding pollSlots
   at-poll-all t h = at-slots pollSlot at-poll-slot (issued t) 0 t h
 
-module _ {c : Kept} (t : List ℕ) (h : At c t) where
+module _ {c : KeptWord} (t : List ℕ) (h : At c t) where
   paused-at : (l : Lane) → At c (pauseLane t l)
   unfolding pauseLane
   paused-at l = at-removed _ (at-put t h (pausedLane l)) (l .key .slot)
@@ -226,5 +226,5 @@ module _ {c : Kept} (t : List ℕ) (h : At c t) where
   control-at r (CloseLane i) = unless-at t h _ r _ (closed-at (laneAt t (i .key .slot)))
   control-at r ReleaseConsumed = unless-at t h _ r _ (at-release-all t h)
   control-at r PollAllLanes = unless-at t h _ r _ (at-poll-all t h)
-  control-at r CloseReceiver = unless-at t h _ r _ (at-head t h (place alive) 0 refl)
+  control-at r CloseReceiver = unless-at t h _ r _ (at-head t h (placeOf alive) 0 refl)
   control-at r CountHeld = h

@@ -26,7 +26,7 @@ use Rattle.queues.proofs.QueueLaws.{queue-frames, head-pushed-back, head-popped
 use Rattle.queues.proofs.RegistryLaws.{registry-frames, head-freed, head-reissued, shaped-freed, shaped-reissued}
 use Rattle.ready.proofs.MarkLaws.{marked-case, head-marked, lane-marked, queue-marked, page-marked, other-page-marked, linked-marked}
 use Rattle.store.specs.Order.{MarkWords, Stores}
-use Rattle.store.proofs.HeaderWords.{place, Beside, apart, withWord}
+use Rattle.store.proofs.HeaderWords.{placeOf, Beside, beside, apart, withWord}
 use Rattle.store.proofs.ViewLaws.{row-in, without-alike}
 
 -- marks stay linked where page words, group words and the number of issued slots stay
@@ -76,10 +76,10 @@ mark-words-marked t x s h k =
 
 -- the header words that the queue and the free list are read by, and the others that such a run may change
 abbrev pub listed : ℕ → Bool
-listed j = either (eqb (place queueFront) j) (either (eqb (place queueCount) j) (eqb (place freeCount) j))
+listed j = either (eqb (placeOf queueFront) j) (either (eqb (placeOf queueCount) j) (eqb (placeOf freeCount) j))
 
 abbrev pub moved : ℕ → Bool
-moved j = either (eqb (place fastSlot) j) (either (eqb (place budget) j) (either (eqb (place laneCount) j) (eqb (place livingCount) j)))
+moved j = either (eqb (placeOf fastSlot) j) (either (eqb (placeOf budget) j) (either (eqb (placeOf laneCount) j) (eqb (placeOf livingCount) j)))
 
 -- From t to u lane x became l and no other lane changed; the queue is now w, and of the other header words j is now h j.
 pub record Step (t u : List ℕ) (x : ℕ) (l : Lane) (w : List ℕ) (h : ℕ → ℕ) : Type 0 where
@@ -120,37 +120,37 @@ module _ {t u : List ℕ} {x : ℕ} {l : Lane} {w : List ℕ} {h : ℕ → ℕ} 
   -- ---- the header
 
   pub issued-kept : issued u ≡ issued t
-  issued-kept = k .heads (place issued) (record { in-header = refl; not-one = refl }) ∙ k .kept (place issued) (record { in-header = refl; not-one = refl })
+  issued-kept = k .heads (placeOf issued) (beside refl refl) ∙ k .kept (placeOf issued) (beside refl refl)
 
   pub slots-kept : slots u ≡ slots t
-  slots-kept = k .heads (place slots) (record { in-header = refl; not-one = refl }) ∙ k .kept (place slots) (record { in-header = refl; not-one = refl })
+  slots-kept = k .heads (placeOf slots) (beside refl refl) ∙ k .kept (placeOf slots) (beside refl refl)
 
   pub capacity-kept : capacity u ≡ capacity t
-  capacity-kept = k .heads (place capacity) (record { in-header = refl; not-one = refl }) ∙ k .kept (place capacity) (record { in-header = refl; not-one = refl })
+  capacity-kept = k .heads (placeOf capacity) (beside refl refl) ∙ k .kept (placeOf capacity) (beside refl refl)
 
   pub alive-kept : alive u ≡ alive t
-  alive-kept = k .heads (place alive) (record { in-header = refl; not-one = refl }) ∙ k .kept (place alive) (record { in-header = refl; not-one = refl })
+  alive-kept = k .heads (placeOf alive) (beside refl refl) ∙ k .kept (placeOf alive) (beside refl refl)
 
   pub cursor-kept : firstCursor u ≡ firstCursor t
-  cursor-kept = k .heads (place firstCursor) (record { in-header = refl; not-one = refl }) ∙ k .kept (place firstCursor) (record { in-header = refl; not-one = refl })
+  cursor-kept = k .heads (placeOf firstCursor) (beside refl refl) ∙ k .kept (placeOf firstCursor) (beside refl refl)
 
-  pub fast-now : fastSlot u ≡ h (place fastSlot)
-  fast-now = k .heads (place fastSlot) (record { in-header = refl; not-one = refl })
+  pub fast-now : fastSlot u ≡ h (placeOf fastSlot)
+  fast-now = k .heads (placeOf fastSlot) (beside refl refl)
 
-  pub budget-now : budget u ≡ h (place budget)
-  budget-now = k .heads (place budget) (record { in-header = refl; not-one = refl })
+  pub budget-now : budget u ≡ h (placeOf budget)
+  budget-now = k .heads (placeOf budget) (beside refl refl)
 
-  pub lanes-now : laneCount u ≡ h (place laneCount)
-  lanes-now = k .heads (place laneCount) (record { in-header = refl; not-one = refl })
+  pub lanes-now : laneCount u ≡ h (placeOf laneCount)
+  lanes-now = k .heads (placeOf laneCount) (beside refl refl)
 
-  pub living-now : livingCount u ≡ h (place livingCount)
-  living-now = k .heads (place livingCount) (record { in-header = refl; not-one = refl })
+  pub living-now : livingCount u ≡ h (placeOf livingCount)
+  living-now = k .heads (placeOf livingCount) (beside refl refl)
 
   -- ---- one store more
 
   step-same : {v w′ : List ℕ} → Same u v → Shaped v → queueOf v ≡ w′ → Step t v x l w′ h
   step-same {v = v} same s q =
-      let e : issued v ≡ issued u = same .heads (place issued) (record { in-header = refl; not-one = refl }) in
+      let e : issued v ≡ issued u = same .heads (placeOf issued) (beside refl refl) in
       record {
         shaped = s;
         linked = linked-by u v e (same .pages) (same .groups) (k .linked);
@@ -196,7 +196,7 @@ module _ {t u : List ℕ} {x : ℕ} {l : Lane} {w : List ℕ} {h : ℕ → ℕ} 
       let room : queueCount u < slots u = omega (arith, length-queue u, ap length (k .queue), slots-kept) in
       step-same
       (record {
-        heads = λ j i. head-pushed-back u z j (i .in-header) (apart i (place queueCount) refl);
+        heads = λ j i. head-pushed-back u z j (i .in-header) (apart i (placeOf queueCount) refl);
         lanes = λ y. simp queue-frames;
         pages = λ y. simp queue-frames;
         groups = λ y. simp queue-frames;
@@ -208,7 +208,7 @@ module _ {t u : List ℕ} {x : ℕ} {l : Lane} {w : List ℕ} {h : ℕ → ℕ} 
   step-removed z =
       step-same
       (record {
-        heads = λ j i. head-removed u z j (i .in-header) (apart i (place queueCount) refl);
+        heads = λ j i. head-removed u z j (i .in-header) (apart i (placeOf queueCount) refl);
         lanes = λ y. simp queue-frames;
         pages = λ y. simp queue-frames;
         groups = λ y. simp queue-frames;
@@ -221,7 +221,7 @@ module _ {t u : List ℕ} {x : ℕ} {l : Lane} {w : List ℕ} {h : ℕ → ℕ} 
     step-popped-front =
         step-same
         (record {
-          heads = λ j i. head-popped-front u j (apart i (place queueFront) refl) (apart i (place queueCount) refl);
+          heads = λ j i. head-popped-front u j (apart i (placeOf queueFront) refl) (apart i (placeOf queueCount) refl);
           lanes = λ y. simp queue-frames;
           pages = λ y. simp queue-frames;
           groups = λ y. simp queue-frames;
@@ -233,7 +233,7 @@ module _ {t u : List ℕ} {x : ℕ} {l : Lane} {w : List ℕ} {h : ℕ → ℕ} 
     step-rotated =
         step-same
         (record {
-          heads = λ j i. head-rotated u j (i .in-header) (apart i (place queueFront) refl);
+          heads = λ j i. head-rotated u j (i .in-header) (apart i (placeOf queueFront) refl);
           lanes = λ y. simp queue-frames;
           pages = λ y. simp queue-frames;
           groups = λ y. simp queue-frames;
@@ -245,7 +245,7 @@ module _ {t u : List ℕ} {x : ℕ} {l : Lane} {w : List ℕ} {h : ℕ → ℕ} 
   step-freed z room =
       step-same
       (record {
-        heads = λ j i. head-freed u z j (i .in-header) (apart i (place freeCount) refl);
+        heads = λ j i. head-freed u z j (i .in-header) (apart i (placeOf freeCount) refl);
         lanes = λ y. simp registry-frames;
         pages = λ y. simp registry-frames;
         groups = λ y. simp registry-frames;
@@ -257,7 +257,7 @@ module _ {t u : List ℕ} {x : ℕ} {l : Lane} {w : List ℕ} {h : ℕ → ℕ} 
   step-reissued =
       step-same
       (record {
-        heads = λ j i. head-reissued u j (apart i (place freeCount) refl);
+        heads = λ j i. head-reissued u j (apart i (placeOf freeCount) refl);
         lanes = λ y. simp registry-frames;
         pages = λ y. simp registry-frames;
         groups = λ y. simp registry-frames;
@@ -265,33 +265,33 @@ module _ {t u : List ℕ} {x : ℕ} {l : Lane} {w : List ℕ} {h : ℕ → ℕ} 
       (shaped-reissued u (k .shaped)) (simp registry-frames (k .queue))
 
   -- a header word stored that such a run may change, or one that has the value already
-  module _ (word : List ℕ → ℕ) (v : ℕ) (may : moved (place word) ≡ true) where
+  module _ (word : List ℕ → ℕ) (v : ℕ) (may : moved (placeOf word) ≡ true) where
     kept-word : (j : ℕ) → Beside moved j → withWord word v h j ≡ head t j
-    kept-word j i = rw (apart i (place word) may) (k .kept j i)
+    kept-word j i = rw (apart i (placeOf word) may) (k .kept j i)
 
-    pub step-word : ltb (place word) headerWords ≡ true → Shaped (setHead u (place word) v) → queueOf (setHead u (place word) v) ≡ w
-        → Step t (setHead u (place word) v) x l w (withWord word v h)
+    pub step-word : ltb (placeOf word) headerWords ≡ true → Shaped (setHead u (placeOf word) v) → queueOf (setHead u (placeOf word) v) ≡ w
+        → Step t (setHead u (placeOf word) v) x l w (withWord word v h)
     step-word inside s q =
-        let n : List ℕ = setHead u (place word) v in
+        let n : List ℕ = setHead u (placeOf word) v in
         let pages : (p : ℕ) → pageWord n p ≡ pageWord u p = λ p. simp (frames, inside) in
         let groups : (g : ℕ) → groupWord n g ≡ groupWord u g = λ g. simp (frames, inside) in
-        let e : issued n ≡ issued u = other-head-kept u (place word) v (place issued) (apart {set = moved} (record { in-header = refl; not-one = refl }) (place word) may) in
+        let e : issued n ≡ issued u = other-head-kept u (placeOf word) v (placeOf issued) (apart {set = moved} (beside refl refl) (placeOf word) may) in
         record {
           shaped = s;
           linked = linked-by u n e pages groups (k .linked);
           mark-words = λ q. mark-words-by u n e pages groups (k .mark-words q);
-          own = lane-setHead u (place word) v x inside ∙ k .own;
-          others = λ y d. lane-setHead u (place word) v y inside ∙ k .others y d;
+          own = lane-setHead u (placeOf word) v x inside ∙ k .own;
+          others = λ y d. lane-setHead u (placeOf word) v y inside ∙ k .others y d;
           queue = q;
-          heads = λ j i. stored j i (eqb (place word) j) refl;
+          heads = λ j i. stored j i (eqb (placeOf word) j) refl;
           kept = kept-word;
         }
       where
-        stored : (j : ℕ) → Beside listed j → (b : Bool) → eqb (place word) j ≡ b → head (setHead u (place word) v) j ≡ if b v (h j)
-        stored j i true e = subst (λ (z : ℕ). head (setHead u (place word) v) z ≡ v) (eqb-true (place word) j e) (head-stored u (place word) v (header-in u (k .shaped)) inside)
-        stored j i false e = other-head-kept u (place word) v j e ∙ k .heads j i
+        stored : (j : ℕ) → Beside listed j → (b : Bool) → eqb (placeOf word) j ≡ b → head (setHead u (placeOf word) v) j ≡ if b v (h j)
+        stored j i true e = subst (λ (z : ℕ). head (setHead u (placeOf word) v) z ≡ v) (eqb-true (placeOf word) j e) (head-stored u (placeOf word) v (header-in u (k .shaped)) inside)
+        stored j i false e = other-head-kept u (placeOf word) v j e ∙ k .heads j i
 
-    pub step-has : h (place word) ≡ v → Step t u x l w (withWord word v h)
+    pub step-has : h (placeOf word) ≡ v → Step t u x l w (withWord word v h)
     step-has e =
         record {
           shaped = k .shaped;
@@ -300,12 +300,12 @@ module _ {t u : List ℕ} {x : ℕ} {l : Lane} {w : List ℕ} {h : ℕ → ℕ} 
           own = k .own;
           others = k .others;
           queue = k .queue;
-          heads = λ j i. k .heads j i ∙ has j (eqb (place word) j) refl;
+          heads = λ j i. k .heads j i ∙ has j (eqb (placeOf word) j) refl;
           kept = kept-word;
         }
       where
-        has : (j : ℕ) (b : Bool) → eqb (place word) j ≡ b → h j ≡ if b v (h j)
-        has j true i = ap h (sym (eqb-true (place word) j i)) ∙ e
+        has : (j : ℕ) (b : Bool) → eqb (placeOf word) j ≡ b → h j ≡ if b v (h j)
+        has j true i = ap h (sym (eqb-true (placeOf word) j i)) ∙ e
         has j false i = refl
 
   -- the budget

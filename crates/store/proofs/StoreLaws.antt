@@ -40,7 +40,7 @@ use Rattle.store.specs.View.{flag, slotAt, view}
 use Rattle.store.specs.Order.{Flags, Fast, Stores, StoreInOrder}
 use Rattle.store.specs.Words.{Words}
 use Rattle.store.proofs.ViewLaws.{slot-in, row-in}
-use Rattle.store.proofs.HeaderWords.{place}
+use Rattle.store.proofs.HeaderWords.{placeOf}
 use Rattle.store.proofs.CountLaws.{one, SlotSum, lanes-sum, living-sum, number-some, number-but}
 use Rattle.store.proofs.StepLaws.{Step, issued-kept, slots-kept, capacity-kept, alive-kept, cursor-kept, fast-now, budget-now, lanes-now, living-now}
 use Rattle.store.proofs.RefusalLaws.{seen}
@@ -195,15 +195,15 @@ OtherWindows t x w f b =
 pub record Owes (t : List ℕ) (x : ℕ) (l : Lane) (w : List ℕ) (h : ℕ → ℕ) : Type 0 where
   pub flags : Flags l
   pub order : l .registered ≡ 1 → InOrder (capacity t) l
-  pub fast-below : h (place fastSlot) < slots t
+  pub fast-below : h (placeOf fastSlot) < slots t
   -- lane x stands in the queue as its queued word says, the others stand there as before
   pub once : count x w ≤ 1
   pub flagged : l .registered ≡ 1 → l .queued ≡ count x w
   pub rest : (y : ℕ) → x ≢ y → count y w ≡ count y (queueOf t)
-  pub window : l .registered ≡ 1 → 0 < l .window → Fast x (h (place fastSlot)) w (l .window) (h (place budget))
-  pub windows : OtherWindows t x w (h (place fastSlot)) (h (place budget))
-  pub lane-count : h (place laneCount) + laneAt t x .registered ≡ laneCount t + l .registered
-  pub living-count : h (place livingCount) + laneAt t x .living ≡ livingCount t + l .living
+  pub window : l .registered ≡ 1 → 0 < l .window → Fast x (h (placeOf fastSlot)) w (l .window) (h (placeOf budget))
+  pub windows : OtherWindows t x w (h (placeOf fastSlot)) (h (placeOf budget))
+  pub lane-count : h (placeOf laneCount) + laneAt t x .registered ≡ laneCount t + l .registered
+  pub living-count : h (placeOf livingCount) + laneAt t x .living ≡ livingCount t + l .living
 
 without-first : (x y : ℕ) (q : List ℕ) → x ≢ y → take 1 q ≡ y ∷ [] → take 1 (rules.without x q) ≡ y ∷ []
 unfolding rules.without rules.keep
@@ -265,7 +265,7 @@ module _ (t r u q : List ℕ) (o : Stores t r) (x : ℕ) (h : x < issued t) (l :
         linked = k .linked;
         mark-words = k .mark-words (o .mark-words);
         windows = λ y c. rw (fast-now k, k .queue, budget-now k)
-            (own-or (λ z j. z < issued t → j .registered ≡ 1 → 0 < j .window → Fast z (g (place fastSlot)) w (j .window) (g (place budget))) y (λ z. d .window) (λ g. d .windows y g) (rw (issued-kept k) at c));
+            (own-or (λ z j. z < issued t → j .registered ≡ 1 → 0 < j .window → Fast z (g (placeOf fastSlot)) w (j .window) (g (placeOf budget))) y (λ z. d .window) (λ g. d .windows y g) (rw (issued-kept k) at c));
         lanes-counted = lanes-after;
         living-counted = living-after;
       }

@@ -36,7 +36,7 @@ use Rattle.turns.specs.declared.turn.Turn.{Turn}
 use Rattle.turns.specs.declared.turn.Turn.the-variants as Turn
 use Rattle.turns.specs.Turn.{Turning, Ringed, retireIf, settleEmptyFront, meetBudget, lessOne, rotateIf, gaveFront, turnBy, pollFront, afterTurn, turnsWithin, turns}
 use Rattle.store.proofs.CountLaws.{one}
-use Rattle.store.proofs.HeaderWords.{place, withWord}
+use Rattle.store.proofs.HeaderWords.{placeOf, withWord}
 use Rattle.store.proofs.StepLaws.{Step, slots-kept, lanes-now, step-from, step-put-lane, step-popped-front, step-rotated, step-freed, step-budget, step-lane-count}
 use Rattle.store.proofs.RetireFrames.{freed-unless-last-is, length-retire-lane}
 use Rattle.store.proofs.LaneFields.{Fixed, Flagged, flagged, Emptied, PollKept, poll-kept}
@@ -45,7 +45,7 @@ use Rattle.turns.proofs.TurnLaws.{slot-below, some-lane, not-free, free
 -- ---- retiring a lane that is in no queue
 
 module _ {t u : List ℕ} {x : ℕ} {l : Lane} {w : List ℕ} {hd : ℕ → ℕ} (k : Turning t) (s : Step t u x l w hd) (h : x < issued t) (e : laneAt t x .registered ≡ 1)
-    (g : Lane) (at : g .key .slot ≡ x) (others : (y : ℕ) → x ≢ y → count y w ≡ count y (queueOf t)) (gone : count x w ≡ 0) (kept : freeOf u ≡ freeOf t) (lanes : hd (place laneCount) ≡ laneCount t) where
+    (g : Lane) (at : g .key .slot ≡ x) (others : (y : ℕ) → x ≢ y → count y w ≡ count y (queueOf t)) (gone : count x w ≡ 0) (kept : freeOf u ≡ freeOf t) (lanes : hd (placeOf laneCount) ≡ laneCount t) where
   abbrev lowered : List ℕ
   lowered = setHead (putLane u (retired g)) 13 (laneCount u - 1)
 

@@ -29,7 +29,7 @@ use Rattle.queues.proofs.RegistryLaws.{registry-frames, length-free}
 use Rattle.store.specs.View.{flag}
 use Rattle.turns.specs.Turn.{registeredIn, Turning, Ringed, meetBudget}
 use Rattle.store.proofs.CountLaws.{one, passing-same, passing-but, passing-some}
-use Rattle.store.proofs.HeaderWords.{place}
+use Rattle.store.proofs.HeaderWords.{placeOf}
 use Rattle.store.proofs.StepLaws.{Step, lanes-now, linked-by, issued-kept, slots-kept, capacity-kept}
 
 -- ---- what a registered lane gives
@@ -92,7 +92,7 @@ module _ {t u : List ℕ} {x : ℕ} {l : Lane} {w : List ℕ} {hd : ℕ → ℕ}
     | other d p i ↦ subst (P y) (sym (s .others y d)) (others y d)
   ]
 
-  counted-step : hd (place laneCount) + one (flag (laneAt t x .registered)) ≡ laneCount t + one (flag (l .registered)) → laneCount u ≡ registeredIn u
+  counted-step : hd (placeOf laneCount) + one (flag (laneAt t x .registered)) ≡ laneCount t + one (flag (l .registered)) → laneCount u ≡ registeredIn u
   unfolding registeredIn
   counted-step e =
       let c = passing-but (λ y. flag (laneAt u y .registered)) (λ y. flag (laneAt t y .registered)) x 0 (issued t) (omega arith) (omega arith)
@@ -104,7 +104,7 @@ module _ {t u : List ℕ} {x : ℕ} {l : Lane} {w : List ℕ} {hd : ℕ → ℕ}
   pub turning-step : (l .registered ≡ 1 → InOrder (capacity t) l)
       → ((y : ℕ) → x ≢ y → count y w ≡ count y (queueOf t)) → count x w ≤ 1 → (1 ≤ count x w → l .registered ≡ 1) → (l .registered ≡ 1 → l .queued ≡ count x w)
       → ((y : ℕ) → x ≢ y → count y (freeOf u) ≡ count y (freeOf t)) → count x (freeOf u) ≤ 1 → (1 ≤ count x (freeOf u) → l .registered ≡ 1 → ⊥)
-      → hd (place laneCount) + one (flag (laneAt t x .registered)) ≡ laneCount t + one (flag (l .registered)) → Turning u
+      → hd (placeOf laneCount) + one (flag (laneAt t x .registered)) ≡ laneCount t + one (flag (l .registered)) → Turning u
   turning-step o wo w1 wr wq fo f1 fr c =
       record {
         shaped = s .shaped;
