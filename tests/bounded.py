@@ -1,0 +1,84 @@
+#!/usr/bin/env python3
+"""Runs a program within bounds, so that one that never ends, prints without end or takes memory without end is a failure soon.
+
+    tests/bounded.py SECONDS BYTES PROGRAM [WORD ..]
+
+BYTES are of standard output and of standard error, each; both are printed once the program has ended. Of memory it gets 1 GB. Ends with the
+program's status, or with 124 where it met the bound of time or output, and says so. Where memory is refused, how a program ends is its own affair.
+"""
+import os
+import resource
+import signal
+import subprocess
+import sys
+import tempfile
+import time
+
+MEMORY = 1 << 30
+
+
+class Run:
+    """A program that runs from one file to another. What it prints is kept in files, so that the system holds it to the bound."""
+
+    def __init__(self, command, source, target, seconds, most):
+        self.name, self.target, self.seconds, self.most = command[0], target, seconds, most
+        self.errors = tempfile.TemporaryFile()
+        bounds = {resource.RLIMIT_AS: MEMORY, resource.RLIMIT_FSIZE: most, resource.RLIMIT_CORE: 0,
+                  # Of use only where this process is gone, and nobody waits any more.
+                  resource.RLIMIT_CPU: int(seconds) + 2}
+
+        def bind():
+            for bound, value in bounds.items():
+                most = resource.getrlimit(bound)[1]
+                value = value if most == resource.RLIM_INFINITY else min(value, most)
+                resource.setrlimit(bound, (value, value))
+
+        self.until = time.monotonic() + seconds
+        self.process = subprocess.Popen(command, stdin=source, stdout=target, stderr=self.errors, preexec_fn=bind)
+
+    def end(self):
+        """Waits for its end; the status and what is wrong, which is empty where the status is 0."""
+        in_time = True
+        try:
+            self.process.wait(max(self.until - time.monotonic(), 0))
+        except subprocess.TimeoutExpired:
+            in_time = False
+        finally:
+            self.process.kill()
+            self.process.wait()
+        if not in_time:
+            return 124, f"{self.name} has not ended within {self.seconds:.0f} s"
+        if max(os.fstat(file.fileno()).st_size for file in (self.target, self.errors)) >= self.most:
+            return 124, f"{self.name} prints more than {self.most} bytes"
+        status = self.process.returncode
+        return status, f"{self.name} ends with {status}: {self.said()}" if status else ""
+
+    def said(self):
+        """Its standard error."""
+        self.errors.seek(0)
+        return self.errors.read().decode(errors="replace").strip()
+
+
+def main():
+    if len(sys.argv) < 4:
+        sys.exit(__doc__)
+    seconds, most, command = float(sys.argv[1]), int(sys.argv[2]), sys.argv[3:]
+    # Ended by `timeout`, this ends the program too.
+    signal.signal(signal.SIGTERM, lambda *_: sys.exit(124))
+    with tempfile.TemporaryFile() as target:
+        try:
+            run = Run(command, sys.stdin, target, seconds, most)
+        except OSError as error:
+            sys.exit(f"{command[0]}: {error.strerror}")
+        status, wrong = run.end()
+        target.seek(0)
+        sys.stdout.buffer.write(target.read())
+    said = wrong if status == 124 else run.said()
+    if said:
+        print(said, file=sys.stderr)
+    # A signal's number, as the shell has it.
+    sys.exit(status if status >= 0 else 128 - status)
+
+
+if __name__ == "__main__":
+    main()
