@@ -21,7 +21,7 @@ class Run:
     """A program that runs from one file to another. What it prints is kept in files, so that the system holds it to the bound."""
 
     def __init__(self, command, source, target, seconds, most):
-        self.name, self.target, self.seconds, self.most = command[0], target, seconds, most
+        self.command, self.target, self.seconds, self.most = command, target, seconds, most
         self.errors = tempfile.TemporaryFile()
         bounds = {resource.RLIMIT_AS: MEMORY, resource.RLIMIT_FSIZE: most, resource.RLIMIT_CORE: 0,
                   # Of use only where this process is gone, and nobody waits any more.
@@ -37,7 +37,7 @@ class Run:
         self.process = subprocess.Popen(command, stdin=source, stdout=target, stderr=self.errors, preexec_fn=bind)
 
     def end(self):
-        """Waits for its end; the status and what is wrong, which is empty where the status is 0."""
+        """Waits for its end. Its status and its standard error, or 124 and the bound that it met."""
         in_time = True
         try:
             self.process.wait(max(self.until - time.monotonic(), 0))
@@ -47,16 +47,21 @@ class Run:
             self.process.kill()
             self.process.wait()
         if not in_time:
-            return 124, f"{self.name} has not ended within {self.seconds:.0f} s"
+            return 124, f"it has not ended within {self.seconds:.0f} s"
         if max(os.fstat(file.fileno()).st_size for file in (self.target, self.errors)) >= self.most:
-            return 124, f"{self.name} prints more than {self.most} bytes"
-        status = self.process.returncode
-        return status, f"{self.name} ends with {status}: {self.said()}" if status else ""
-
-    def said(self):
-        """Its standard error."""
+            return 124, f"it prints more than {self.most} bytes"
         self.errors.seek(0)
-        return self.errors.read().decode(errors="replace").strip()
+        return self.process.returncode, self.errors.read().decode(errors="replace")
+
+
+def completed(command, data, seconds, most):
+    """A program's run on these bytes, as subprocess.run has it but for the bounds."""
+    with tempfile.TemporaryFile() as source, tempfile.TemporaryFile() as target:
+        source.write(data)
+        source.seek(0)
+        status, said = Run(command, source, target, seconds, most).end()
+        target.seek(0)
+        return subprocess.CompletedProcess(command, status, target.read(), said.encode())
 
 
 def main():
@@ -70,12 +75,12 @@ def main():
             run = Run(command, sys.stdin, target, seconds, most)
         except OSError as error:
             sys.exit(f"{command[0]}: {error.strerror}")
-        status, wrong = run.end()
+        status, said = run.end()
         target.seek(0)
         sys.stdout.buffer.write(target.read())
-    said = wrong if status == 124 else run.said()
-    if said:
-        print(said, file=sys.stderr)
+    if status == 124:
+        said = f"{command[0]}: {said}\n"
+    sys.stderr.write(said)
     # A signal's number, as the shell has it.
     sys.exit(status if status >= 0 else 128 - status)
 
