@@ -23,18 +23,18 @@ class Run:
     def __init__(self, command, source, target, seconds, most):
         self.command, self.target, self.seconds, self.most = command, target, seconds, most
         self.errors = tempfile.TemporaryFile()
-        bounds = {resource.RLIMIT_AS: MEMORY, resource.RLIMIT_FSIZE: most, resource.RLIMIT_CORE: 0,
-                  # Of use only where this process is gone, and nobody waits any more.
-                  resource.RLIMIT_CPU: int(seconds) + 2}
-
-        def bind():
-            for bound, value in bounds.items():
-                most = resource.getrlimit(bound)[1]
-                value = value if most == resource.RLIM_INFINITY else min(value, most)
-                resource.setrlimit(bound, (value, value))
-
         self.until = time.monotonic() + seconds
-        self.process = subprocess.Popen(command, stdin=source, stdout=target, stderr=self.errors, preexec_fn=bind)
+        try:
+            self.process = subprocess.Popen(command, stdin=source, stdout=target, stderr=self.errors)
+        except OSError:
+            self.errors.close()
+            raise
+        # Set while it runs already: what it does before is little. The bound of processor time is for when this process is gone, and nobody waits.
+        bounds = {resource.RLIMIT_AS: MEMORY, resource.RLIMIT_FSIZE: most, resource.RLIMIT_CORE: 0, resource.RLIMIT_CPU: int(seconds) + 2}
+        for bound, value in bounds.items():
+            hard = resource.prlimit(self.process.pid, bound)[1]
+            value = value if hard == resource.RLIM_INFINITY else min(value, hard)
+            resource.prlimit(self.process.pid, bound, (value, value))
 
     def end(self):
         """Waits for its end. Its status and its standard error, or 124 and the bound that it met."""
@@ -46,12 +46,13 @@ class Run:
         finally:
             self.process.kill()
             self.process.wait()
-        if not in_time:
-            return 124, f"it has not ended within {self.seconds:.0f} s"
-        if max(os.fstat(file.fileno()).st_size for file in (self.target, self.errors)) >= self.most:
-            return 124, f"it prints more than {self.most} bytes"
-        self.errors.seek(0)
-        return self.process.returncode, self.errors.read().decode(errors="replace")
+        with self.errors:
+            if not in_time:
+                return 124, f"it has not ended within {self.seconds:.0f} s"
+            if max(os.fstat(file.fileno()).st_size for file in (self.target, self.errors)) >= self.most:
+                return 124, f"it prints more than {self.most} bytes"
+            self.errors.seek(0)
+            return self.process.returncode, self.errors.read().decode(errors="replace")
 
 
 def completed(command, data, seconds, most):
