@@ -6,7 +6,7 @@ use mathlib.Core.List.{List}
 use Prim.Native.Nat.{ℕ, zero, suc, _≤_, _<_}
 use native.Mathlib.Omega.{arith}
 use Rattle.model.specs.Lists.{count}
-use Rattle.model.proofs.Counting.{no}
+use Rattle.demands.proofs.Counting.{no}
 use Rattle.lane.specs.Table.{laneAt}
 use Rattle.lane.proofs.OrderLaws.{refundable}
 use Rattle.queues.specs.Header.{issued, capacity, queueCount, slots}
@@ -14,7 +14,7 @@ use Rattle.queues.specs.Queue.{queueOf}
 use Rattle.queues.proofs.QueueLaws.{queue-has-room}
 use Rattle.store.specs.View.{slotAt, view}
 use Rattle.store.specs.Order.{StoreInOrder}
-use Rattle.all_lanes.specs.Batch.{AllRefundable}
+use Rattle.all_lanes.specs.AllLanes.{AllRefundable}
 use Rattle.store.proofs.ViewLaws.{slot-in}
 use Rattle.store.proofs.StoreLaws.{flag-one}
 

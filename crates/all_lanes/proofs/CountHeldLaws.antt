@@ -11,14 +11,14 @@ use Rattle.model.specs.Lists.{if, keep, from, total}
 use Rattle.model.specs.State.{Slot}
 use Rattle.model.specs.Control as rules
 use Rattle.yring.specs.Cursor.{distance}
-use Rattle.lane.specs.Lane.{held}
-use Rattle.yring.specs.Ring.{ringOf}
+use Rattle.lane.specs.Lane.{heldItems}
+use Rattle.yring.specs.Ring.{newRing}
 use Rattle.lane.specs.Table.{laneAt}
 use Rattle.yring.proofs.RingLaws.{length-items}
 use Rattle.queues.specs.Header.{issued, capacity}
 use Rattle.store.specs.View.{flag, slotAt, view}
 use Rattle.store.specs.Order.{Stores, StoreInOrder}
-use Rattle.all_lanes.specs.Batch.{heldIn, heldFrom, countHeld}
+use Rattle.all_lanes.specs.AllLanes.{heldIn, heldFrom, countHeld}
 use Rattle.store.proofs.ViewLaws.{slot-in}
 use Rattle.store.proofs.RefusalLaws.{seen}
 
@@ -35,10 +35,10 @@ module _ (t r : List ℕ) where
   part m = if (m .registered) (length (m .ring)) 0
 
   held-part : (x : ℕ) → heldIn (laneAt t x) ≡ part (slotAt t r x)
-  unfolding heldIn slotAt held
+  unfolding heldIn slotAt heldItems
   held-part x =
       let l = laneAt t x in
-      rw (length-items (ringOf x (capacity t)) r (l .head) (distance (l .tail) (l .head))) (same (flag (l .registered)) _)
+      rw (length-items (newRing x (capacity t)) r (l .head) (distance (l .tail) (l .head))) (same (flag (l .registered)) _)
     where
       same : (b : Bool) (n : ℕ) → cond b n 0 ≡ if b n 0
       same true n = refl

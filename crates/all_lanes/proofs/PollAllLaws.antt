@@ -19,13 +19,13 @@ use Rattle.lane.specs.Table.{laneAt}
 use Rattle.lane.proofs.TableLaws.{slot-of-lane}
 use Rattle.queues.specs.Header.{issued, slots, budget, fastSlot, laneCount, livingCount, queueCount}
 use Rattle.queues.specs.Queue.{queueOf}
-use Rattle.ready.specs.Ready.{queuedLane, enqueued}
+use Rattle.ready.specs.Ready.{queuedLane, enqueue}
 use Rattle.queues.proofs.QueueLaws.{length-queue}
 use Rattle.ready.proofs.OfferLaws.{Wants, wants-room, other-enqueued}
 use Rattle.store.specs.View.{flag, slotAt, view}
 use Rattle.store.specs.Order.{Stores, StoreInOrder}
 use Rattle.store.specs.Refusal.{receiverVerdict}
-use Rattle.all_lanes.specs.Batch.{forSlots, mayQueue, pollSlot, pollAll, pollAllLanes}
+use Rattle.all_lanes.specs.AllLanes.{forSlots, mayQueue, pollSlot, pollSlots, pollAllLanes}
 use Rattle.store.proofs.ViewLaws.{slot-in, view-enqueued}
 use Rattle.store.proofs.RefusalLaws.{seen, receiver-verdict, refused-alike, unless-refused-case}
 use Rattle.store.proofs.StepLaws.{Step, step-start, step-put-lane, step-pushed-back}
@@ -47,8 +47,8 @@ module _ (t r : List ℕ) (o : Stores t r) (x : ℕ) (w : Wants t x) where
   unnamed : count x (queueOf t) ≡ 0
   unnamed = sym (o .named .flagged x (w .is-issued) (w .registered)) ∙ w .unqueued
 
-  step-enqueued : Step t (enqueued t x) x (queuedLane old) (queueOf t ++ (x ∷ [])) (fastSlot t) (budget t) (laneCount t) (livingCount t)
-  unfolding enqueued
+  step-enqueued : Step t (enqueue t x) x (queuedLane old) (queueOf t ++ (x ∷ [])) (fastSlot t) (budget t) (laneCount t) (livingCount t)
+  unfolding enqueue
   step-enqueued = step-pushed-back (step-put-lane (step-start t r o x) (queuedLane old) (slot-of-lane t x) (w .is-issued)) x (rw (length-queue t) room)
 
   owes-enqueued : Owes t x (queuedLane old) (queueOf t ++ (x ∷ [])) (fastSlot t) (budget t) (laneCount t) (livingCount t)
@@ -74,8 +74,8 @@ module _ (t r : List ℕ) (o : Stores t r) (x : ℕ) (w : Wants t x) where
         living-count = refl;
       }
 
-  stores-enqueued : Stores (enqueued t x) r
-  stores-enqueued = stores-after t r (enqueued t x) r o x (w .is-issued) (queuedLane old) _ _ _ _ _ step-enqueued owes-enqueued (o .rings-room)
+  stores-enqueued : Stores (enqueue t x) r
+  stores-enqueued = stores-after t r (enqueue t x) r o x (w .is-issued) (queuedLane old) _ _ _ _ _ step-enqueued owes-enqueued (o .rings-room)
 
 -- the words' test is the rules'
 module _ (t r : List ℕ) (o : Stores t r) (x : ℕ) (h : x < issued t) where
@@ -153,8 +153,8 @@ module _ (t r : List ℕ) (o : Stores t r) where
       rw (one, sum, ← keep-next test k n q (test k) refl)
       (poll-from n (suc k) (pollSlot u k) (q ++ if (test k) (k ∷ []) []) (poll-next u k q p (omega arith)) (omega arith))
 
-  polled-all : Polled t r (pollAll t) (issued t) (view t r .queue ++ keep test (from 0 (issued t)))
-  unfolding pollAll
+  polled-all : Polled t r (pollSlots t) (issued t) (view t r .queue ++ keep test (from 0 (issued t)))
+  unfolding pollSlots
   polled-all =
       let zero-sum : 0 + issued t ≡ issued t = omega arith in
       rw zero-sum at
@@ -163,11 +163,11 @@ module _ (t r : List ℕ) (o : Stores t r) where
 pub poll-all-lanes-alike : (t r : List ℕ) → StoreInOrder t r → seen (pollAllLanes t r) ≡ (rules.pollAllLanes (view t r)) .1
 unfolding pollAllLanes rules.pollAllLanes view
 poll-all-lanes-alike t r o =
-    refused-alike (receiverVerdict t) _ t r (Done, pollAll t, r) (says Done _) (receiver-verdict t r)
+    refused-alike (receiverVerdict t) _ t r (Done, pollSlots t, r) (says Done _) (receiver-verdict t r)
     (λ e. ap (λ (s : State). (Done, s)) (polled-all t r (o .stores) .sees))
 
 pub poll-all-lanes-keeps : (t r : List ℕ) → StoreInOrder t r → Stores ((pollAllLanes t r) .1) ((pollAllLanes t r) .2)
 unfolding pollAllLanes
 poll-all-lanes-keeps t r o =
-    unless-refused-case (λ w. Stores (w .1) (w .2)) (receiverVerdict t) t r (Done, pollAll t, r) (λ why e. o .stores)
+    unless-refused-case (λ w. Stores (w .1) (w .2)) (receiverVerdict t) t r (Done, pollSlots t, r) (λ why e. o .stores)
     (λ e. polled-all t r (o .stores) .stores)

@@ -14,8 +14,8 @@ use Rattle.model.specs.Changes.{withSlots, put, credited}
 use Rattle.model.specs.Outcome.{says}
 use Rattle.model.specs.Receive as receives
 use Rattle.model.specs.Control as rules
-use Rattle.model.proofs.Counting.{equal, other, same?}
-use Rattle.model.proofs.Words.{state-path}
+use Rattle.demands.proofs.Counting.{equal, other, same?}
+use Rattle.demands.proofs.Simulation.{state-path}
 use Rattle.lane.specs.declared.lane.Lane.{Lane}
 use Rattle.lane.specs.Lane.{releasePending}
 use Rattle.lane.specs.Table.{laneAt, putLane}
@@ -25,7 +25,7 @@ use Rattle.queues.specs.Queue.{queueOf}
 use Rattle.store.specs.View.{flag, slotAt, view}
 use Rattle.store.specs.Order.{Stores, StoreInOrder}
 use Rattle.store.specs.Refusal.{receiverVerdict}
-use Rattle.all_lanes.specs.Batch.{forSlots, releaseSlot, releaseAll, releaseConsumed}
+use Rattle.all_lanes.specs.AllLanes.{forSlots, releaseSlot, releaseAll, releaseConsumed}
 use Rattle.store.proofs.ViewLaws.{slot-in, slot-out, view-put-counts, put-same, put-own}
 use Rattle.store.proofs.RefusalLaws.{seen, receiver-verdict, refused-alike, unless-refused-case}
 use Rattle.store.proofs.StepLaws.{step-start, step-put-lane}

@@ -11,7 +11,7 @@ use lib.ListN.{length}
 use Rattle.lane.specs.declared.lane.Lane.{Lane}
 use Rattle.yring.specs.Cursor.{distance}
 use Rattle.lane.specs.declared.lane.Released.{Released}
-use Rattle.lane.specs.Lane.{closeFast, released, releaseAny, releasePending}
+use Rattle.lane.specs.Lane.{closeFast, release, releaseAny, releasePending}
 use Rattle.lane.specs.Order.{Refundable}
 use Rattle.lane.specs.Order as Lanes
 use Rattle.lane.specs.Table.{headerWords, head, laneAt, putLane}
@@ -19,15 +19,15 @@ use Rattle.lane.proofs.AtHandLaws.{close-closed}
 use Rattle.lane.proofs.CursorOrder.{span-adds, held-adds}
 use Rattle.lane.proofs.OrderLaws.{cond-holds}
 use Rattle.lane.proofs.TableLaws.{frames, load-store-same, slot-of-lane, other-lane-kept}
-use Rattle.model.proofs.Counting.{no}
+use Rattle.demands.proofs.Counting.{no}
 use Rattle.queues.specs.Header.{Shaped, issued, capacity}
 use Rattle.queues.specs.Queue.{QueueNames}
-use Rattle.ready.specs.Ready.{enqueued}
+use Rattle.ready.specs.Ready.{enqueue}
 use Rattle.queues.proofs.QueueLaws.{shaped-putLane}
 use Rattle.ready.proofs.CollectLaws.{Kept, kept-self, kept-then}
 use Rattle.ready.proofs.OfferLaws.{Wants}
 use Rattle.store.specs.Order.{StoreInOrder}
-use Rattle.all_lanes.specs.Batch.{forSlots, AllRefundable, releaseSlot, releaseAll, mayQueue, pollSlot, pollAll, heldIn, heldFrom}
+use Rattle.all_lanes.specs.AllLanes.{forSlots, AllRefundable, releaseSlot, releaseAll, mayQueue, pollSlot, pollSlots, heldIn, heldFrom}
 use Rattle.store.proofs.EnqueueLaws.{kept-enqueued}
 
 -- one slot, then the rest
@@ -51,11 +51,11 @@ slots-end f n x t h = rw (none-left n x h)
 -- ---- credit
 
 -- giving back does one of two things to a lane
-pub release-pending-is : (P : Lane → Type 0) (l : Lane) → P (closeFast l) → P (released (closeFast l)) → P (releasePending l .lane)
+pub release-pending-is : (P : Lane → Type 0) (l : Lane) → P (closeFast l) → P (release (closeFast l)) → P (releasePending l .lane)
 unfolding releasePending releaseAny
 release-pending-is P l p q =
     cond-holds (λ (r : Released). P (r .lane)) (eqb (closeFast l .unreleased) 0)
-    (record { lane = closeFast l; released = false }) (record { lane = released (closeFast l); released = true }) (λ e. p) (λ e. q)
+    (record { lane = closeFast l; released = false }) (record { lane = release (closeFast l); released = true }) (λ e. p) (λ e. q)
 
 -- a lane keeps its slot
 pub key-released : (l : Lane) → releasePending l .lane .key .slot ≡ l .key .slot
@@ -139,20 +139,20 @@ wants-queue t x h e =
     let b = and-both (eqb (l .paused) 0) (eqb (l .queued) 0) (a .1) in
     record { is-issued = h; registered = eqb-true (l .registered) 1 (a .0); unqueued = eqb-true (l .queued) 0 (b .1) }
 
-pub poll-slot-is : (P : List ℕ → Type 0) (t : List ℕ) (x : ℕ) → (mayQueue (laneAt t x) ≡ true → P (enqueued t x)) → (mayQueue (laneAt t x) ≡ false → P t)
+pub poll-slot-is : (P : List ℕ → Type 0) (t : List ℕ) (x : ℕ) → (mayQueue (laneAt t x) ≡ true → P (enqueue t x)) → (mayQueue (laneAt t x) ≡ false → P t)
     → P (pollSlot t x)
 unfolding pollSlot
-poll-slot-is P t x f g = cond-holds P (mayQueue (laneAt t x)) (enqueued t x) t f g
+poll-slot-is P t x f g = cond-holds P (mayQueue (laneAt t x)) (enqueue t x) t f g
 
 pub kept-poll-slot : (t : List ℕ) (x : ℕ) → Shaped t → QueueNames t → x < issued t → Kept t (pollSlot t x)
 kept-poll-slot t x s q h = poll-slot-is (Kept t) t x (λ e. kept-enqueued t x s q (wants-queue t x h e)) (λ e. kept-self t s q)
 
 pub record Polling (t₀ t : List ℕ) (slot : ℕ) : Type 0 where
   pub kept : Kept t₀ t
-  pub rest : forSlots pollSlot (issued t₀ - slot) slot t ≡ pollAll t₀
+  pub rest : forSlots pollSlot (issued t₀ - slot) slot t ≡ pollSlots t₀
 
 pub polling-start : (t : List ℕ) → Shaped t → QueueNames t → Polling t t 0
-unfolding pollAll
+unfolding pollSlots
 polling-start t s q = record { kept = kept-self t s q; rest = ap (λ (n : ℕ). forSlots pollSlot n 0 t) (sub-zero (issued t)) }
 
 pub polling-next : (t₀ t : List ℕ) (slot : ℕ) → Polling t₀ t slot → slot < issued t₀ → (u : List ℕ) → u ≡ pollSlot t slot → Polling t₀ u (slot + 1)
@@ -163,7 +163,7 @@ polling-next t₀ t slot k h u e =
       rest = sym (slots-next pollSlot (issued t₀) slot t h) ∙ k .rest;
     })
 
-pub polling-end : (t₀ t : List ℕ) (slot : ℕ) → Polling t₀ t slot → issued t₀ ≤ slot → t ≡ pollAll t₀
+pub polling-end : (t₀ t : List ℕ) (slot : ℕ) → Polling t₀ t slot → issued t₀ ≤ slot → t ≡ pollSlots t₀
 polling-end t₀ t slot k n = sym (slots-end pollSlot (issued t₀) slot t n) ∙ k .rest
 
 -- ---- held

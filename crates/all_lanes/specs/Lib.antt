@@ -1,1 +1,1 @@
-pub mod Batch
+pub mod AllLanes

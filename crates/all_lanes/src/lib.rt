@@ -1,2 +1,2 @@
 // The calls that go over every issued slot.
-pub mod batch;
+pub mod all_lanes;

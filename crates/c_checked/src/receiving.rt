@@ -3,7 +3,7 @@ ghost use mathlib.Core.Path.{_≡_};
 ghost use Rattle.fanring.specs.Runs.{checkedWords};
 ghost use Rattle.model.specs.declared.ReceiveCall.the-variants.{TryRecv, TryRecvFair, TryRecvFrom};
 ghost use Rattle.model.specs.declared.Call.the-variants.{Receive};
-ghost use Rattle.receive_batch.specs.Drain.{batchInto};
+ghost use Rattle.receive_batch.specs.Batch.{batchInto};
 ghost use Rattle.fanring.specs.Checked.{checkedInto};
 ghost use Rattle.c_answer.specs.Answer.{told, toldInto};
 use c_answer::answer;

@@ -3,13 +3,13 @@ ghost use mathlib.Core.Path.{_≡_};
 ghost use Rattle.store.specs.Order.{StoreInOrder};
 ghost use Rattle.receive.specs.Receive.{tryRecv, tryRecvFair};
 ghost use Rattle.receive_from.specs.Target.{tryRecvFrom};
-ghost use Rattle.receive_batch.specs.Drain.{batchInto};
+ghost use Rattle.receive_batch.specs.Batch.{batchInto};
 ghost use Rattle.c_answer.specs.Answer.{told, toldInto};
 use c_answer::answer;
 use model::LaneId;
 use model::LaneKey;
 use receive::receiver as plain;
-use receive_batch::drain;
+use receive_batch::batch;
 use receive_from::target;
 
 // Receives one item.
@@ -79,6 +79,6 @@ pub extern "C" fn fanring_inner_try_recv_batch_into(
     requires { ⌜ StoreInOrder (now table) (now rings) ⌝ }
     ensures { λ a. ⌜ (a, now (words .exit), now (table .exit), now (rings .entry), now (out .exit)) ≡ toldInto (now (words .entry)) (batchInto (now (table .entry)) (now (rings .entry)) (now (out .entry)) limit) ⌝ }
 {
-    let done = drain::try_recv_batch_into(table, rings, out, limit);
+    let done = batch::try_recv_batch_into(table, rings, out, limit);
     answer::tell(done, words)
 }

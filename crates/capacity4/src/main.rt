@@ -2,12 +2,12 @@
 // plain receives still 11; after the fourth, taken." A line for each call, and what it answers.
 ghost use mathlib.Core.Path.{_≡_};
 ghost use mathlib.Core.Bool.{false};
-ghost use Rattle.yring.specs.Ring.{ringOf};
-ghost use Rattle.lane.specs.Lane.{newLane, pushAndFlush, poll};
+ghost use Rattle.yring.specs.Ring.{newRing};
+ghost use Rattle.lane.specs.Lane.{newLane, pushAndFlushItem, poll};
 ghost use Rattle.lane.specs.Order.{InOrder, sentLane, polledLane};
-use lane::consumer::Sent;
 use lane::lane::Lane;
 use lane::lane::LanePoll;
+use lane::producer::Sent;
 use model::LaneKey;
 use yring::ring::Ring;
 
@@ -27,7 +27,7 @@ fn start() -> Lane
 // Sends an item and says whether it was taken.
 fn send(lane: Lane, store: &mut [u64; 4], item: u64) -> Lane
     requires { ⌜ InOrder 4 lane ⌝ }
-    ensures { λ r. ⌜ (r ≡ sentLane ((pushAndFlush (ringOf 0 4) (now (store .entry)) item lane) .0)) × (now (store .exit) ≡ (pushAndFlush (ringOf 0 4) (now (store .entry)) item lane) .1) × InOrder 4 r ⌝ }
+    ensures { λ r. ⌜ (r ≡ sentLane ((pushAndFlushItem (newRing 0 4) (now (store .entry)) item lane) .0)) × (now (store .exit) ≡ (pushAndFlushItem (newRing 0 4) (now (store .entry)) item lane) .1) × InOrder 4 r ⌝ }
 {
     io::write_all(1, b"send ");
     io::print_decimal(1, item);
@@ -48,7 +48,7 @@ fn send(lane: Lane, store: &mut [u64; 4], item: u64) -> Lane
 // A plain receive, and which item it hands out.
 fn receive(lane: Lane, store: &[u64; 4]) -> Lane
     requires { ⌜ InOrder 4 lane ⌝ }
-    ensures { λ r. ⌜ (r ≡ polledLane (poll (ringOf 0 4) (now (store .entry)) false lane)) × InOrder 4 r ⌝ }
+    ensures { λ r. ⌜ (r ≡ polledLane (poll (newRing 0 4) (now (store .entry)) false lane)) × InOrder 4 r ⌝ }
 {
     match lane.poll(Ring::new(0, 4), store, false) {
         LanePoll::Idle { found } => {

@@ -12,18 +12,18 @@ use Rattle.model.specs.Changes.{withQueue}
 use Rattle.model.specs.Outcome.{says}
 use Rattle.model.specs.Control as rules
 use Rattle.model.specs.Turn as turns
-use Rattle.model.proofs.Counting.{without-own, without-other}
+use Rattle.demands.proofs.Counting.{without-own, without-other}
 use Rattle.lane.specs.declared.lane.Lane.{Lane}
 use Rattle.lane.specs.Table.{laneAt}
 use Rattle.lane.proofs.TableLaws.{slot-of-lane}
 use Rattle.queues.specs.Header.{issued, slots, budget, fastSlot, freeCount, laneCount, livingCount}
-use Rattle.queues.specs.Queue.{queueOf, removed}
+use Rattle.queues.specs.Queue.{queueOf, remove}
 use Rattle.queues.proofs.QueueLaws.{queue-frames, shaped-removed, head-removed, lane-removed}
 use Rattle.store.specs.View.{view}
 use Rattle.store.specs.Order.{Stores, StoreInOrder}
 use Rattle.store.specs.Refusal.{idVerdict}
 use Rattle.store.specs.Registry.{retired, retireLane}
-use Rattle.control.specs.Control.{closed, closeLane}
+use Rattle.control.specs.Control.{close, closeLane}
 use Rattle.store.proofs.ViewLaws.{view-removed}
 use Rattle.store.proofs.RefusalLaws.{seen, id-verdict, id-passes, refused-alike, unless-refused-case}
 use Rattle.store.proofs.StepLaws.{Step, step-start, step-removed}
@@ -35,22 +35,22 @@ module _ (t r : List ℕ) (o : StoreInOrder t r) (x : ℕ) (h : x < issued t) (g
   old = laneAt t x
 
   abbrev out : List ℕ
-  out = removed t x
+  out = remove t x
 
-  closed-is : closed t old ≡ retireLane out (laneAt out x)
-  unfolding closed
-  closed-is = ap (λ (y : ℕ). retireLane (removed t y) old) (slot-of-lane t x) ∙ ap (retireLane out) (sym (lane-removed t x x))
+  closed-is : close t old ≡ retireLane out (laneAt out x)
+  unfolding close
+  closed-is = ap (λ (y : ℕ). retireLane (remove t y) old) (slot-of-lane t x) ∙ ap (retireLane out) (sym (lane-removed t x x))
 
   out-room : freeCount out < slots out
   out-room = simp queue-frames (room-in-free t r (o .stores) x h g (o .ordered))
 
-  view-closed : view (closed t old) r ≡ turns.retireLane x (withQueue (lists.without x (view t r .queue)) (view t r))
+  view-closed : view (close t old) r ≡ turns.retireLane x (withQueue (lists.without x (view t r .queue)) (view t r))
   view-closed =
       ap (λ (u : List ℕ). view u r) closed-is
       ∙ view-retire-lane out r (shaped-removed t (o .stores .shaped) x) x (simp queue-frames h) out-room
       ∙ ap (turns.retireLane x) (view-removed t r (o .stores .shaped) x)
 
-  step-closed : Step t (closed t old) x (retired old) (lists.without x (queueOf t)) (fastSlot t) (budget t) (laneCount out - 1) (livingCount t)
+  step-closed : Step t (close t old) x (retired old) (lists.without x (queueOf t)) (fastSlot t) (budget t) (laneCount out - 1) (livingCount t)
   step-closed =
       subst (λ (u : List ℕ). Step t u x (retired old) (lists.without x (queueOf t)) (fastSlot t) (budget t) (laneCount out - 1) (livingCount t))
       (sym (closed-is ∙ ap (retireLane out) (lane-removed t x x)))
@@ -78,17 +78,17 @@ module _ (t r : List ℕ) (o : StoreInOrder t r) (x : ℕ) (h : x < issued t) (g
         living-count = refl;
       }
 
-  stores-closed : Stores (closed t old) r
-  stores-closed = stores-after t r (closed t old) r (o .stores) x h (retired old) _ _ _ _ _ step-closed owes-closed (o .stores .rings-room)
+  stores-closed : Stores (close t old) r
+  stores-closed = stores-after t r (close t old) r (o .stores) x h (retired old) _ _ _ _ _ step-closed owes-closed (o .stores .rings-room)
 
 pub close-lane-alike : (t r : List ℕ) (i : LaneId) → StoreInOrder t r → seen (closeLane t r i) ≡ (rules.closeLane (view t r) i) .1
 unfolding closeLane rules.closeLane
 close-lane-alike t r i o =
-    refused-alike (idVerdict t i) _ t r (Done, closed t (laneAt t (i .key .slot)), r) (says Done _) (id-verdict t r i)
+    refused-alike (idVerdict t i) _ t r (Done, close t (laneAt t (i .key .slot)), r) (says Done _) (id-verdict t r i)
     (λ e. let k = id-passes t i e .1 in ap (λ (s : State). (Done, s)) (view-closed t r o (i .key .slot) (k .is-issued) (k .registered)))
 
 pub close-lane-keeps : (t r : List ℕ) (i : LaneId) → StoreInOrder t r → Stores ((closeLane t r i) .1) ((closeLane t r i) .2)
 unfolding closeLane
 close-lane-keeps t r i o =
-    unless-refused-case (λ w. Stores (w .1) (w .2)) (idVerdict t i) t r (Done, closed t (laneAt t (i .key .slot)), r) (λ why e. o .stores)
+    unless-refused-case (λ w. Stores (w .1) (w .2)) (idVerdict t i) t r (Done, close t (laneAt t (i .key .slot)), r) (λ why e. o .stores)
     (λ e. let k = id-passes t i e .1 in stores-closed t r o (i .key .slot) (k .is-issued) (k .registered))

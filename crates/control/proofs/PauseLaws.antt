@@ -12,7 +12,7 @@ use Rattle.model.specs.State.{Slot, State}
 use Rattle.model.specs.Changes.{withQueue, put, withFlags, withSignal, withRing, withPaused, credited}
 use Rattle.model.specs.Outcome.{says}
 use Rattle.model.specs.Control as rules
-use Rattle.model.proofs.Counting.{without-own, without-other}
+use Rattle.demands.proofs.Counting.{without-own, without-other}
 use Rattle.lane.specs.declared.lane.Lane.{Lane}
 use Rattle.lane.specs.Order.{InOrder}
 use Rattle.lane.specs.Table.{laneAt, putLane}
@@ -20,12 +20,12 @@ use Rattle.lane.proofs.OrderLaws.{release-pending-keeps}
 use Rattle.lane.proofs.TableLaws.{slot-of-lane}
 use Rattle.lane.specs.Lane.{releasePending}
 use Rattle.queues.specs.Header.{issued, capacity, budget, fastSlot, laneCount, livingCount}
-use Rattle.queues.specs.Queue.{queueOf, removed}
+use Rattle.queues.specs.Queue.{queueOf, remove}
 use Rattle.queues.proofs.QueueLaws.{shaped-putLane}
 use Rattle.store.specs.View.{flag, slotAt, view}
 use Rattle.store.specs.Order.{Flags, Stores, StoreInOrder}
 use Rattle.store.specs.Refusal.{idVerdict}
-use Rattle.control.specs.Control.{pausedLane, paused, pause}
+use Rattle.control.specs.Control.{pausedLane, pauseLane, pause}
 use Rattle.store.proofs.ViewLaws.{slot-in, view-put-same-ends, view-removed}
 use Rattle.store.proofs.RefusalLaws.{seen, id-verdict, id-passes, refused-alike, unless-refused-case}
 use Rattle.store.proofs.StepLaws.{Step, step-start, step-put-lane, step-removed}
@@ -66,11 +66,11 @@ module _ (t r : List ℕ) (o : StoreInOrder t r) (x : ℕ) (h : x < issued t) (g
       (omega (arith, back .unreleased))
       (omega (arith, back .window, back .burst) ∙ sym (ap (λ (m : Slot). m .burst) sees))
 
-  paused-is : paused t old ≡ removed (putLane t new) x
-  unfolding paused
-  paused-is = ap (removed (putLane t new)) (slot-of-lane t x)
+  paused-is : pauseLane t old ≡ remove (putLane t new) x
+  unfolding pauseLane
+  paused-is = ap (remove (putLane t new)) (slot-of-lane t x)
 
-  view-paused : view (paused t old) r ≡ withQueue (lists.without x (view t r .queue)) (put x (withPaused true (credited slot)) (view t r))
+  view-paused : view (pauseLane t old) r ≡ withQueue (lists.without x (view t r .queue)) (put x (withPaused true (credited slot)) (view t r))
   unfolding pausedLane
   view-paused =
       ap (λ (u : List ℕ). view u r) paused-is
@@ -79,7 +79,7 @@ module _ (t r : List ℕ) (o : StoreInOrder t r) (x : ℕ) (h : x < issued t) (g
       (view-put-same-ends t r (o .stores .shaped) x h new (back .same-key) (back .same-head) (back .same-tail)
       ∙ ap (λ (m : Slot). put x m (view t r)) slot-paused)
 
-  step-paused : Step t (paused t old) x new (lists.without x (queueOf t)) (fastSlot t) (budget t) (laneCount t) (livingCount t)
+  step-paused : Step t (pauseLane t old) x new (lists.without x (queueOf t)) (fastSlot t) (budget t) (laneCount t) (livingCount t)
   step-paused =
       subst (λ (u : List ℕ). Step t u x new (lists.without x (queueOf t)) (fastSlot t) (budget t) (laneCount t) (livingCount t)) (sym paused-is)
       (step-removed (step-put-lane (step-start t r (o .stores) x) new own-slot h) x)
@@ -118,18 +118,18 @@ module _ (t r : List ℕ) (o : StoreInOrder t r) (x : ℕ) (h : x < issued t) (g
         living-count = rw (back .same-living) refl;
       }
 
-  stores-paused : Stores (paused t old) r
+  stores-paused : Stores (pauseLane t old) r
   stores-paused =
-      stores-after t r (paused t old) r (o .stores) x h new _ _ _ _ _ step-paused owes-paused (o .stores .rings-room)
+      stores-after t r (pauseLane t old) r (o .stores) x h new _ _ _ _ _ step-paused owes-paused (o .stores .rings-room)
 
 pub pause-alike : (t r : List ℕ) (i : LaneId) → StoreInOrder t r → seen (pause t r i) ≡ (rules.pause (view t r) i) .1
 unfolding pause rules.pause
 pause-alike t r i o =
-    refused-alike (idVerdict t i) _ t r (Done, paused t (laneAt t (i .key .slot)), r) (says Done _) (id-verdict t r i)
+    refused-alike (idVerdict t i) _ t r (Done, pauseLane t (laneAt t (i .key .slot)), r) (says Done _) (id-verdict t r i)
     (λ e. let k = id-passes t i e .1 in ap (λ (s : State). (Done, s)) (view-paused t r o (i .key .slot) (k .is-issued) (k .registered)))
 
 pub pause-keeps : (t r : List ℕ) (i : LaneId) → StoreInOrder t r → Stores ((pause t r i) .1) ((pause t r i) .2)
 unfolding pause
 pause-keeps t r i o =
-    unless-refused-case (λ w. Stores (w .1) (w .2)) (idVerdict t i) t r (Done, paused t (laneAt t (i .key .slot)), r) (λ why e. o .stores)
+    unless-refused-case (λ w. Stores (w .1) (w .2)) (idVerdict t i) t r (Done, pauseLane t (laneAt t (i .key .slot)), r) (λ why e. o .stores)
     (λ e. let k = id-passes t i e .1 in stores-paused t r o (i .key .slot) (k .is-issued) (k .registered))

@@ -16,13 +16,13 @@ use Rattle.lane.specs.declared.lane.Lane.{Lane}
 use Rattle.lane.specs.Table.{laneAt, putLane}
 use Rattle.lane.proofs.TableLaws.{frames, slot-of-lane}
 use Rattle.queues.specs.Header.{Shaped, issued, slots, budget, fastSlot, laneCount, livingCount, queueCount}
-use Rattle.queues.specs.Queue.{queueOf, pushedBack}
+use Rattle.queues.specs.Queue.{queueOf, pushBack}
 use Rattle.queues.proofs.QueueLaws.{shaped-putLane, length-queue}
 use Rattle.store.specs.View.{flag, slotAt, view}
 use Rattle.store.specs.Order.{Stores, StoreInOrder}
 use Rattle.store.specs.Refusal.{idVerdict}
-use Rattle.store.specs.Signal.{markedIfIdle}
-use Rattle.control.specs.Control.{withTurn, resumed, resume}
+use Rattle.store.specs.Signal.{markIfIdle}
+use Rattle.control.specs.Control.{withTurn, resumeLane, resume}
 use Rattle.store.proofs.ViewLaws.{slot-in, view-put-flags, view-pushed-back}
 use Rattle.store.proofs.RefusalLaws.{seen, id-verdict, id-passes, refused-alike, unless-refused-case}
 use Rattle.store.proofs.StepLaws.{Step, step-start, step-put-lane, step-pushed-back}
@@ -49,7 +49,7 @@ module _ (t r : List ℕ) (o : StoreInOrder t r) (x : ℕ) (h : x < issued t) (g
   slot = view t r .slotOf x
 
   abbrev stored : List ℕ
-  stored = markedIfIdle (putLane t new) old
+  stored = markIfIdle (putLane t new) old
 
   sees : slot ≡ slotAt t r x
   sees = slot-in t r x h
@@ -70,16 +70,16 @@ module _ (t r : List ℕ) (o : StoreInOrder t r) (x : ℕ) (h : x < issued t) (g
     room : queueCount t < slots t
     room = paused-room t r o x h p
 
-    resumed-is : resumed t old ≡ pushedBack stored x
-    resumed-is = resumed-paused t old p ∙ ap (pushedBack stored) (slot-of-lane t x)
+    resumed-is : resumeLane t old ≡ pushBack stored x
+    resumed-is = resumed-paused t old p ∙ ap (pushBack stored) (slot-of-lane t x)
 
-    view-resumed : view (resumed t old) r ≡ withQueue (view t r .queue ++ (x ∷ [])) (put x (signalled (withPaused false slot)) (view t r))
+    view-resumed : view (resumeLane t old) r ≡ withQueue (view t r .queue ++ (x ∷ [])) (put x (signalled (withPaused false slot)) (view t r))
     view-resumed =
         ap (λ (u : List ℕ). view u r) resumed-is
         ∙ view-pushed-back stored r (shaped-marked-if-idle (putLane t new) old shaped-new) x (simp (head-marked-if-idle, frames) room)
         ∙ ap (λ (s : State). withQueue (s .queue ++ (x ∷ [])) s) view-stored
 
-    step-resumed : Step t (resumed t old) x new (queueOf t ++ (x ∷ [])) (fastSlot t) (budget t) (laneCount t) (livingCount t)
+    step-resumed : Step t (resumeLane t old) x new (queueOf t ++ (x ∷ [])) (fastSlot t) (budget t) (laneCount t) (livingCount t)
     step-resumed =
         let start = step-start t r (o .stores) x in
         subst (λ (u : List ℕ). Step t u x new (queueOf t ++ (x ∷ [])) (fastSlot t) (budget t) (laneCount t) (livingCount t)) (sym resumed-is)
@@ -109,35 +109,35 @@ module _ (t r : List ℕ) (o : StoreInOrder t r) (x : ℕ) (h : x < issued t) (g
           living-count = refl;
         }
 
-    stores-resumed : Stores (resumed t old) r
-    stores-resumed = stores-after t r (resumed t old) r (o .stores) x h new _ _ _ _ _ step-resumed owes-resumed (o .stores .rings-room)
+    stores-resumed : Stores (resumeLane t old) r
+    stores-resumed = stores-after t r (resumeLane t old) r (o .stores) x h new _ _ _ _ _ step-resumed owes-resumed (o .stores .rings-room)
 
   -- paused or not
-  resumed-as-ruled : view (resumed t old) r ≡ rules.resumeIf (slot .paused) x (view t r)
+  resumed-as-ruled : view (resumeLane t old) r ≡ rules.resumeIf (slot .paused) x (view t r)
   unfolding rules.resumeIf slotAt
   resumed-as-ruled = go (flag (old .paused)) refl
     where
-      go : (b : Bool) → flag (old .paused) ≡ b → view (resumed t old) r ≡ rules.resumeIf (slot .paused) x (view t r)
+      go : (b : Bool) → flag (old .paused) ≡ b → view (resumeLane t old) r ≡ rules.resumeIf (slot .paused) x (view t r)
       go true e = view-resumed (eqb-true _ 1 e) ∙ ap (λ (c : Bool). rules.resumeIf c x (view t r)) (sym (ap (λ (m : Slot). m .paused) sees ∙ e))
       go false e =
           ap (λ (u : List ℕ). view u r) (resumed-unpaused t old (eqb-false _ 1 e))
           ∙ ap (λ (c : Bool). rules.resumeIf c x (view t r)) (sym (ap (λ (m : Slot). m .paused) sees ∙ e))
 
-  resumed-stores : Stores (resumed t old) r
+  resumed-stores : Stores (resumeLane t old) r
   resumed-stores = go (flag (old .paused)) refl
     where
-      go : (b : Bool) → flag (old .paused) ≡ b → Stores (resumed t old) r
+      go : (b : Bool) → flag (old .paused) ≡ b → Stores (resumeLane t old) r
       go true e = stores-resumed (eqb-true _ 1 e)
       go false e = subst (λ (u : List ℕ). Stores u r) (sym (resumed-unpaused t old (eqb-false _ 1 e))) (o .stores)
 
 pub resume-alike : (t r : List ℕ) (i : LaneId) → StoreInOrder t r → seen (resume t r i) ≡ (rules.resume (view t r) i) .1
 unfolding resume rules.resume
 resume-alike t r i o =
-    refused-alike (idVerdict t i) _ t r (Done, resumed t (laneAt t (i .key .slot)), r) (says Done _) (id-verdict t r i)
+    refused-alike (idVerdict t i) _ t r (Done, resumeLane t (laneAt t (i .key .slot)), r) (says Done _) (id-verdict t r i)
     (λ e. let k = id-passes t i e .1 in ap (λ (s : State). (Done, s)) (resumed-as-ruled t r o (i .key .slot) (k .is-issued) (k .registered)))
 
 pub resume-keeps : (t r : List ℕ) (i : LaneId) → StoreInOrder t r → Stores ((resume t r i) .1) ((resume t r i) .2)
 unfolding resume
 resume-keeps t r i o =
-    unless-refused-case (λ w. Stores (w .1) (w .2)) (idVerdict t i) t r (Done, resumed t (laneAt t (i .key .slot)), r) (λ why e. o .stores)
+    unless-refused-case (λ w. Stores (w .1) (w .2)) (idVerdict t i) t r (Done, resumeLane t (laneAt t (i .key .slot)), r) (λ why e. o .stores)
     (λ e. let k = id-passes t i e .1 in resumed-stores t r o (i .key .slot) (k .is-issued) (k .registered))

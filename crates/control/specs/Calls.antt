@@ -6,7 +6,7 @@ use Rattle.model.specs.declared.ControlCall.{ControlCall}
 use Rattle.model.specs.declared.ControlCall.the-variants.{Pause, Resume, CloseLane, ReleaseConsumed, PollAllLanes, CloseReceiver, CountHeld}
 use Rattle.store.specs.Words.{Words}
 use Rattle.control.specs.Control.{pause, resume, closeLane, closeReceiver}
-use Rattle.all_lanes.specs.Batch.{releaseConsumed, pollAllLanes, countHeld}
+use Rattle.all_lanes.specs.AllLanes.{releaseConsumed, pollAllLanes, countHeld}
 
 unfoldable pub controlWords : List ℕ → List ℕ → ControlCall → Words
 controlWords t r (Pause i) = pause t r i

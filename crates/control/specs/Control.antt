@@ -10,10 +10,10 @@ use Rattle.lane.specs.declared.lane.Lane.{Lane}
 use Rattle.lane.specs.Lane.{withFlags, releasePending}
 use Rattle.lane.specs.Table.{laneAt, putLane}
 use Rattle.queues.specs.Header.{setAlive}
-use Rattle.queues.specs.Queue.{pushedBack, removed}
+use Rattle.queues.specs.Queue.{pushBack, remove}
 use Rattle.store.specs.Refusal.{receiverVerdict, idVerdict}
 use Rattle.store.specs.Words.{Words, unlessRefused}
-use Rattle.store.specs.Signal.{markedIfIdle}
+use Rattle.store.specs.Signal.{markIfIdle}
 use Rattle.store.specs.Registry.{retireLane}
 
 -- a lane with another signal, in or out of the queue, paused or not
@@ -24,24 +24,24 @@ withTurn pending queued paused l = withFlags pending queued paused (l .registere
 unfoldable pub pausedLane : Lane → Lane
 pausedLane l = withTurn (l .pending) 0 1 (releasePending l .lane)
 
-unfoldable pub paused : List ℕ → Lane → List ℕ
-paused t l = removed (putLane t (pausedLane l)) (l .key .slot)
+unfoldable pub pauseLane : List ℕ → Lane → List ℕ
+pauseLane t l = remove (putLane t (pausedLane l)) (l .key .slot)
 
 unfoldable pub pause : List ℕ → List ℕ → LaneId → Words
-pause t r i = unlessRefused (idVerdict t i) t r (Done, paused t (laneAt t (i .key .slot)), r)
+pause t r i = unlessRefused (idVerdict t i) t r (Done, pauseLane t (laneAt t (i .key .slot)), r)
 
 -- "Whatever queues a lane, resume too, puts it at the back." Its signal is marked.
-unfoldable pub resumed : List ℕ → Lane → List ℕ
-resumed t l = cond (eqb (l .paused) 1) (pushedBack (markedIfIdle (putLane t (withTurn 1 1 0 l)) l) (l .key .slot)) t
+unfoldable pub resumeLane : List ℕ → Lane → List ℕ
+resumeLane t l = cond (eqb (l .paused) 1) (pushBack (markIfIdle (putLane t (withTurn 1 1 0 l)) l) (l .key .slot)) t
 
 unfoldable pub resume : List ℕ → List ℕ → LaneId → Words
-resume t r i = unlessRefused (idVerdict t i) t r (Done, resumed t (laneAt t (i .key .slot)), r)
+resume t r i = unlessRefused (idVerdict t i) t r (Done, resumeLane t (laneAt t (i .key .slot)), r)
 
-unfoldable pub closed : List ℕ → Lane → List ℕ
-closed t l = retireLane (removed t (l .key .slot)) l
+unfoldable pub close : List ℕ → Lane → List ℕ
+close t l = retireLane (remove t (l .key .slot)) l
 
 unfoldable pub closeLane : List ℕ → List ℕ → LaneId → Words
-closeLane t r i = unlessRefused (idVerdict t i) t r (Done, closed t (laneAt t (i .key .slot)), r)
+closeLane t r i = unlessRefused (idVerdict t i) t r (Done, close t (laneAt t (i .key .slot)), r)
 
 -- "Closing the receiver retires no lane"
 unfoldable pub closeReceiver : List ℕ → List ℕ → Words

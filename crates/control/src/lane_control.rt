@@ -4,7 +4,7 @@ ghost use Prim.Native.Nat.{_<_};
 ghost use Rattle.lane.specs.Order.{Refundable};
 ghost use Rattle.queues.specs.Header.{Shaped, slots, queueCount, freeCount, laneCount};
 ghost use Rattle.store.specs.Order.{StoreInOrder};
-ghost use Rattle.control.specs.Control.{withTurn, paused, pause, resumed, resume, closed, closeLane, closeReceiver};
+ghost use Rattle.control.specs.Control.{withTurn, pauseLane, pause, resumeLane, resume, close, closeLane, closeReceiver};
 use lane::lane::Lane;
 use model::Answer;
 use model::LaneId;
@@ -27,7 +27,7 @@ pub fn with_turn(mut l: Lane, pending: u64, queued: u64, paused: u64) -> Lane
 // Ordinary receives skip a paused lane, so nothing else would give its credit back.
 fn pause_lane(t: &mut [u64], l: Lane)
     requires { ⌜ Shaped (now t) × (l .key .slot < slots (now t)) × Refundable l ⌝ }
-    ensures { λ _. ⌜ now (t .exit) ≡ paused (now (t .entry)) l ⌝ }
+    ensures { λ _. ⌜ now (t .exit) ≡ pauseLane (now (t .entry)) l ⌝ }
 {
     let done = l.release_pending();
     with_turn(done.lane, l.pending, 0, 1).store(t);
@@ -52,7 +52,7 @@ pub fn pause(t: &mut [u64], r: &[u64], id: LaneId) -> Answer
 // The lane goes to the back of the queue whether or not it has items: the next receive looks.
 fn resume_lane(t: &mut [u64], l: Lane)
     requires { ⌜ Shaped (now t) × (l .key .slot < slots (now t)) × (l .paused ≡ 1 → queueCount (now t) < slots (now t)) ⌝ }
-    ensures { λ _. ⌜ now (t .exit) ≡ resumed (now (t .entry)) l ⌝ }
+    ensures { λ _. ⌜ now (t .exit) ≡ resumeLane (now (t .entry)) l ⌝ }
 {
     if l.paused != 1 {
         return;
@@ -80,7 +80,7 @@ pub fn resume(t: &mut [u64], r: &[u64], id: LaneId) -> Answer
 // Out of the queue, and retired.
 fn close(t: &mut [u64], l: Lane)
     requires { ⌜ Shaped (now t) × (l .key .slot < slots (now t)) × (freeCount (now t) < slots (now t)) × (0 < laneCount (now t)) ⌝ }
-    ensures { λ _. ⌜ now (t .exit) ≡ closed (now (t .entry)) l ⌝ }
+    ensures { λ _. ⌜ now (t .exit) ≡ close (now (t .entry)) l ⌝ }
 {
     queue::remove(t, l.key.slot);
     registry::retire_lane(t, l);

@@ -15,7 +15,7 @@ use Rattle.model.specs.declared.Answer.{Answer}
 use Rattle.model.specs.declared.Answer.the-variants.{Refused}
 use Rattle.model.specs.Demand2.{HasRoom}
 use Rattle.store.specs.Words.{Words}
-use Rattle.receive_batch.specs.Drain.{batchInto}
+use Rattle.receive_batch.specs.Batch.{batchInto}
 use Rattle.refinement.specs.Runs.{receiveWords, callWords, handsWords, outputWords}
 use Rattle.refinement.proofs.RefusedUnmoved.{Unmoved}
 use Rattle.refinement.proofs.CallLaws.{call-unmoved, output-unmoved}

@@ -23,10 +23,10 @@ use Rattle.model.specs.declared.Answer.{Answer}
 use Rattle.model.specs.declared.Answer.the-variants.{Refused}
 use Rattle.model.specs.Answers.{number, line}
 use Rattle.model.specs.Runs.{accepted}
-use Rattle.model.proofs.Counting.{no}
+use Rattle.demands.proofs.Counting.{no}
 use Rattle.lane.specs.declared.lane.Lane.{Lane}
-use Rattle.lane.specs.declared.consumer.Sent.{Sent}
-use Rattle.lane.specs.declared.consumer.Sent.the-variants as Sent
+use Rattle.lane.specs.declared.producer.Sent.{Sent}
+use Rattle.lane.specs.declared.producer.Sent.the-variants as Sent
 use Rattle.lane.specs.Table.{laneAt}
 use Rattle.queues.specs.Header.{issued, freeCount, slots, alive, channel, laneCount}
 use Rattle.queues.specs.Registry.{lastFreed}
@@ -34,12 +34,12 @@ use Rattle.store.specs.declared.refusal.Verdict.{Verdict}
 use Rattle.store.specs.declared.refusal.Verdict.the-variants.{Pass, Refuse}
 use Rattle.store.specs.Refusal.{senderVerdict, closedVerdict, receiverVerdict, laneVerdict, andThen, sendVerdict, idVerdict}
 use Rattle.store.specs.Words.{Words, unlessRefused}
-use Rattle.sender.specs.Sender.{sendSignaled, takenSignaled, sendUnsignaled, trySend, trySendUnsignaled, dropSender, unusedVerdict, olderVerdict, slotVerdict, registerVerdict, registerSender, senderWords}
+use Rattle.sender.specs.Sender.{sendSignaled, takeSignaled, sendUnsignaled, trySend, trySendUnsignaled, dropSender, unusedVerdict, olderVerdict, slotVerdict, registerVerdict, registerSender, senderWords}
 use Rattle.control.specs.Control.{pause, resume, closeLane, closeReceiver}
-use Rattle.all_lanes.specs.Batch.{releaseConsumed, pollAllLanes, countHeld}
+use Rattle.all_lanes.specs.AllLanes.{releaseConsumed, pollAllLanes, countHeld}
 use Rattle.control.specs.Calls.{controlWords}
 use Rattle.receive.specs.Receive.{tryRecv, tryRecvFair}
-use Rattle.receive_batch.specs.Drain.{roomVerdict, batchVerdict, tryRecvBatchInto}
+use Rattle.receive_batch.specs.Batch.{roomVerdict, batchVerdict, tryRecvBatchInto}
 use Rattle.receive_from.specs.Target.{tryRecvFrom}
 use Rattle.refinement.specs.Runs.{receiveWords, callWords}
 use Rattle.refinement.proofs.RefusedUnmoved.{answer-one-accepted, take-from-accepted, batch-accepted}
@@ -135,7 +135,7 @@ module _ (t r : List ℕ) where
   unless-result n w a = unless n w (result w a)
 
   sent : (s : Sent × List ℕ) → NotRefusedFive (sendSignaled t s)
-  unfolding sendSignaled takenSignaled accepted number
+  unfolding sendSignaled takeSignaled accepted number
   sent (Sent.Taken l, u) = λ e. no refl (ap accepted e)
   sent (Sent.Full l, u) = another Refusal.Full refl
 

@@ -1,5 +1,5 @@
 -- What is claimed of the calls: of each on any two stores, and of lists of them from an accepted opening on.
--- Most claims are crate `model`'s (its specs/Demand2.antt, Demand3.antt, Closed.antt, Held.antt), here of the words that the calls' contracts name; the last is crate `receiver`'s (its specs/RulesOnWords.antt, DisconnectedOnWords.antt).
+-- Most claims are crate `model`'s (its specs/Demand2.antt, Demand3.antt, Closed.antt, Held.antt), here of the words that the calls' contracts name; the last is crate `refinement`'s (its specs/RulesOnWords.antt, DisconnectedOnWords.antt).
 -- Assumes nothing.
 use mathlib.Core.Path.{_≡_}
 use mathlib.Core.List.{List}
@@ -15,7 +15,7 @@ use Rattle.model.specs.declared.Answer.the-variants.{Done, Refused}
 use Rattle.model.specs.State.{State}
 use Rattle.model.specs.Runs.{RunsOf}
 use Rattle.model.specs.Rules.{outcome}
-use Rattle.model.specs.Words.{runsThatFit}
+use Rattle.model.specs.Simulation.{runsThatFit}
 use Rattle.model.specs.Demand2.{Demand2In, HasRoom, HandsAsAnsweredIn}
 use Rattle.model.specs.Demand3.{Demand3In}
 use Rattle.model.specs.Closed.{NoneAfterCloseIn}

@@ -3,7 +3,7 @@ ghost use mathlib.Core.Path.{_≡_};
 ghost use Rattle.fanring.specs.Runs.{checkedWords};
 ghost use Rattle.model.specs.declared.ControlCall.the-variants.{PollAllLanes, ReleaseConsumed};
 ghost use Rattle.model.specs.declared.Call.the-variants.{Control};
-ghost use Rattle.receive_batch.specs.Drain.{batchInto};
+ghost use Rattle.receive_batch.specs.Batch.{batchInto};
 ghost use Rattle.fanring.specs.Checked.{checkedInto};
 use model::Answer;
 use model::Refusal;
@@ -17,7 +17,7 @@ pub fn try_recv_batch_into(t: &mut [u64], r: &[u64], out: &mut [u64], limit: u64
             why: Refusal::StoreNotInOrder,
         };
     }
-    receive_batch::drain::try_recv_batch_into(t, r, out, limit)
+    receive_batch::batch::try_recv_batch_into(t, r, out, limit)
 }
 
 // Gives back the places of all items that were handed out.
@@ -29,7 +29,7 @@ pub fn release_consumed(t: &mut [u64], r: &[u64]) -> Answer
             why: Refusal::StoreNotInOrder,
         };
     }
-    all_lanes::batch::release_consumed(t, r)
+    all_lanes::all_lanes::release_consumed(t, r)
 }
 
 // Queues every lane that is neither queued nor paused, so that items sent without a signal are found.
@@ -41,5 +41,5 @@ pub fn poll_all_lanes(t: &mut [u64], r: &[u64]) -> Answer
             why: Refusal::StoreNotInOrder,
         };
     }
-    all_lanes::batch::poll_all_lanes(t, r)
+    all_lanes::all_lanes::poll_all_lanes(t, r)
 }

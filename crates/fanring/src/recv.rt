@@ -40,7 +40,7 @@ pub fn held(t: &[u64], r: &[u64]) -> Answer
             why: Refusal::StoreNotInOrder,
         };
     }
-    all_lanes::batch::held(t, r)
+    all_lanes::all_lanes::held(t, r)
 }
 
 // The receiver goes; its lanes stay as they are, and their senders find it closed.

@@ -14,13 +14,13 @@ use Rattle.yring.specs.declared.ring.Ring.{Ring}
 use Rattle.yring.specs.Ring.{itemAt}
 use Rattle.lane.specs.Lane.{
   withCounts,
-  headOn,
+  advance,
   closeFast,
   reload,
   releaseAtBatch,
   readyOrIdle,
   refill,
-  charged,
+  charge,
   endBurst,
   targeted,
   popTargeted,
@@ -56,12 +56,12 @@ refill-filled C l h =
 
 module _ (ring : Ring) (store : List ℕ) (l : Lane) where
   fair-counted : (l .unreleased + 1 ≡ releaseBatch (ring .capacity) → ⊥)
-      → pollItem ring store true l ≡ LanePoll.Item (itemAt ring store (l .head)) true false (endBurst true (charged 1 (headOn 1 l)))
+      → pollItem ring store true l ≡ LanePoll.Item (itemAt ring store (l .head)) true false (endBurst true (charge 1 (advance 1 l)))
   unfolding pollItem polled popTargeted targeted releaseAtBatch
   fair-counted n = simp (ne-eqb (l .unreleased + 1) (releaseBatch (ring .capacity)) n)
 
   pub poll-at-hand : Filled (ring .capacity) l → (l .unreleased + 1 ≡ releaseBatch (ring .capacity) → ⊥)
-      → poll ring store true l ≡ LanePoll.Item (itemAt ring store (l .head)) true false (endBurst true (charged 1 (headOn 1 l)))
+      → poll ring store true l ≡ LanePoll.Item (itemAt ring store (l .head)) true false (endBurst true (charge 1 (advance 1 l)))
   unfolding poll pollRefilled
   poll-at-hand h n = ap (pollRefilled ring store true) (refill-filled (ring .capacity) l h) ∙ fair-counted n
 

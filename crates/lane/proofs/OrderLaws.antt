@@ -10,9 +10,9 @@ use lib.Dec.{eqb}
 use Rattle.model.specs.State.{releaseBatch}
 use Rattle.yring.proofs.ReleaseLaws.{batch-some}
 use Rattle.yring.specs.Cursor.{after, distance, Capacity}
-use Rattle.lane.specs.Lane.{withCursors, withCounts, prefetch, reload, released, headOn, closeFast, windowFor, openWindow, openFor, grantFast, windowPop, popFast, releaseAtBatch, releaseAny, releasePending, settled, emptied, settleEmpty, readyOrIdle, refill, reloadIsEmpty, charged, addBurst, endBurst, targeted, popTargeted, polled, pollItem, pollRefilled, poll, fairWindow, burstOfWindow, fairly, popFair, endFullBurst, chunkLimit, moveChunk, sent, pushAndFlush, newLane}
+use Rattle.lane.specs.Lane.{withCursors, withCounts, prefetch, reload, release, advance, closeFast, windowFor, openWindow, openFor, grantFast, windowPop, popFast, releaseAtBatch, releaseAny, releasePending, settled, emptied, settleEmpty, readyOrIdle, refill, reloadIsEmpty, charge, addBurst, endBurst, targeted, popTargeted, polled, pollItem, pollRefilled, poll, fairWindow, burstOfWindow, fairly, popLone, endFullBurst, chunkLimit, moveChunk, sent, pushAndFlushItem, newLane}
 use Rattle.lane.specs.Order.{Cursors, Counts, InOrder, Filled, FoundEmpty, Refundable, sentLane, poppedLane, refilledLane, polledLane}
-use Rattle.yring.specs.Ring.{push, itemAt}
+use Rattle.yring.specs.Ring.{pushItem, itemAt}
 use Rattle.model.specs.declared.LaneKey.{LaneKey}
 use Rattle.yring.specs.declared.ring.Ring.{Ring}
 use Rattle.lane.specs.declared.lane.Lane.{Lane}
@@ -130,16 +130,16 @@ module _ (C : ℕ) (small : C ≤ 65536) (l : Lane) (o : InOrder C l) where
   burst-keeps n h k = record { cursors = o .cursors; counts = counts-burst (o .counts) n h k }
 
   -- n items are popped and counted, up to the batch, at which credit goes back
-  pub take-keeps : (n : ℕ) → l .window ≡ 0 → n ≤ l .cached → l .unreleased + n ≤ releaseBatch C → InOrder C (releaseAtBatch C (charged n (headOn n l)) .lane)
+  pub take-keeps : (n : ℕ) → l .window ≡ 0 → n ≤ l .cached → l .unreleased + n ≤ releaseBatch C → InOrder C (releaseAtBatch C (charge n (advance n l)) .lane)
   unfolding releaseAtBatch
   take-keeps n e h k =
       cond-holds (λ (r : Released). InOrder C (r .lane)) (eqb (l .unreleased + n) (releaseBatch C))
-      (record { lane = released m; released = true }) (record { lane = m; released = false })
+      (record { lane = release m; released = true }) (record { lane = m; released = false })
       (λ t. record { cursors = released-is-head C (l .tail) (l .released) (after (l .head) n) (l .known) small on; counts = rw (distance-self (after (l .head) n) (on .head-u64), ahead) (counts-credit (o .counts) n e h) })
       (λ t. record { cursors = on; counts = rw (behind, ahead) (counts-charge (o .counts) n e h (short k (eqb-false (l .unreleased + n) (releaseBatch C) t))) })
     where
       m : Lane
-      m = charged n (headOn n l)
+      m = charge n (advance n l)
 
       some : {B d m c u b w : ℕ} → Counts B d m c u b w → n ≤ c → n ≤ m
       some a b = omega arith
@@ -163,7 +163,7 @@ module _ (C : ℕ) (small : C ≤ 65536) (l : Lane) (o : InOrder C l) where
       ahead = ahead-after (l .known) (l .head) n (o .cursors .known-u64) (o .cursors .head-u64) within
 
   -- credit goes back where the window is closed
-  pub released-keeps : l .window ≡ 0 → InOrder C (released l)
+  pub released-keeps : l .window ≡ 0 → InOrder C (release l)
   released-keeps e =
       record {
         cursors = released-is-head C (l .tail) (l .released) (l .head) (l .known) small (o .cursors);
@@ -174,7 +174,7 @@ module _ (C : ℕ) (small : C ≤ 65536) (l : Lane) (o : InOrder C l) where
   unfolding releaseAny
   release-any-keeps e =
       cond-holds (λ (r : Released). InOrder C (r .lane)) (eqb (l .unreleased) 0)
-      (record { lane = l; released = false }) (record { lane = released l; released = true })
+      (record { lane = l; released = false }) (record { lane = release l; released = true })
       (λ t. o) (λ t. released-keeps e)
 
   pub settled-keeps : l .window ≡ 0 → InOrder C (settled l)
@@ -185,7 +185,7 @@ release-any-window : (l : Lane) → releaseAny l .lane .window ≡ l .window
 unfolding releaseAny
 release-any-window l =
     cond-holds (λ (r : Released). r .lane .window ≡ l .window) (eqb (l .unreleased) 0)
-    (record { lane = l; released = false }) (record { lane = released l; released = true }) (λ t. refl) (λ t. refl)
+    (record { lane = l; released = false }) (record { lane = release l; released = true }) (λ t. refl) (λ t. refl)
 
 module _ (C : ℕ) (small : C ≤ 65536) (l : Lane) (o : InOrder C l) where
   pub release-pending-keeps : InOrder C (releasePending l .lane)
@@ -230,11 +230,11 @@ module _ (C : ℕ) (small : C ≤ 65536) (l : Lane) (o : InOrder C l) where
 
 -- credit at the batch leaves window and burst as they are
 module _ (C : ℕ) (l : Lane) where
-  pub at-batch-is : (P : Lane → Type 0) → P l → P (released l) → P (releaseAtBatch C l .lane)
+  pub at-batch-is : (P : Lane → Type 0) → P l → P (release l) → P (releaseAtBatch C l .lane)
   unfolding releaseAtBatch
   at-batch-is P x y =
       cond-holds (λ (r : Released). P (r .lane)) (eqb (l .unreleased) (releaseBatch C))
-      (record { lane = released l; released = true }) (record { lane = l; released = false }) (λ t. y) (λ t. x)
+      (record { lane = release l; released = true }) (record { lane = l; released = false }) (λ t. y) (λ t. x)
 
   pub at-batch-window : releaseAtBatch C l .lane .window ≡ l .window
   at-batch-window = at-batch-is (λ m. m .window ≡ l .window) refl refl
@@ -258,7 +258,7 @@ module _ (ring : Ring) (small : ring .capacity ≤ 65536) (store : List ℕ) (l 
 
   pub pop-targeted-window : popTargeted ring store l .lane .window ≡ 0
   unfolding popTargeted targeted
-  pop-targeted-window = at-batch-window (ring .capacity) (charged 1 (headOn 1 l)) ∙ f .closed
+  pop-targeted-window = at-batch-window (ring .capacity) (charge 1 (advance 1 l)) ∙ f .closed
 
   pub poll-item-keeps : (fair : Bool) → InOrder (ring .capacity) (polledLane (pollItem ring store fair l))
   unfolding pollItem polled
@@ -292,8 +292,8 @@ module _ (ring : Ring) (small : ring .capacity ≤ 65536) (store : List ℕ) (l 
       (burst-keeps (ring .capacity) small l o 0 (rw (eqb-true (l .window) 0 t) (omega arith)) (omega arith)) budget)
       (λ t. o)
 
-  pub pop-fair-keeps : (budget : ℕ) → InOrder (ring .capacity) (poppedLane (popFair ring store budget l))
-  unfolding popFair fairly
+  pub pop-fair-keeps : (budget : ℕ) → InOrder (ring .capacity) (poppedLane (popLone ring store budget l))
+  unfolding popLone fairly
   pop-fair-keeps budget =
       go (popFast ring store (fairWindow (ring .capacity) budget l))
       (pop-fast-keeps (ring .capacity) small (fairWindow (ring .capacity) budget l) (fair-window-keeps budget) ring store)
@@ -311,8 +311,8 @@ unfolding releaseAtBatch
 at-batch-adds C n l = go (eqb (l .unreleased) (releaseBatch C))
   where
     go : (t : Bool)
-        → cond {A = Released} t (record { lane = released (addBurst n l); released = true }) (record { lane = addBurst n l; released = false }) .lane
-        ≡ addBurst n (cond {A = Released} t (record { lane = released l; released = true }) (record { lane = l; released = false }) .lane)
+        → cond {A = Released} t (record { lane = release (addBurst n l); released = true }) (record { lane = addBurst n l; released = false }) .lane
+        ≡ addBurst n (cond {A = Released} t (record { lane = release l; released = true }) (record { lane = l; released = false }) .lane)
     go true = refl
     go false = refl
 
@@ -335,7 +335,7 @@ module _ (C : ℕ) (small : C ≤ 65536) (l : Lane) (f : Filled C l) (take : ℕ
   pub move-chunk-keeps : InOrder C (endFullBurst (moveChunk C take l) .lane)
   unfolding moveChunk endFullBurst
   move-chunk-keeps =
-      let x : Lane = charged take (headOn take l) in
+      let x : Lane = charge take (advance take l) in
       let m : Lane = releaseAtBatch C x .lane in
       let k : InOrder C m = take-keeps C small l (f .order) take (f .closed) (chunk-within .0) (chunk-within .1) in
       let w : m .window ≡ 0 = at-batch-window C x ∙ f .closed in
@@ -349,11 +349,11 @@ module _ (C : ℕ) (small : C ≤ 65536) (l : Lane) (f : Filled C l) (take : ℕ
 
 -- a send keeps the lane in order
 module _ (ring : Ring) (small : ring .capacity ≤ 65536) (store : List ℕ) (item : ℕ) (l : Lane) (o : InOrder (ring .capacity) l) where
-  pub push-and-flush-keeps : InOrder (ring .capacity) (sentLane ((pushAndFlush ring store item l) .0))
-  unfolding pushAndFlush sent push
+  pub push-and-flush-keeps : InOrder (ring .capacity) (sentLane ((pushAndFlushItem ring store item l) .0))
+  unfolding pushAndFlushItem sent pushItem
   push-and-flush-keeps = go (eqb (distance (l .tail) (l .released)) (ring .capacity)) refl
     where
-      go : (t : Bool) → eqb (distance (l .tail) (l .released)) (ring .capacity) ≡ t → InOrder (ring .capacity) (sentLane ((pushAndFlush ring store item l) .0))
+      go : (t : Bool) → eqb (distance (l .tail) (l .released)) (ring .capacity) ≡ t → InOrder (ring .capacity) (sentLane ((pushAndFlushItem ring store item l) .0))
       go true e = rw e o
       go false e =
           rw e
@@ -403,9 +403,9 @@ module _ (C : ℕ) (small : C ≤ 65536) (l : Lane) (o : InOrder C l) (none : re
   keep-never =
       rw (found-by-look .0)
       (cond-holds (λ (r : Released). prefetch (settled (r .lane)) ≡ settled (r .lane)) (eqb (closeFast (prefetch (closeFast l)) .unreleased) 0)
-      (record { lane = closeFast (prefetch (closeFast l)); released = false }) (record { lane = released (closeFast (prefetch (closeFast l))); released = true })
+      (record { lane = closeFast (prefetch (closeFast l)); released = false }) (record { lane = release (closeFast (prefetch (closeFast l))); released = true })
       (λ t. look-same (settled (closeFast (prefetch (closeFast l)))) same refl)
-      (λ t. look-same (settled (released (closeFast (prefetch (closeFast l))))) same refl))
+      (λ t. look-same (settled (release (closeFast (prefetch (closeFast l))))) same refl))
     where
       same : distance (l .tail) (l .tail) ≡ distance (l .tail) (l .known) + 0
       same = distance-self (l .tail) (o .cursors .tail-u64) ∙ sym (ap (λ (n : ℕ). n + 0) nothing-new)

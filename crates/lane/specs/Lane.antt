@@ -6,13 +6,13 @@ use Prim.Native.Nat.{ℕ, _+_, _-_, _≤_, min}
 use lib.Dec.{eqb}
 use Rattle.model.specs.declared.LaneKey.{LaneKey}
 use Rattle.yring.specs.Cursor.{after, distance}
-use Rattle.yring.specs.Ring.{itemAt, items, push, pushCursor}
+use Rattle.yring.specs.Ring.{itemAt, items, pushItem, push}
 use Rattle.model.specs.State.{releaseBatch}
 use Rattle.yring.specs.declared.ring.Ring.{Ring}
 use Rattle.yring.specs.declared.ring.Push.{Push}
 use Rattle.yring.specs.declared.ring.Push.the-variants.{Pushed, Full}
-use Rattle.lane.specs.declared.consumer.Sent.{Sent}
-use Rattle.lane.specs.declared.consumer.Sent.the-variants as Sent
+use Rattle.lane.specs.declared.producer.Sent.{Sent}
+use Rattle.lane.specs.declared.producer.Sent.the-variants as Sent
 use Rattle.lane.specs.declared.consumer.Taken.{Taken}
 use Rattle.lane.specs.declared.lane.Lane.{Lane}
 use Rattle.lane.specs.declared.lane.Popped.{Popped}
@@ -109,8 +109,8 @@ newLane key cursor =
     }
 
 -- what a lane holds: "its accepted sends of both kinds not yet handed out, oldest next"
-unfoldable pub held : Ring → List ℕ → Lane → List ℕ
-held ring store l = items ring store (l .head) (distance (l .tail) (l .head))
+unfoldable pub heldItems : Ring → List ℕ → Lane → List ℕ
+heldItems ring store l = items ring store (l .head) (distance (l .tail) (l .head))
 
 -- THE RING'S TWO ENDS
 
@@ -119,16 +119,16 @@ unfoldable pub sent : Lane → Push × List ℕ → Sent × List ℕ
 sent l (Pushed cursor, store) = (Sent.Taken (withCursors cursor (l .released) (l .head) (l .known) l), store)
 sent l (Full, store) = (Sent.Full l, store)
 
-unfoldable pub pushAndFlush : Ring → List ℕ → ℕ → Lane → Sent × List ℕ
-pushAndFlush ring store item l = sent l (push ring store (l .tail) (l .released) item)
+unfoldable pub pushAndFlushItem : Ring → List ℕ → ℕ → Lane → Sent × List ℕ
+pushAndFlushItem ring store item l = sent l (pushItem ring store (l .tail) (l .released) item)
 
 -- the lane that a send leaves, or the full one: a send but for the item's word
 unfoldable pub sentBy : Lane → Push → Sent
 sentBy l (Pushed cursor) = Sent.Taken (withCursors cursor (l .released) (l .head) (l .known) l)
 sentBy l Full = Sent.Full l
 
-unfoldable pub flushed : Ring → Lane → Sent
-flushed ring l = sentBy l (pushCursor ring (l .tail) (l .released))
+unfoldable pub pushAndFlush : Ring → Lane → Sent
+pushAndFlush ring l = sentBy l (push ring (l .tail) (l .released))
 
 -- what was published since the last look is counted, and known
 abbrev pub prefetch : Lane → Lane
@@ -138,16 +138,16 @@ unfoldable pub reload : Lane → Lane
 reload l = cond (eqb (l .cached) 0) (prefetch l) l
 
 -- credit goes back: the released head is the head
-abbrev pub released : Lane → Lane
-released l = withCounts (l .cached) 0 (l .burst) (l .window) (withCursors (l .tail) (l .head) (l .head) (l .known) l)
+abbrev pub release : Lane → Lane
+release l = withCounts (l .cached) 0 (l .burst) (l .window) (withCursors (l .tail) (l .head) (l .head) (l .known) l)
 
 -- the head n items further
-abbrev pub headOn : ℕ → Lane → Lane
-headOn n l = withCursors (l .tail) (l .released) (after (l .head) n) (l .known) l
+abbrev pub advance : ℕ → Lane → Lane
+advance n l = withCursors (l .tail) (l .released) (after (l .head) n) (l .known) l
 
 -- the item at the head, and the lane with the head past it
 abbrev pub pop : Ring → List ℕ → Lane → Taken
-pop ring store l = record { item = itemAt ring store (l .head); lane = headOn 1 l }
+pop ring store l = record { item = itemAt ring store (l .head); lane = advance 1 l }
 
 -- THE WINDOW
 
@@ -169,11 +169,11 @@ unfoldable pub grantFast : ℕ → ℕ → Lane → Lane
 grantFast C budget l = openFor C budget (reload (closeFast l))
 
 abbrev pub windowPop : Lane → Lane
-windowPop l = withCounts (l .cached) (l .unreleased) (l .burst) (l .window - 1) (headOn 1 l)
+windowPop l = withCounts (l .cached) (l .unreleased) (l .burst) (l .window - 1) (advance 1 l)
 
 -- the window's next item, where it has one
-abbrev pub windowTaken : Ring → List ℕ → Lane → Taken
-windowTaken ring store l = record { item = itemAt ring store (l .head); lane = windowPop l }
+abbrev pub popWindow : Ring → List ℕ → Lane → Taken
+popWindow ring store l = record { item = itemAt ring store (l .head); lane = windowPop l }
 
 -- "first the open fast window": its next item, with no other count changed
 unfoldable pub popFast : Ring → List ℕ → Lane → Popped
@@ -185,7 +185,7 @@ popFast ring store l = cond (eqb (l .window) 0) (Popped.Nothing l) (Popped.Item 
 unfoldable pub releaseAtBatch : ℕ → Lane → Released
 releaseAtBatch C l =
     cond (eqb (l .unreleased) (releaseBatch C))
-    (record { lane = released l; released = true })
+    (record { lane = release l; released = true })
     (record { lane = l; released = false })
 
 -- "when the lane is found empty; on `pause`; on `release_consumed`"
@@ -193,7 +193,7 @@ unfoldable pub releaseAny : Lane → Released
 releaseAny l =
     cond (eqb (l .unreleased) 0)
     (record { lane = l; released = false })
-    (record { lane = released l; released = true })
+    (record { lane = release l; released = true })
 
 unfoldable pub releasePending : Lane → Released
 releasePending l = releaseAny (closeFast l)
@@ -221,8 +221,8 @@ reloadIsEmpty l = record { lane = reload (closeFast l); empty = eqb (reload (clo
 
 -- ITEMS WITH FULL COUNTING
 
-abbrev pub charged : ℕ → Lane → Lane
-charged n l = withCounts (l .cached - n) (l .unreleased + n) (l .burst) (l .window) l
+abbrev pub charge : ℕ → Lane → Lane
+charge n l = withCounts (l .cached - n) (l .unreleased + n) (l .burst) (l .window) l
 
 abbrev pub addBurst : ℕ → Lane → Lane
 addBurst n l = withCounts (l .cached) (l .unreleased) (l .burst + n) (l .window) l
@@ -235,7 +235,7 @@ unfoldable pub targeted : ℕ → Released → Targeted
 targeted item r = record { item = item; lane = r .lane; released = r .released }
 
 unfoldable pub popTargeted : Ring → List ℕ → Lane → Targeted
-popTargeted ring store l = targeted (itemAt ring store (l .head)) (releaseAtBatch (ring .capacity) (charged 1 (headOn 1 l)))
+popTargeted ring store l = targeted (itemAt ring store (l .head)) (releaseAtBatch (ring .capacity) (charge 1 (advance 1 l)))
 
 -- the turn ends with every item of a fair receive, else at a burst of 64
 unfoldable pub polled : Bool → Targeted → LanePoll
@@ -262,15 +262,15 @@ abbrev pub burstOfWindow : Lane → Lane
 burstOfWindow l = withCounts (l .cached) (l .unreleased) (l .window) (l .window) l
 
 -- an item through that window, where it has one
-abbrev pub fairTaken : Ring → List ℕ → Lane → Taken
-fairTaken ring store l = record { item = itemAt ring store (l .head); lane = burstOfWindow (windowPop l) }
+abbrev pub popFair : Ring → List ℕ → Lane → Taken
+popFair ring store l = record { item = itemAt ring store (l .head); lane = burstOfWindow (windowPop l) }
 
 unfoldable pub fairly : Popped → Popped
 fairly (Popped.Item item l) = Popped.Item item (burstOfWindow l)
 fairly (Popped.Nothing l) = Popped.Nothing l
 
-unfoldable pub popFair : Ring → List ℕ → ℕ → Lane → Popped
-popFair ring store budget l = fairly (popFast ring store (fairWindow (ring .capacity) budget l))
+unfoldable pub popLone : Ring → List ℕ → ℕ → Lane → Popped
+popLone ring store budget l = fairly (popFast ring store (fairWindow (ring .capacity) budget l))
 
 -- CHUNKS
 
@@ -284,4 +284,4 @@ chunkLimit C l = min (min (l .cached) (64 - l .burst)) (releaseBatch C - l .unre
 
 -- the lane after n of its items are moved: the counts go on by them, and "Credit goes back when the unreleased count reaches the release batch"
 unfoldable pub moveChunk : ℕ → ℕ → Lane → Lane
-moveChunk C n l = releaseAtBatch C (addBurst n (charged n (headOn n l))) .lane
+moveChunk C n l = releaseAtBatch C (addBurst n (charge n (advance n l))) .lane

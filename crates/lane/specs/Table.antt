@@ -45,8 +45,8 @@ words l =
     ∷ l .pending ∷ l .queued ∷ l .paused ∷ l .registered ∷ l .living ∷ []
 
 -- the lane of a slot whose words are f 0, f 1, ..
-abbrev pub laneBy : ℕ → (ℕ → ℕ) → Lane
-laneBy slot f =
+abbrev pub ofWords : ℕ → (ℕ → ℕ) → Lane
+ofWords slot f =
     record {
       key = record { slot = slot; generation = f 0 };
       tail = f 1;
@@ -66,7 +66,7 @@ laneBy slot f =
 
 -- the lane of a slot
 unfoldable pub laneAt : List ℕ → ℕ → Lane
-laneAt t slot = laneBy slot (λ column. cell t column slot)
+laneAt t slot = ofWords slot (λ column. cell t column slot)
 
 -- the table with a lane's words in its slot's row
 unfoldable pub putLane : List ℕ → Lane → List ℕ

@@ -1,17 +1,11 @@
-// The two ends of a lane's ring: yring/src/consumer.rs, and the producer of src/ring.rs.
+// The receiver's end of a lane's ring: yring/src/consumer.rs.
 ghost use mathlib.Core.Path.{_≡_};
 ghost use lib.ListN.{length};
 ghost use Rattle.yring.specs.Ring.{Within};
-ghost use Rattle.lane.specs.Lane.{flushed, prefetch, reload, released, pop, headOn};
+ghost use Rattle.lane.specs.Lane.{prefetch, reload, release, pop, advance};
 use crate::lane::Lane;
 use yring::ring;
-use yring::ring::Push;
 use yring::ring::Ring;
-
-pub enum Sent {
-    Taken { lane: Lane },
-    Full { lane: Lane },
-}
 
 pub struct Taken {
     pub item: u64,
@@ -19,20 +13,6 @@ pub struct Taken {
 }
 
 impl Lane {
-    // The sender's end: the lane with one item more, published. The caller puts the item at the tail
-    // that the lane had.
-    pub fn push_and_flush(mut self, ring: Ring) -> Sent
-        ensures { λ r. ⌜ r ≡ flushed ring self ⌝ }
-    {
-        match ring.push(self.tail, self.released) {
-            Push::Full => Sent::Full { lane: self },
-            Push::Pushed { cursor } => {
-                self.tail = cursor;
-                Sent::Taken { lane: self }
-            }
-        }
-    }
-
     // Counts what was published since the last look. The Rust looks a second time where there is
     // nothing, for a sender that waits: serially that finds nothing either.
     pub(crate) fn prefetch(mut self) -> Lane
@@ -58,7 +38,7 @@ impl Lane {
     // other items.
     pub(crate) fn release(mut self) -> Lane
         requires { ⌜ self .window ≡ 0 ⌝ }
-        ensures { λ r. ⌜ r ≡ released self ⌝ }
+        ensures { λ r. ⌜ r ≡ release self ⌝ }
     {
         self.released = self.head;
         self.unreleased = 0;
@@ -80,7 +60,7 @@ impl Lane {
 
     // The lane with the head `count` items on. The caller moves them to the output.
     pub(crate) fn advance(mut self, count: u64) -> Lane
-        ensures { λ r. ⌜ r ≡ headOn count self ⌝ }
+        ensures { λ r. ⌜ r ≡ advance count self ⌝ }
     {
         self.head = ring::after(self.head, count);
         self

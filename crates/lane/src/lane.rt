@@ -15,15 +15,15 @@ ghost use Rattle.lane.specs.Lane.{
   windowFor,
   openWindow,
   grantFast,
-  windowTaken,
+  popWindow,
   popFast,
-  charged,
+  charge,
   addBurst,
   endBurst,
   releaseAtBatch,
   pollItem,
   poll,
-  fairTaken,
+  popFair,
   fairWindow,
   burstOfWindow,
   popTargeted,
@@ -194,7 +194,7 @@ impl Lane {
     // The next item of a window that has one.
     pub fn pop_window(self, ring: Ring, store: &[u64]) -> Taken
         requires { ⌜ Within ring (length (now store)) × (0 < self .window) ⌝ }
-        ensures { λ r. ⌜ r ≡ windowTaken ring (now (store .entry)) self ⌝ }
+        ensures { λ r. ⌜ r ≡ popWindow ring (now (store .entry)) self ⌝ }
     {
         let taken = self.pop(ring, store);
         let mut lane = taken.lane;
@@ -220,7 +220,7 @@ impl Lane {
     // `n` items leave the cached count for the unreleased one.
     fn charge(mut self, n: u64) -> Lane
         requires { ⌜ (n ≤ self .cached) × (self .unreleased + n ≤ 131072) ⌝ }
-        ensures { λ r. ⌜ r ≡ charged n self ⌝ }
+        ensures { λ r. ⌜ r ≡ charge n self ⌝ }
     {
         self.cached -= n;
         self.unreleased += n;
@@ -325,7 +325,7 @@ impl Lane {
     // `fair_window` left. A fair receive ends the burst, which then counts only what is left in it.
     pub fn pop_fair(self, ring: Ring, store: &[u64]) -> Taken
         requires { ⌜ Within ring (length (now store)) × (0 < self .window) ⌝ }
-        ensures { λ r. ⌜ r ≡ fairTaken ring (now (store .entry)) self ⌝ }
+        ensures { λ r. ⌜ r ≡ popFair ring (now (store .entry)) self ⌝ }
     {
         let taken = self.pop_window(ring, store);
         let lane = taken.lane;

@@ -2,7 +2,7 @@
 ghost use mathlib.Core.Path.{_≡_};
 ghost use Prim.Native.Nat.{_+_, _*_, _≤_, _<_};
 ghost use lib.ListN.{length, getD};
-ghost use Rattle.lane.specs.Table.{rowWords, laneWords, HasRow, cell, setCell, words, laneBy, laneAt, putLane};
+ghost use Rattle.lane.specs.Table.{rowWords, laneWords, HasRow, cell, setCell, words, ofWords, laneAt, putLane};
 use crate::lane::Lane;
 use model::LaneKey;
 
@@ -38,7 +38,7 @@ impl Lane {
     // The lane of a slot whose record is these words.
     fn of_words(slot: u64, words: &[u64]) -> Self
         requires { ⌜ length (now words) ≡ laneWords ⌝ }
-        ensures { λ r. ⌜ r ≡ laneBy slot (λ i. getD (now (words .entry)) i 0) ⌝ }
+        ensures { λ r. ⌜ r ≡ ofWords slot (λ i. getD (now (words .entry)) i 0) ⌝ }
     {
         Lane {
             key: LaneKey {

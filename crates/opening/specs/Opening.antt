@@ -10,7 +10,7 @@ use Rattle.model.specs.declared.Refusal.the-variants.{CapacityOutOfRange, Slots
 use Rattle.model.specs.declared.Answer.the-variants.{Done}
 use Rattle.model.specs.Opening.{nextPowerOfTwo}
 use Rattle.lane.specs.Table.{headerWords, rowWords}
-use Rattle.queues.specs.Header.{openedHeader, putHeader}
+use Rattle.queues.specs.Header.{newHeader, putHeader}
 use Rattle.store.specs.declared.refusal.Verdict.{Verdict}
 use Rattle.store.specs.declared.refusal.Verdict.the-variants.{Pass, Refuse}
 use Rattle.store.specs.Words.{Words, unlessRefused}
@@ -35,7 +35,7 @@ storesVerdict S C table rings =
 unfoldable pub openSized : Opening → List ℕ → List ℕ → Words
 openSized o t r =
     let C = nextPowerOfTwo (o .capacity) in
-    unlessRefused (storesVerdict (o .slots) C (length t) (length r)) t r (Done, putHeader t (openedHeader o C), r)
+    unlessRefused (storesVerdict (o .slots) C (length t) (length r)) t r (Done, putHeader t (newHeader o C), r)
 
 unfoldable pub openStore : Opening → List ℕ → List ℕ → Words
 openStore o t r = unlessRefused (sizesVerdict o) t r (openSized o t r)

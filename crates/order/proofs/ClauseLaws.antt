@@ -11,7 +11,7 @@ use Rattle.model.specs.Lists.{count}
 use Rattle.model.specs.State.{vacant, registeredLanes, livingSenders}
 use Rattle.model.specs.Order.{Ordered, SlotOrdered}
 use Rattle.model.specs.Ready.{groupsIn}
-use Rattle.model.proofs.Counting.{no}
+use Rattle.demands.proofs.Counting.{no}
 use Rattle.lane.specs.declared.lane.Lane.{Lane}
 use Rattle.lane.specs.Order.{InOrder}
 use Rattle.lane.specs.Table.{laneAt}

@@ -9,7 +9,7 @@ use lib.ListN.{length, take, getD}
 use lib.Pow.{pow-mono}
 use Rattle.model.specs.Lists.{count}
 use Rattle.model.specs.State.{releaseBatch}
-use Rattle.model.proofs.Counting.{equal, other, same?, same-self}
+use Rattle.demands.proofs.Counting.{equal, other, same?, same-self}
 use Rattle.lane.specs.declared.lane.Lane.{Lane}
 use Rattle.yring.specs.Cursor.{Capacity, distance}
 use Rattle.lane.specs.Order.{Cursors, Counts, InOrder}
@@ -17,7 +17,7 @@ use Rattle.lane.specs.Table.{laneAt}
 use Rattle.queues.specs.Header.{issued, budget, capacity, fastSlot}
 use Rattle.queues.specs.Queue.{queueOf}
 use Rattle.queues.specs.Registry.{freeOf}
-use Rattle.ready.specs.Ready.{groupsOf}
+use Rattle.ready.specs.Ready.{groupCount}
 use Rattle.store.specs.Order.{Flags, Fast, StoreInOrder}
 use Rattle.order_slot.specs.Tells.{Tells, yes, no}
 use Rattle.order_slot.specs.Clauses.{LengthsHold, PlacesHold, LimitsHold, HeaderHolds, Names, RegisteredHolds, UnregisteredHolds, SlotHolds, SlotsHold, CountsHold, PageHolds, GroupHolds, PagesHold, GroupsHold, Clauses}
@@ -223,7 +223,7 @@ module _ (t : List ℕ) where
 
   pub groups-tell : Tells (GroupsHold t) (groupsTest t)
   unfolding groupsTest
-  groups-tell = tells-all-where (groupsOf (issued t)) (λ group h. omega arith) (λ group h. omega arith) group-tells
+  groups-tell = tells-all-where (groupCount (issued t)) (λ group h. omega arith) (λ group h. omega arith) group-tells
 
 -- ---- all clauses
 

@@ -13,7 +13,7 @@ use Rattle.queues.specs.Header.{Shaped, issued, slots, queueFront, queueCount, 
 use Rattle.queues.specs.Queue.{queueColumn, queueRow, queueOf}
 use Rattle.queues.specs.Registry.{freeColumn, freeOf}
 use Rattle.order_slot.specs.Clauses.{Names}
-use Rattle.order.specs.Seen.{has, added, Seen}
+use Rattle.order.specs.Seen.{has, add, Seen}
 use Rattle.order.proofs.SeenLaws.{Noted, noted-none, noted-more, noted-no, noted-all}
 
 -- a ring's next row
@@ -31,7 +31,7 @@ freeEntry t i = cell t freeColumn (freeCount t - suc i)
 
 -- a slot that was noted, in the words of the code
 module _ (issued k : ℕ) (f : ℕ → ℕ) (seen : List ℕ) (o : Noted issued k f seen) {slot : ℕ} (e : slot ≡ f k) where
-  slot-more : issued ≤ 8192 → (slot < issued) × (has seen slot ≡ 0) → {u : List ℕ} → u ≡ added seen slot → Noted issued (k + 1) f u
+  slot-more : issued ≤ 8192 → (slot < issued) × (has seen slot ≡ 0) → {u : List ℕ} → u ≡ add seen slot → Noted issued (k + 1) f u
   slot-more b q g = noted-more issued k f seen o b (rw e at q) (rw e at g)
 
   slot-no : (n : ℕ) → k < n → ((slot < issued) × (has seen slot ≡ 0) → ⊥) → Names issued (tab n f) → ⊥
@@ -59,7 +59,7 @@ module _ (t : List ℕ) (s : Shaped t) where
     here : slot ≡ queueEntry t k
     here = e ∙ ap (cell t queueColumn) (o .row-is)
 
-    pub queue-next : (slot < issued t) × (has seen slot ≡ 0) → {u : List ℕ} → u ≡ added seen slot → {next : ℕ} → next ≡ (row + 1) % slots t
+    pub queue-next : (slot < issued t) × (has seen slot ≡ 0) → {u : List ℕ} → u ≡ add seen slot → {next : ℕ} → next ≡ (row + 1) % slots t
         → QueueScan t next (k + 1) u
     queue-next q g {next} n =
         record {
@@ -92,7 +92,7 @@ module _ (t : List ℕ) (s : Shaped t) where
     at : slot ≡ freeEntry t k
     at = e ∙ ap (λ (x : ℕ). cell t freeColumn (freeCount t - x)) (add-one k)
 
-    pub free-next : (slot < issued t) × (has seen slot ≡ 0) → {u : List ℕ} → u ≡ added seen slot → FreeScan t (k + 1) u
+    pub free-next : (slot < issued t) × (has seen slot ≡ 0) → {u : List ℕ} → u ≡ add seen slot → FreeScan t (k + 1) u
     free-next q g =
         record { below = omega arith; noted = slot-more (issued t) k (freeEntry t) seen (o .noted) at (omega (arith, s .issued-most, s .slots-most)) q g }
 

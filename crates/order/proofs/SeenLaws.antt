@@ -10,26 +10,26 @@ use lib.ListN.{length, getD, set, replicate, length-set}
 use lib.Bits.{bitOr}
 use lib.Seq.{getD-set-same, getD-set-other}
 use Rattle.model.specs.Lists.{count, same}
-use Rattle.model.proofs.Counting.{equal, other, same?, same-self}
+use Rattle.demands.proofs.Counting.{equal, other, same?, same-self}
 use Rattle.yring.specs.Lists.{tab}
 use Rattle.ready.specs.Bits.{bit}
 use Rattle.ready.proofs.BitLaws.{bit-set-same, bit-set-other, bit-zero, one-shl}
 use Rattle.order_slot.specs.Clauses.{Names}
-use Rattle.order.specs.Seen.{has, added, Seen}
+use Rattle.order.specs.Seen.{has, add, Seen}
 
 -- ---- the bitmap
 
 module _ (seen : List ℕ) (x : ℕ) where
-  pub long-added : length (added seen x) ≡ length seen
-  unfolding added
+  pub long-added : length (add seen x) ≡ length seen
+  unfolding add
   long-added = length-set seen _ _
 
-  has-same : x / 64 < length seen → has (added seen x) x ≡ 1
-  unfolding has added
+  has-same : x / 64 < length seen → has (add seen x) x ≡ 1
+  unfolding has add
   has-same h = ap (λ (w : ℕ). bit w (x % 64)) (getD-set-same seen (x / 64) _ 0 h) ∙ bit-set-same (getD seen (x / 64) 0) (x % 64)
 
-  has-other : (y : ℕ) → x / 64 < length seen → (y ≡ x → ⊥) → has (added seen x) y ≡ has seen y
-  unfolding has added
+  has-other : (y : ℕ) → x / 64 < length seen → (y ≡ x → ⊥) → has (add seen x) y ≡ has seen y
+  unfolding has add
   has-other y h n = elim (same? (y / 64) (x / 64)) [
     | equal e b i ↦
         rw e
@@ -43,8 +43,8 @@ module _ (seen : List ℕ) (x : ℕ) where
   has-most = omega (arith, mod-lt (getD seen (x / 64) 0 / 2 ^ (x % 64)) (zero-lt-suc 1))
 
 -- the store that the code makes
-pub added-word : (seen : List ℕ) (x : ℕ) → set seen (x / 64) (bitOr (getD seen (x / 64) 0) (1 * 2 ^ (x % 64) % 2 ^ 64)) ≡ added seen x
-unfolding added
+pub added-word : (seen : List ℕ) (x : ℕ) → set seen (x / 64) (bitOr (getD seen (x / 64) 0) (1 * 2 ^ (x % 64) % 2 ^ 64)) ≡ add seen x
+unfolding add
 added-word seen x = rw (one-shl (x % 64) (omega arith))
 
 getD-none : (n i : ℕ) → _≡_ {A = ℕ} (getD (replicate n 0) i 0) 0
@@ -81,13 +81,13 @@ unfolding count
 noted-none issued f e = record { seen-is = λ x. rw e (has-none 128 x); issued-only = λ x h. absurd (omega arith); long = ap length e }
 
 module _ (issued k : ℕ) (f : ℕ → ℕ) (seen : List ℕ) (o : Noted issued k f seen) where
-  pub noted-more : issued ≤ 8192 → (f k < issued) × (has seen (f k) ≡ 0) → {u : List ℕ} → u ≡ added seen (f k) → Noted issued (k + 1) f u
+  pub noted-more : issued ≤ 8192 → (f k < issued) × (has seen (f k) ≡ 0) → {u : List ℕ} → u ≡ add seen (f k) → Noted issued (k + 1) f u
   noted-more b q e = rw (e, add-one k) (record { seen-is = seen-more; issued-only = only; long = long-added seen (f k) ∙ o .long })
     where
       row : f k / 64 < length seen
       row = omega (arith, o .long, q .0)
 
-      seen-more : (x : ℕ) → has (added seen (f k)) x ≡ count x (tab (suc k) f)
+      seen-more : (x : ℕ) → has (add seen (f k)) x ≡ count x (tab (suc k) f)
       seen-more x = elim (same? x (f k)) [
         | equal e b i ↦ rw e (has-same seen (f k) row ∙ omega (arith, count-more (f k) k f, same-self (f k), o .seen-is (f k), q .1))
         | other d b i ↦ has-other seen (f k) x row d ∙ omega (arith, count-more x k f, i, o .seen-is x)

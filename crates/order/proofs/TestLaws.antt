@@ -6,7 +6,7 @@ use Prim.Native.Nat.{ℕ, zero, suc, _≤_, _<_}
 use native.Mathlib.Omega.{arith}
 use lib.Dec.{ltb, leb, eqb}
 use Rattle.model.specs.Lists.{both, either}
-use Rattle.model.proofs.Counting.{equal, other, same?}
+use Rattle.demands.proofs.Counting.{equal, other, same?}
 use Rattle.order_slot.specs.Tells.{Tells, yes, no}
 use Rattle.order_slot.proofs.TellsLaws.{tells-of, tells-lt, tells-le, tells-eq}
 use Rattle.order.specs.InOrder.{implies, allBelow, someBelow}

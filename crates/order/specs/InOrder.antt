@@ -15,7 +15,7 @@ use Rattle.queues.specs.Header.{issued, queueFront, queueCount, freeCount, slot
 use Rattle.queues.specs.Queue.{queueOf}
 use Rattle.queues.specs.Registry.{freeOf}
 use Rattle.ready.specs.Bits.{bit}
-use Rattle.ready.specs.Ready.{pageWord, groupWord, pageBit, groupBit, nonZero, groupsOf}
+use Rattle.ready.specs.Ready.{pageWord, groupWord, pageBit, groupBit, nonZero, groupCount}
 use Rattle.order_slot.specs.Clauses.{registeredBelow, livingBelow}
 
 -- ---- tests put together
@@ -85,7 +85,7 @@ limitsTest t =
     -- "the budget is at most 64"
     ∷ leb (budget t) 64
     -- "the group cursor is at most the groups that exist"
-    ∷ leb (groupCursor t) (groupsOf (issued t))
+    ∷ leb (groupCursor t) (groupCount (issued t))
     -- "first cursor and first generation are ones an opening takes": any u64
     ∷ ltb (firstCursor t) (2 ^ 64)
     ∷ []
@@ -225,7 +225,7 @@ unfoldable pub pagesTest : List ℕ → Bool
 pagesTest t = allBelow (pagesOf (issued t)) (pageTest t)
 
 unfoldable pub groupsTest : List ℕ → Bool
-groupsTest t = allBelow (groupsOf (issued t)) (groupTest t)
+groupsTest t = allBelow (groupCount (issued t)) (groupTest t)
 
 -- ---- all clauses
 

@@ -11,8 +11,8 @@ use Rattle.ready.specs.Bits.{bit, withBit}
 unfoldable pub has : List ℕ → ℕ → ℕ
 has seen x = bit (getD seen (x / 64) 0) (x % 64)
 
-unfoldable pub added : List ℕ → ℕ → List ℕ
-added seen x = set seen (x / 64) (withBit (getD seen (x / 64) 0) (x % 64))
+unfoldable pub add : List ℕ → ℕ → List ℕ
+add seen x = set seen (x / 64) (withBit (getD seen (x / 64) 0) (x % 64))
 
 -- the bitmap has the slots of a list, none of which is there twice
 abbrev pub Seen : List ℕ → List ℕ → Type 0

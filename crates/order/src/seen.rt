@@ -3,7 +3,7 @@ ghost use mathlib.Core.Path.{_≡_};
 ghost use mathlib.Core.Bool.{true};
 ghost use Prim.Native.Nat.{_≤_, _<_};
 ghost use Rattle.order_slot.specs.Tells.{Tells};
-ghost use Rattle.order.specs.Seen.{has, added};
+ghost use Rattle.order.specs.Seen.{has, add};
 
 // 1 where the set has the slot, else 0.
 pub(crate) fn has(seen: &[u64; 128], slot: usize) -> u64
@@ -15,7 +15,7 @@ pub(crate) fn has(seen: &[u64; 128], slot: usize) -> u64
 
 fn add(seen: &mut [u64; 128], slot: usize)
     requires { ⌜ slot < 8192 ⌝ }
-    ensures { λ _. ⌜ now (seen .exit) ≡ added (now (seen .entry)) slot ⌝ }
+    ensures { λ _. ⌜ now (seen .exit) ≡ add (now (seen .entry)) slot ⌝ }
 {
     seen[slot / 64] = seen[slot / 64] | (1 << (slot % 64));
 }
@@ -24,7 +24,7 @@ fn add(seen: &mut [u64; 128], slot: usize)
 pub(crate) fn note(seen: &mut [u64; 128], slot: u64, issued: u64) -> bool
     requires { ⌜ issued ≤ 8192 ⌝ }
     ensures { λ a. ⌜ Tells ((slot < issued) × (has (now (seen .entry)) slot ≡ 0)) a ⌝ }
-    ensures { λ a. ⌜ (a ≡ true → now (seen .exit) ≡ added (now (seen .entry)) slot) ⌝ }
+    ensures { λ a. ⌜ (a ≡ true → now (seen .exit) ≡ add (now (seen .entry)) slot) ⌝ }
 {
     if slot >= issued {
         return false;

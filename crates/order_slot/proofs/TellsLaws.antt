@@ -6,7 +6,7 @@ use Prim.Native.Nat.{ℕ, _≤_, _<_}
 use native.Mathlib.Omega.{arith}
 use borrow.Author.Tests.{ltb-true, ltb-false, leb-true, leb-false, eqb-true, eqb-false}
 use lib.Dec.{ltb, leb, eqb}
-use Rattle.model.proofs.Counting as counting
+use Rattle.demands.proofs.Counting as counting
 use Rattle.order_slot.specs.Tells.{Tells, yes, no}
 
 pub told : {P : Type 0} {a : Bool} → Tells P a → a ≡ true → P

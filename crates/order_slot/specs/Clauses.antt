@@ -14,7 +14,7 @@ use Rattle.queues.specs.Header.{issued, queueFront, queueCount, freeCount, slot
 use Rattle.queues.specs.Queue.{queueOf}
 use Rattle.queues.specs.Registry.{freeOf}
 use Rattle.ready.specs.Bits.{bit}
-use Rattle.ready.specs.Ready.{pageWord, groupWord, pageBit, groupBit, nonZero, groupsOf}
+use Rattle.ready.specs.Ready.{pageWord, groupWord, pageBit, groupBit, nonZero, groupCount}
 use Rattle.store.specs.View.{flag}
 use Rattle.store.specs.Order.{Flag, Flags, Fast}
 
@@ -43,7 +43,7 @@ pub record LimitsHold (t : List ℕ) : Type 0 where
   -- "the budget is at most 64"
   pub budget-most : budget t ≤ 64
   -- "the group cursor is at most the groups that exist"
-  pub cursor-most : groupCursor t ≤ groupsOf (issued t)
+  pub cursor-most : groupCursor t ≤ groupCount (issued t)
   -- "first cursor and first generation are ones an opening takes": any u64
   pub first-cursor : firstCursor t < 2 ^ 64
 

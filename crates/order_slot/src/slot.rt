@@ -28,7 +28,7 @@ fn window_holds(t: &[u64], slot: u64, window: u64) -> bool
     if t[Header::QUEUED] == 0 {
         return false;
     }
-    if queue::front(t) != slot {
+    if queue::front_slot(t) != slot {
         return false;
     }
     if window > t[Header::BUDGET] {

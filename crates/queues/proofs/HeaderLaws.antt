@@ -13,7 +13,7 @@ use Rattle.model.specs.declared.Opening.{Opening}
 use Rattle.lane.specs.Table.{headerWords, head, cellAt, cell, laneAt}
 use Rattle.yring.proofs.ListLaws.{length-scatter, scatter-in, scatter-out}
 use Rattle.queues.specs.declared.header.Header.{Header}
-use Rattle.queues.specs.Header.{Shaped, openedHeader, headerList, putHeader}
+use Rattle.queues.specs.Header.{Shaped, newHeader, headerList, putHeader}
 use Rattle.queues.specs.Queue.{queueOf, QueueNames}
 use Rattle.queues.specs.Registry.{freeOf}
 
@@ -58,23 +58,23 @@ module _ (t : List ℕ) (o : Opening) (C : ℕ) (some : 1 ≤ o .slots) (most : 
   header-fits : leb headerWords (length t) ≡ true
   header-fits = le-leb headerWords (length t) (omega arith)
 
-  pub shaped-opened : Shaped (putHeader t (openedHeader o C))
+  pub shaped-opened : Shaped (putHeader t (newHeader o C))
   shaped-opened = simp (header-frames, header-fits) (omega arith)
 
-  pub queue-opened : queueOf (putHeader t (openedHeader o C)) ≡ []
+  pub queue-opened : queueOf (putHeader t (newHeader o C)) ≡ []
   unfolding queueOf
   queue-opened = simp (header-frames, header-fits)
 
-  pub free-opened : freeOf (putHeader t (openedHeader o C)) ≡ []
+  pub free-opened : freeOf (putHeader t (newHeader o C)) ≡ []
   unfolding freeOf
   free-opened = simp (header-frames, header-fits)
 
   -- each header word reads as put
-  pub head-opened : (k : ℕ) → ltb k (length (headerList (openedHeader o C))) ≡ true
-      → head (putHeader t (openedHeader o C)) k ≡ getD (headerList (openedHeader o C)) k 0
-  head-opened k p = head-put-header t (openedHeader o C) k header-fits p
+  pub head-opened : (k : ℕ) → ltb k (length (headerList (newHeader o C))) ≡ true
+      → head (putHeader t (newHeader o C)) k ≡ getD (headerList (newHeader o C)) k 0
+  head-opened k p = head-put-header t (newHeader o C) k header-fits p
 
-  pub names-opened : QueueNames (putHeader t (openedHeader o C))
+  pub names-opened : QueueNames (putHeader t (newHeader o C))
   unfolding count
   names-opened =
       record {

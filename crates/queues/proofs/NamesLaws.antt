@@ -10,12 +10,12 @@ use borrow.Author.Tests.{eq-eqb, ne-eqb}
 use lib.Dec.{eqb}
 use Rattle.model.specs.Lists.{if, count, same}
 use Rattle.model.specs.Lists as rules
-use Rattle.model.proofs.Counting.{Same, equal, other, same?, same-self, count-append, without-own, without-other}
+use Rattle.demands.proofs.Counting.{Same, equal, other, same?, same-self, count-append, without-own, without-other}
 use Rattle.lane.specs.Table.{laneAt, putLane}
 use Rattle.lane.specs.declared.lane.Lane.{Lane}
 use Rattle.lane.proofs.TableLaws.{frames, has-row, lane-own, other-lane-kept}
 use Rattle.queues.specs.Header.{Shaped, issued, queueCount, slots}
-use Rattle.queues.specs.Queue.{queueOf, pushedBack, poppedFront, rotated, without, removed, QueueNames}
+use Rattle.queues.specs.Queue.{queueOf, pushBack, popFront, rotateLeft, without, remove, QueueNames}
 use Rattle.queues.proofs.QueueLaws.{queue-frames, queue-pushed-back, queue-popped-front, queue-rotated, queue-removed, queue-has-room, shaped-putLane}
 
 -- ---- how often a slot stands in the queue
@@ -85,9 +85,9 @@ names-same t u q i lanes counts =
 
 module _ (t : List ℕ) (s : Shaped t) (q : QueueNames t) where
   -- the front lane goes to the back
-  pub names-rotated : (x : ℕ) (rest : List ℕ) → queueOf t ≡ x ∷ rest → QueueNames (rotated t)
+  pub names-rotated : (x : ℕ) (rest : List ℕ) → queueOf t ≡ x ∷ rest → QueueNames (rotateLeft t)
   names-rotated x rest e =
-      names-same t (rotated t) q (simp queue-frames) (λ y. simp queue-frames) (λ y. rw (queue-rotated t s x rest e, e) (count-turned x y rest))
+      names-same t (rotateLeft t) q (simp queue-frames) (λ y. simp queue-frames) (λ y. rw (queue-rotated t s x rest e, e) (count-turned x y rest))
 
   -- the lane of an issued slot x is stored, and x then stands k times in the queue
   module _ (x : ℕ) (l : Lane) (is : l .key .slot ≡ x) (h : x < issued t) where
@@ -107,28 +107,28 @@ module _ (t : List ℕ) (s : Shaped t) (q : QueueNames t) where
         names-stored (putLane t l) (count x (queueOf t)) (simp frames) (λ y. refl) (λ y d. simp queue-frames) (simp queue-frames) (q .once x)
 
     -- x goes to the back of the queue
-    pub names-pushed-back : count x (queueOf t) ≡ 0 → l .queued ≡ 1 → QueueNames (pushedBack (putLane t l) x)
+    pub names-pushed-back : count x (queueOf t) ≡ 0 → l .queued ≡ 1 → QueueNames (pushBack (putLane t l) x)
     names-pushed-back z f =
         let u : List ℕ = putLane t l in
         let r : queueCount u < slots u = simp frames (queue-has-room t s q x h z) in
-        let e : queueOf (pushedBack u x) ≡ queueOf t ++ (x ∷ []) = queue-pushed-back u (shaped-putLane t s l) x r ∙ simp queue-frames in
-        names-stored (pushedBack u x) 1 (simp (queue-frames, frames)) (λ y. simp queue-frames) (λ y d. rw e (count-at-back-other x y (queueOf t) d))
+        let e : queueOf (pushBack u x) ≡ queueOf t ++ (x ∷ []) = queue-pushed-back u (shaped-putLane t s l) x r ∙ simp queue-frames in
+        names-stored (pushBack u x) 1 (simp (queue-frames, frames)) (λ y. simp queue-frames) (λ y d. rw e (count-at-back-other x y (queueOf t) d))
         (rw e (omega (arith, count-at-back-own x (queueOf t)))) (omega arith) (λ b. f)
 
     -- x leaves the queue, wherever it stands
-    pub names-removed : (l .registered ≡ 1 → l .queued ≡ 0) → QueueNames (removed (putLane t l) x)
+    pub names-removed : (l .registered ≡ 1 → l .queued ≡ 0) → QueueNames (remove (putLane t l) x)
     names-removed =
         let u : List ℕ = putLane t l in
-        let e : queueOf (removed u x) ≡ rules.without x (queueOf t) =
+        let e : queueOf (remove u x) ≡ rules.without x (queueOf t) =
         queue-removed u (shaped-putLane t s l) x ∙ without-is-the-rules x (queueOf u) ∙ simp queue-frames in
-        names-stored (removed u x) 0 (simp (queue-frames, frames)) (λ y. simp queue-frames)
+        names-stored (remove u x) 0 (simp (queue-frames, frames)) (λ y. simp queue-frames)
         (λ y d. rw e (without-other x y (queueOf t) (λ p. d (sym p)))) (rw e (without-own x (queueOf t))) (omega arith)
 
     -- x leaves the queue, whose front it was
-    pub names-popped-front : (rest : List ℕ) → queueOf t ≡ x ∷ rest → (l .registered ≡ 1 → l .queued ≡ 0) → QueueNames (poppedFront (putLane t l))
+    pub names-popped-front : (rest : List ℕ) → queueOf t ≡ x ∷ rest → (l .registered ≡ 1 → l .queued ≡ 0) → QueueNames (popFront (putLane t l))
     names-popped-front rest g =
         let u : List ℕ = putLane t l in
-        let e : queueOf (poppedFront u) ≡ rest = queue-popped-front u (shaped-putLane t s l) x rest (simp queue-frames g) in
+        let e : queueOf (popFront u) ≡ rest = queue-popped-front u (shaped-putLane t s l) x rest (simp queue-frames g) in
         let m : count x (x ∷ rest) ≤ 1 = rw g at (q .once x) in
-        names-stored (poppedFront u) 0 (simp (queue-frames, frames)) (λ y. simp queue-frames) (λ y d. rw (e, g) (sym (count-front-other x y rest d)))
+        names-stored (popFront u) 0 (simp (queue-frames, frames)) (λ y. simp queue-frames) (λ y d. rw (e, g) (sym (count-front-other x y rest d)))
         (rw e (omega (arith, count-front-own x rest))) (omega arith)

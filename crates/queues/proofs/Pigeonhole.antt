@@ -9,7 +9,7 @@ use native.Mathlib.Omega.{arith}
 use lib.Dec.{eqb}
 use lib.ListN.{length}
 use Rattle.model.specs.Lists.{if, count, same, keep, without}
-use Rattle.model.proofs.Counting.{Same, equal, other, same?, same-self, without-own, without-other}
+use Rattle.demands.proofs.Counting.{Same, equal, other, same?, same-self, without-own, without-other}
 
 pub length-without : (x : ℕ) (l : List ℕ) → length (without x l) + count x l ≡ length l
 unfolding without keep count

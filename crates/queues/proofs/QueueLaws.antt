@@ -16,7 +16,7 @@ use Rattle.lane.specs.declared.lane.Lane.{Lane}
 use Rattle.yring.proofs.ListLaws.{length-tab, tab-push, tab-pop, length-scatter, scatter-out, tab-scatter, apart}
 use Rattle.lane.proofs.TableLaws.{frames, head-stored, other-head-kept, cell-setHead}
 use Rattle.queues.specs.Header.{Shaped, issued, queueFront, queueCount, slots}
-use Rattle.queues.specs.Queue.{queueColumn, queueRow, queueOf, frontSlot, pushedBack, poppedFront, rotated, without, requeued, removed, QueueNames}
+use Rattle.queues.specs.Queue.{queueColumn, queueRow, queueOf, frontSlot, pushBack, popFront, rotateLeft, without, requeued, remove, QueueNames}
 use Rattle.queues.proofs.Pigeonhole.{pigeonhole-less}
 
 pub length-queue : (t : List ℕ) → length (queueOf t) ≡ queueCount t
@@ -51,69 +51,69 @@ queue-setHead t k v p a b c = simp (frames, p, a, b, c)
 -- ---- what an operation leaves as it was
 
 module _ (t : List ℕ) (x : ℕ) where
-  pub length-pushed-back : length (pushedBack t x) ≡ length t
-  unfolding pushedBack
+  pub length-pushed-back : length (pushBack t x) ≡ length t
+  unfolding pushBack
   length-pushed-back = simp frames
 
-  pub head-pushed-back : (k : ℕ) → ltb k headerWords ≡ true → eqb 2 k ≡ false → head (pushedBack t x) k ≡ head t k
-  unfolding pushedBack
+  pub head-pushed-back : (k : ℕ) → ltb k headerWords ≡ true → eqb 2 k ≡ false → head (pushBack t x) k ≡ head t k
+  unfolding pushBack
   head-pushed-back k p n = simp (frames, p, n)
 
-  pub count-pushed-back : leb headerWords (length t) ≡ true → queueCount (pushedBack t x) ≡ queueCount t + 1
-  unfolding pushedBack
+  pub count-pushed-back : leb headerWords (length t) ≡ true → queueCount (pushBack t x) ≡ queueCount t + 1
+  unfolding pushBack
   count-pushed-back r = simp (frames, r)
 
-  pub cell-pushed-back : (c row : ℕ) → ltb c rowWords ≡ true → eqb queueColumn c ≡ false → cell (pushedBack t x) c row ≡ cell t c row
-  unfolding pushedBack
+  pub cell-pushed-back : (c row : ℕ) → ltb c rowWords ≡ true → eqb queueColumn c ≡ false → cell (pushBack t x) c row ≡ cell t c row
+  unfolding pushBack
   cell-pushed-back c row p n = simp (frames, p, n)
 
-  pub lane-pushed-back : (slot : ℕ) → laneAt (pushedBack t x) slot ≡ laneAt t slot
-  unfolding pushedBack
+  pub lane-pushed-back : (slot : ℕ) → laneAt (pushBack t x) slot ≡ laneAt t slot
+  unfolding pushBack
   lane-pushed-back slot = simp frames
 
 module _ (t : List ℕ) where
-  pub length-popped-front : length (poppedFront t) ≡ length t
-  unfolding poppedFront
+  pub length-popped-front : length (popFront t) ≡ length t
+  unfolding popFront
   length-popped-front = simp frames
 
-  pub head-popped-front : (k : ℕ) → eqb 1 k ≡ false → eqb 2 k ≡ false → head (poppedFront t) k ≡ head t k
-  unfolding poppedFront
+  pub head-popped-front : (k : ℕ) → eqb 1 k ≡ false → eqb 2 k ≡ false → head (popFront t) k ≡ head t k
+  unfolding popFront
   head-popped-front k m n = simp (frames, m, n)
 
-  pub count-popped-front : leb headerWords (length t) ≡ true → queueCount (poppedFront t) ≡ queueCount t - 1
-  unfolding poppedFront
+  pub count-popped-front : leb headerWords (length t) ≡ true → queueCount (popFront t) ≡ queueCount t - 1
+  unfolding popFront
   count-popped-front r = simp (frames, r)
 
-  pub front-popped-front : leb headerWords (length t) ≡ true → queueFront (poppedFront t) ≡ queueRow t 1
-  unfolding poppedFront
+  pub front-popped-front : leb headerWords (length t) ≡ true → queueFront (popFront t) ≡ queueRow t 1
+  unfolding popFront
   front-popped-front r = simp (frames, r)
 
-  pub cell-popped-front : (c row : ℕ) → cell (poppedFront t) c row ≡ cell t c row
-  unfolding poppedFront
+  pub cell-popped-front : (c row : ℕ) → cell (popFront t) c row ≡ cell t c row
+  unfolding popFront
   cell-popped-front c row = simp frames
 
-  pub lane-popped-front : (slot : ℕ) → laneAt (poppedFront t) slot ≡ laneAt t slot
-  unfolding poppedFront
+  pub lane-popped-front : (slot : ℕ) → laneAt (popFront t) slot ≡ laneAt t slot
+  unfolding popFront
   lane-popped-front slot = simp frames
 
-  pub length-rotated : length (rotated t) ≡ length t
-  unfolding rotated
+  pub length-rotated : length (rotateLeft t) ≡ length t
+  unfolding rotateLeft
   length-rotated = simp frames
 
-  pub head-rotated : (k : ℕ) → ltb k headerWords ≡ true → eqb 1 k ≡ false → head (rotated t) k ≡ head t k
-  unfolding rotated
+  pub head-rotated : (k : ℕ) → ltb k headerWords ≡ true → eqb 1 k ≡ false → head (rotateLeft t) k ≡ head t k
+  unfolding rotateLeft
   head-rotated k p n = simp (frames, p, n)
 
-  pub front-rotated : leb headerWords (length t) ≡ true → queueFront (rotated t) ≡ queueRow t 1
-  unfolding rotated
+  pub front-rotated : leb headerWords (length t) ≡ true → queueFront (rotateLeft t) ≡ queueRow t 1
+  unfolding rotateLeft
   front-rotated r = simp (frames, r)
 
-  pub cell-rotated : (c row : ℕ) → ltb c rowWords ≡ true → eqb queueColumn c ≡ false → cell (rotated t) c row ≡ cell t c row
-  unfolding rotated
+  pub cell-rotated : (c row : ℕ) → ltb c rowWords ≡ true → eqb queueColumn c ≡ false → cell (rotateLeft t) c row ≡ cell t c row
+  unfolding rotateLeft
   cell-rotated c row p n = simp (frames, p, n)
 
-  pub lane-rotated : (slot : ℕ) → laneAt (rotated t) slot ≡ laneAt t slot
-  unfolding rotated
+  pub lane-rotated : (slot : ℕ) → laneAt (rotateLeft t) slot ≡ laneAt t slot
+  unfolding rotateLeft
   lane-rotated slot = simp frames
 
 module _ (t ws : List ℕ) where
@@ -148,23 +148,23 @@ module _ (t ws : List ℕ) where
       (λ i l e. eqb-false queueColumn c n (omega (arith, ltb-true c rowWords p)))
 
 module _ (t : List ℕ) (x : ℕ) where
-  pub length-removed : length (removed t x) ≡ length t
-  unfolding removed
+  pub length-removed : length (remove t x) ≡ length t
+  unfolding remove
   length-removed = length-requeued t (without x (queueOf t))
 
-  pub head-removed : (k : ℕ) → ltb k headerWords ≡ true → eqb 2 k ≡ false → head (removed t x) k ≡ head t k
-  unfolding removed
+  pub head-removed : (k : ℕ) → ltb k headerWords ≡ true → eqb 2 k ≡ false → head (remove t x) k ≡ head t k
+  unfolding remove
   head-removed = head-requeued t (without x (queueOf t))
 
-  pub count-removed : leb headerWords (length t) ≡ true → queueCount (removed t x) ≡ length (without x (queueOf t))
-  unfolding removed
+  pub count-removed : leb headerWords (length t) ≡ true → queueCount (remove t x) ≡ length (without x (queueOf t))
+  unfolding remove
   count-removed = count-requeued t (without x (queueOf t))
 
-  pub cell-removed : (c row : ℕ) → ltb c rowWords ≡ true → eqb queueColumn c ≡ false → cell (removed t x) c row ≡ cell t c row
-  unfolding removed
+  pub cell-removed : (c row : ℕ) → ltb c rowWords ≡ true → eqb queueColumn c ≡ false → cell (remove t x) c row ≡ cell t c row
+  unfolding remove
   cell-removed = cell-requeued t (without x (queueOf t))
 
-  pub lane-removed : (slot : ℕ) → laneAt (removed t x) slot ≡ laneAt t slot
+  pub lane-removed : (slot : ℕ) → laneAt (remove t x) slot ≡ laneAt t slot
   unfolding laneAt
   lane-removed slot = simp cell-removed
 
@@ -221,22 +221,22 @@ module _ (t : List ℕ) (s : Shaped t) where
   row-first : queueRow t 0 ≡ queueFront t
   row-first = rw (add-zero (queueFront t)) (mod-eq-of-lt (s .front-in))
 
-  pub queue-pushed-back : (x : ℕ) → queueCount t < slots t → queueOf (pushedBack t x) ≡ queueOf t ++ (x ∷ [])
-  unfolding queueOf pushedBack
+  pub queue-pushed-back : (x : ℕ) → queueCount t < slots t → queueOf (pushBack t x) ≡ queueOf t ++ (x ∷ [])
+  unfolding queueOf pushBack
   queue-pushed-back x h =
       simp (frames, header-in)
       (tab-push t (λ i. cellAt queueColumn (queueRow t i)) (queueCount t) x (place-in (queueCount t))
       (λ i l. places-apart i (queueCount t) l (omega arith)))
 
   -- the front, and what is left without it
-  pub queue-front : 0 < queueCount t → queueOf t ≡ frontSlot t ∷ queueOf (poppedFront t)
-  unfolding queueOf poppedFront
+  pub queue-front : 0 < queueCount t → queueOf t ≡ frontSlot t ∷ queueOf (popFront t)
+  unfolding queueOf popFront
   queue-front h =
       simp (frames, header-in)
       (tab-pop (queueCount t) _ _ _ h (ap (cell t queueColumn) row-first) (λ i l. ap (cell t queueColumn) (row-next i)))
 
-  queue-turned : 0 < queueCount t → queueOf (rotated t) ≡ queueOf (poppedFront t) ++ (frontSlot t ∷ [])
-  unfolding queueOf poppedFront rotated
+  queue-turned : 0 < queueCount t → queueOf (rotateLeft t) ≡ queueOf (popFront t) ++ (frontSlot t ∷ [])
+  unfolding queueOf popFront rotateLeft
   queue-turned h =
       let m : queueCount t - 1 + 1 ≡ queueCount t = omega arith in
       let w : suc (queueCount t - 1) ≡ queueCount t = omega arith in
@@ -256,14 +256,14 @@ module _ (t : List ℕ) (s : Shaped t) where
         first [] = 0
         first (y ∷ l) = y
 
-    pub queue-popped-front : queueOf (poppedFront t) ≡ q
+    pub queue-popped-front : queueOf (popFront t) ≡ q
     queue-popped-front = ap (rest) (sym (queue-front some) ∙ e)
       where
         rest : List ℕ → List ℕ
         rest [] = []
         rest (y ∷ l) = l
 
-    pub queue-rotated : queueOf (rotated t) ≡ q ++ (x ∷ [])
+    pub queue-rotated : queueOf (rotateLeft t) ≡ q ++ (x ∷ [])
     queue-rotated = queue-turned some ∙ ap₂ (λ (l : List ℕ) (y : ℕ). l ++ (y ∷ [])) queue-popped-front front-is
 
   queue-requeued : (ws : List ℕ) → length ws ≤ slots t → queueOf (requeued t ws) ≡ ws
@@ -275,8 +275,8 @@ module _ (t : List ℕ) (s : Shaped t) where
   pub removed-most : (x : ℕ) → length (without x (queueOf t)) ≤ slots t
   removed-most x = omega (arith, without-le x (queueOf t), length-queue t, s .count-most)
 
-  pub queue-removed : (x : ℕ) → queueOf (removed t x) ≡ without x (queueOf t)
-  unfolding removed
+  pub queue-removed : (x : ℕ) → queueOf (remove t x) ≡ without x (queueOf t)
+  unfolding remove
   queue-removed x = queue-requeued (without x (queueOf t)) (removed-most x)
 
   -- an issued slot that is not in the queue finds room there
@@ -286,16 +286,16 @@ module _ (t : List ℕ) (s : Shaped t) where
 
   -- ---- the shape is kept
 
-  pub shaped-pushed-back : (x : ℕ) → queueCount t < slots t → Shaped (pushedBack t x)
+  pub shaped-pushed-back : (x : ℕ) → queueCount t < slots t → Shaped (pushBack t x)
   shaped-pushed-back x h = simp (queue-frames, header-in) (omega (arith, s))
 
-  pub shaped-popped-front : Shaped (poppedFront t)
+  pub shaped-popped-front : Shaped (popFront t)
   shaped-popped-front = simp (queue-frames, header-in) (omega (arith, s, row-in 1))
 
-  pub shaped-rotated : Shaped (rotated t)
+  pub shaped-rotated : Shaped (rotateLeft t)
   shaped-rotated = simp (queue-frames, header-in) (omega (arith, s, row-in 1))
 
-  pub shaped-removed : (x : ℕ) → Shaped (removed t x)
+  pub shaped-removed : (x : ℕ) → Shaped (remove t x)
   shaped-removed x = simp (queue-frames, header-in) (omega (arith, s, removed-most x))
 
   pub shaped-putLane : (l : Lane) → Shaped (putLane t l)

@@ -14,8 +14,8 @@ use Rattle.lane.specs.declared.lane.Lane.{Lane}
 use Rattle.yring.proofs.ListLaws.{length-tab, tab-pop}
 use Rattle.lane.proofs.TableLaws.{frames}
 use Rattle.queues.specs.Header.{Shaped, issued, freeCount, slots}
-use Rattle.queues.specs.Queue.{queueOf, pushedBack, poppedFront, rotated, removed, QueueNames}
-use Rattle.queues.specs.Registry.{freeColumn, freeOf, freed, lastFreed, reissued}
+use Rattle.queues.specs.Queue.{queueOf, pushBack, popFront, rotateLeft, remove, QueueNames}
+use Rattle.queues.specs.Registry.{freeColumn, freeOf, free, lastFreed, reissue}
 use Rattle.queues.proofs.Pigeonhole.{pigeonhole-less}
 use Rattle.queues.proofs.QueueLaws.{queue-frames, header-in}
 use Rattle.queues.proofs.NamesLaws.{names-same}
@@ -40,72 +40,72 @@ pub free-setHead : (t : List ℕ) (k v : ℕ) → ltb k headerWords ≡ true →
 unfolding freeOf
 free-setHead t k v p n = simp (frames, p, n)
 
-pub free-pushed-back : (t : List ℕ) (x : ℕ) → freeOf (pushedBack t x) ≡ freeOf t
+pub free-pushed-back : (t : List ℕ) (x : ℕ) → freeOf (pushBack t x) ≡ freeOf t
 unfolding freeOf
 free-pushed-back t x = simp queue-frames
 
-pub free-popped-front : (t : List ℕ) → freeOf (poppedFront t) ≡ freeOf t
+pub free-popped-front : (t : List ℕ) → freeOf (popFront t) ≡ freeOf t
 unfolding freeOf
 free-popped-front t = simp queue-frames
 
-pub free-rotated : (t : List ℕ) → freeOf (rotated t) ≡ freeOf t
+pub free-rotated : (t : List ℕ) → freeOf (rotateLeft t) ≡ freeOf t
 unfolding freeOf
 free-rotated t = simp queue-frames
 
-pub free-removed : (t : List ℕ) (x : ℕ) → freeOf (removed t x) ≡ freeOf t
+pub free-removed : (t : List ℕ) (x : ℕ) → freeOf (remove t x) ≡ freeOf t
 unfolding freeOf
 free-removed t x = simp queue-frames
 
 -- ---- what freeing and reissuing leave as it was
 
 module _ (t : List ℕ) (x : ℕ) where
-  pub length-freed : length (freed t x) ≡ length t
-  unfolding freed
+  pub length-freed : length (free t x) ≡ length t
+  unfolding free
   length-freed = simp frames
 
-  pub head-freed : (k : ℕ) → ltb k headerWords ≡ true → eqb 3 k ≡ false → head (freed t x) k ≡ head t k
-  unfolding freed
+  pub head-freed : (k : ℕ) → ltb k headerWords ≡ true → eqb 3 k ≡ false → head (free t x) k ≡ head t k
+  unfolding free
   head-freed k p n = simp (frames, p, n)
 
-  pub count-freed : leb headerWords (length t) ≡ true → freeCount (freed t x) ≡ freeCount t + 1
-  unfolding freed
+  pub count-freed : leb headerWords (length t) ≡ true → freeCount (free t x) ≡ freeCount t + 1
+  unfolding free
   count-freed r = simp (frames, r)
 
-  pub cell-freed : (c row : ℕ) → ltb c rowWords ≡ true → eqb freeColumn c ≡ false → cell (freed t x) c row ≡ cell t c row
-  unfolding freed
+  pub cell-freed : (c row : ℕ) → ltb c rowWords ≡ true → eqb freeColumn c ≡ false → cell (free t x) c row ≡ cell t c row
+  unfolding free
   cell-freed c row p n = simp (frames, p, n)
 
-  pub lane-freed : (slot : ℕ) → laneAt (freed t x) slot ≡ laneAt t slot
-  unfolding freed
+  pub lane-freed : (slot : ℕ) → laneAt (free t x) slot ≡ laneAt t slot
+  unfolding free
   lane-freed slot = simp frames
 
-  pub queue-freed : queueOf (freed t x) ≡ queueOf t
-  unfolding freed
+  pub queue-freed : queueOf (free t x) ≡ queueOf t
+  unfolding free
   queue-freed = simp queue-frames
 
 module _ (t : List ℕ) where
-  pub length-reissued : length (reissued t) ≡ length t
-  unfolding reissued
+  pub length-reissued : length (reissue t) ≡ length t
+  unfolding reissue
   length-reissued = simp frames
 
-  pub head-reissued : (k : ℕ) → eqb 3 k ≡ false → head (reissued t) k ≡ head t k
-  unfolding reissued
+  pub head-reissued : (k : ℕ) → eqb 3 k ≡ false → head (reissue t) k ≡ head t k
+  unfolding reissue
   head-reissued k n = simp (frames, n)
 
-  pub count-reissued : leb headerWords (length t) ≡ true → freeCount (reissued t) ≡ freeCount t - 1
-  unfolding reissued
+  pub count-reissued : leb headerWords (length t) ≡ true → freeCount (reissue t) ≡ freeCount t - 1
+  unfolding reissue
   count-reissued r = simp (frames, r)
 
-  pub cell-reissued : (c row : ℕ) → cell (reissued t) c row ≡ cell t c row
-  unfolding reissued
+  pub cell-reissued : (c row : ℕ) → cell (reissue t) c row ≡ cell t c row
+  unfolding reissue
   cell-reissued c row = simp frames
 
-  pub lane-reissued : (slot : ℕ) → laneAt (reissued t) slot ≡ laneAt t slot
-  unfolding reissued
+  pub lane-reissued : (slot : ℕ) → laneAt (reissue t) slot ≡ laneAt t slot
+  unfolding reissue
   lane-reissued slot = simp frames
 
-  pub queue-reissued : queueOf (reissued t) ≡ queueOf t
-  unfolding reissued
+  pub queue-reissued : queueOf (reissue t) ≡ queueOf t
+  unfolding reissue
   queue-reissued = simp queue-frames
 
 pub ruleset registry-frames = (
@@ -133,8 +133,8 @@ pub ruleset registry-frames = (
 -- ---- what an operation makes of the free list
 
 module _ (t : List ℕ) (s : Shaped t) where
-  pub free-freed : (x : ℕ) → freeCount t < slots t → freeOf (freed t x) ≡ x ∷ freeOf t
-  unfolding freeOf freed
+  pub free-freed : (x : ℕ) → freeCount t < slots t → freeOf (free t x) ≡ x ∷ freeOf t
+  unfolding freeOf free
   free-freed x h =
       let k : ℕ = freeCount t in
       let u : List ℕ = setCell t freeColumn k x in
@@ -148,8 +148,8 @@ module _ (t : List ℕ) (s : Shaped t) where
       ap (cell u freeColumn) e ∙ getD-set-other t _ _ x 0 (λ q. omega arith))))
 
   -- the slot freed last, and what is left without it
-  pub free-reissued : 0 < freeCount t → freeOf t ≡ lastFreed t ∷ freeOf (reissued t)
-  unfolding freeOf reissued
+  pub free-reissued : 0 < freeCount t → freeOf t ≡ lastFreed t ∷ freeOf (reissue t)
+  unfolding freeOf reissue
   free-reissued h =
       simp (frames, header-in t s)
       (tab-pop (freeCount t) _ _ _ h refl
@@ -165,16 +165,16 @@ module _ (t : List ℕ) (s : Shaped t) where
 
   -- ---- the shape is kept
 
-  pub shaped-freed : (x : ℕ) → freeCount t < slots t → Shaped (freed t x)
+  pub shaped-freed : (x : ℕ) → freeCount t < slots t → Shaped (free t x)
   shaped-freed x h = simp (registry-frames, header-in t s) (omega (arith, s))
 
-  pub shaped-reissued : Shaped (reissued t)
+  pub shaped-reissued : Shaped (reissue t)
   shaped-reissued = simp (registry-frames, header-in t s) (omega (arith, s))
 
 -- ---- the queue names what it named
 
-pub names-freed : (t : List ℕ) (x : ℕ) → QueueNames t → QueueNames (freed t x)
-names-freed t x q = names-same t (freed t x) q (simp registry-frames) (λ y. simp registry-frames) (λ y. simp registry-frames)
+pub names-freed : (t : List ℕ) (x : ℕ) → QueueNames t → QueueNames (free t x)
+names-freed t x q = names-same t (free t x) q (simp registry-frames) (λ y. simp registry-frames) (λ y. simp registry-frames)
 
-pub names-reissued : (t : List ℕ) → QueueNames t → QueueNames (reissued t)
-names-reissued t q = names-same t (reissued t) q (simp registry-frames) (λ y. simp registry-frames) (λ y. simp registry-frames)
+pub names-reissued : (t : List ℕ) → QueueNames t → QueueNames (reissue t)
+names-reissued t q = names-same t (reissue t) q (simp registry-frames) (λ y. simp registry-frames) (λ y. simp registry-frames)

@@ -12,7 +12,7 @@ use Rattle.yring.specs.Lists.{tab, scatter}
 use Rattle.lane.specs.Table.{cellAt, cell, setCell}
 use Rattle.yring.proofs.ListLaws.{tab-more, scatter-snoc, scatter-out}
 use Rattle.queues.specs.Header.{Shaped, queueCount, setQueueCount}
-use Rattle.queues.specs.Queue.{queueColumn, queueRow, queueOf, without, requeued, removed}
+use Rattle.queues.specs.Queue.{queueColumn, queueRow, queueOf, without, requeued, remove}
 use Rattle.queues.proofs.QueueLaws.{places-apart}
 
 without-snoc : (x : ℕ) (l : List ℕ) (y : ℕ) → without x (l ++ (y ∷ [])) ≡ cond (eqb y x) (without x l) (without x l ++ (y ∷ []))
@@ -81,8 +81,8 @@ module _ (t₀ : List ℕ) (x : ℕ) where
                 ∙ sym (scatter-snoc (keptOf t₀ x i) t₀ (placeAt t₀) v));
           }
 
-  pub sift-end : (t : List ℕ) (kept i : ℕ) → Sifted t₀ x t kept i → queueCount t₀ ≤ i → setQueueCount t kept ≡ removed t₀ x
-  unfolding removed requeued queueOf
+  pub sift-end : (t : List ℕ) (kept i : ℕ) → Sifted t₀ x t kept i → queueCount t₀ ≤ i → setQueueCount t kept ≡ remove t₀ x
+  unfolding remove requeued queueOf
   sift-end t kept i k h =
       let e : i ≡ queueCount t₀ = omega (arith, k .upto) in
       ap₂ (λ (u : List ℕ) (n : ℕ). setQueueCount u n)

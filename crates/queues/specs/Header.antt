@@ -105,8 +105,8 @@ abbrev pub Shaped : List ℕ → Type 0
 Shaped t = Shape (issued t) (queueFront t) (queueCount t) (freeCount t) (slots t) (groupCursor t) (length t)
 
 -- "No sender yet; poll budget 64; group cursor 0"; `fast_slot` is "0 at opening"
-abbrev pub openedHeader : Opening → ℕ → Header
-openedHeader o C =
+abbrev pub newHeader : Opening → ℕ → Header
+newHeader o C =
     record {
       issued = 0;
       front = 0;

@@ -28,15 +28,15 @@ abbrev pub frontSlot : List ℕ → ℕ
 frontSlot t = cell t queueColumn (queueFront t)
 
 -- "Whatever queues a lane, resume too, puts it at the back."
-unfoldable pub pushedBack : List ℕ → ℕ → List ℕ
-pushedBack t slot = setQueueCount (setCell t queueColumn (queueRow t (queueCount t)) slot) (queueCount t + 1)
+unfoldable pub pushBack : List ℕ → ℕ → List ℕ
+pushBack t slot = setQueueCount (setCell t queueColumn (queueRow t (queueCount t)) slot) (queueCount t + 1)
 
-unfoldable pub poppedFront : List ℕ → List ℕ
-poppedFront t = setQueueCount (setQueueFront t (queueRow t 1)) (queueCount t - 1)
+unfoldable pub popFront : List ℕ → List ℕ
+popFront t = setQueueCount (setQueueFront t (queueRow t 1)) (queueCount t - 1)
 
 -- "goes to the back"
-unfoldable pub rotated : List ℕ → List ℕ
-rotated t = setQueueFront (setCell t queueColumn (queueRow t (queueCount t)) (frontSlot t)) (queueRow t 1)
+unfoldable pub rotateLeft : List ℕ → List ℕ
+rotateLeft t = setQueueFront (setCell t queueColumn (queueRow t (queueCount t)) (frontSlot t)) (queueRow t 1)
 
 -- a list without a number, the others in their order
 abbrev pub without : ℕ → List ℕ → List ℕ
@@ -47,8 +47,8 @@ without x (y ∷ ys) = cond (eqb y x) (without x ys) (y ∷ without x ys)
 unfoldable pub requeued : List ℕ → List ℕ → List ℕ
 requeued t ws = setQueueCount (scatter t (λ i. cellAt queueColumn (queueRow t i)) ws) (length ws)
 
-unfoldable pub removed : List ℕ → ℕ → List ℕ
-removed t slot = requeued t (without slot (queueOf t))
+unfoldable pub remove : List ℕ → ℕ → List ℕ
+remove t slot = requeued t (without slot (queueOf t))
 
 -- "The queue names each queued lane once": what it names are issued slots, each once, and the queued flag of a registered lane
 -- says whether it is among them. That every slot named holds a registered lane is seen in the rules' state, and is said there.

@@ -14,13 +14,13 @@ freeColumn = laneWords + 1
 unfoldable pub freeOf : List ℕ → List ℕ
 freeOf t = tab (freeCount t) (λ i. cell t freeColumn (freeCount t - suc i))
 
-unfoldable pub freed : List ℕ → ℕ → List ℕ
-freed t slot = setFreeCount (setCell t freeColumn (freeCount t) slot) (freeCount t + 1)
+unfoldable pub free : List ℕ → ℕ → List ℕ
+free t slot = setFreeCount (setCell t freeColumn (freeCount t) slot) (freeCount t + 1)
 
 -- the slot freed last
 abbrev pub lastFreed : List ℕ → ℕ
 lastFreed t = cell t freeColumn (freeCount t - 1)
 
 -- "the one freed last is issued first"
-unfoldable pub reissued : List ℕ → List ℕ
-reissued t = setFreeCount t (freeCount t - 1)
+unfoldable pub reissue : List ℕ → List ℕ
+reissue t = setFreeCount t (freeCount t - 1)

@@ -3,7 +3,7 @@ ghost use mathlib.Core.Path.{_≡_};
 ghost use Prim.Native.Nat.{_≤_};
 ghost use lib.ListN.{length};
 ghost use Rattle.lane.specs.Table.{headerWords};
-ghost use Rattle.queues.specs.Header.{openedHeader, headerList, putHeader};
+ghost use Rattle.queues.specs.Header.{newHeader, headerList, putHeader};
 use model::Opening;
 
 pub struct Header {
@@ -72,7 +72,7 @@ impl Header {
 
     // The header of a channel that was just opened, of capacity `capacity` after rounding.
     pub fn new(opening: Opening, capacity: u64) -> Self
-        ensures { λ r. ⌜ r ≡ openedHeader opening capacity ⌝ }
+        ensures { λ r. ⌜ r ≡ newHeader opening capacity ⌝ }
     {
         Header {
             issued: 0,

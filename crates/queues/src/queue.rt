@@ -2,7 +2,7 @@
 ghost use mathlib.Core.Path.{_≡_};
 ghost use Prim.Native.Nat.{_+_, _%_, _≤_, _<_};
 ghost use Rattle.queues.specs.Header.{Shaped, queueCount, slots};
-ghost use Rattle.queues.specs.Queue.{frontSlot, pushedBack, poppedFront, rotated, removed};
+ghost use Rattle.queues.specs.Queue.{frontSlot, pushBack, popFront, rotateLeft, remove};
 use crate::header::Header;
 use lane::lane::Lane;
 use lane::table;
@@ -22,7 +22,7 @@ fn row_of(front: u64, n: u64, slots: u64) -> usize
     (row - slots) as usize
 }
 
-pub fn front(t: &[u64]) -> u64
+pub fn front_slot(t: &[u64]) -> u64
     requires { ⌜ Shaped (now t) ⌝ }
     ensures { λ r. ⌜ r ≡ frontSlot (now (t .entry)) ⌝ }
 {
@@ -31,7 +31,7 @@ pub fn front(t: &[u64]) -> u64
 
 pub fn push_back(t: &mut [u64], slot: u64)
     requires { ⌜ Shaped (now t) × (queueCount (now t) < slots (now t)) ⌝ }
-    ensures { λ _. ⌜ now (t .exit) ≡ pushedBack (now (t .entry)) slot ⌝ }
+    ensures { λ _. ⌜ now (t .exit) ≡ pushBack (now (t .entry)) slot ⌝ }
 {
     let n = t[Header::QUEUED];
     let row = row_of(t[Header::FRONT], n, t[Header::SLOTS]);
@@ -41,7 +41,7 @@ pub fn push_back(t: &mut [u64], slot: u64)
 
 pub fn pop_front(t: &mut [u64])
     requires { ⌜ Shaped (now t) × (0 < queueCount (now t)) ⌝ }
-    ensures { λ _. ⌜ now (t .exit) ≡ poppedFront (now (t .entry)) ⌝ }
+    ensures { λ _. ⌜ now (t .exit) ≡ popFront (now (t .entry)) ⌝ }
 {
     let n = t[Header::QUEUED];
     let next = row_of(t[Header::FRONT], 1, t[Header::SLOTS]);
@@ -50,11 +50,11 @@ pub fn pop_front(t: &mut [u64])
 }
 
 // The front goes to the back.
-pub fn rotate(t: &mut [u64])
+pub fn rotate_left(t: &mut [u64])
     requires { ⌜ Shaped (now t) × (0 < queueCount (now t)) ⌝ }
-    ensures { λ _. ⌜ now (t .exit) ≡ rotated (now (t .entry)) ⌝ }
+    ensures { λ _. ⌜ now (t .exit) ≡ rotateLeft (now (t .entry)) ⌝ }
 {
-    let slot = front(t);
+    let slot = front_slot(t);
     let back = row_of(t[Header::FRONT], t[Header::QUEUED], t[Header::SLOTS]);
     let next = row_of(t[Header::FRONT], 1, t[Header::SLOTS]);
     table::set_cell(t, PLACE, back, slot);
@@ -64,7 +64,7 @@ pub fn rotate(t: &mut [u64])
 // Takes a slot out of the queue, wherever it stands; the others keep their order.
 pub fn remove(t: &mut [u64], slot: u64)
     requires { ⌜ Shaped (now t) ⌝ }
-    ensures { λ _. ⌜ now (t .exit) ≡ removed (now (t .entry)) slot ⌝ }
+    ensures { λ _. ⌜ now (t .exit) ≡ remove (now (t .entry)) slot ⌝ }
 {
     let first = t[Header::FRONT];
     let n = t[Header::QUEUED];

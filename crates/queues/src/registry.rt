@@ -2,7 +2,7 @@
 ghost use mathlib.Core.Path.{_≡_};
 ghost use Prim.Native.Nat.{_<_};
 ghost use Rattle.queues.specs.Header.{Shaped, freeCount, slots};
-ghost use Rattle.queues.specs.Registry.{freed, lastFreed, reissued};
+ghost use Rattle.queues.specs.Registry.{free, lastFreed, reissue};
 use crate::header::Header;
 use lane::lane::Lane;
 use lane::table;
@@ -12,7 +12,7 @@ const PLACE: usize = Lane::LANE_WORDS + 1;
 
 pub fn free(t: &mut [u64], slot: u64)
     requires { ⌜ Shaped (now t) × (freeCount (now t) < slots (now t)) ⌝ }
-    ensures { λ _. ⌜ now (t .exit) ≡ freed (now (t .entry)) slot ⌝ }
+    ensures { λ _. ⌜ now (t .exit) ≡ free (now (t .entry)) slot ⌝ }
 {
     let n = t[Header::FREE];
     table::set_cell(t, PLACE, n as usize, slot);
@@ -31,7 +31,7 @@ pub fn last_freed(t: &[u64]) -> u64
 // Takes the slot that was freed last off the list.
 pub fn reissue(t: &mut [u64])
     requires { ⌜ Shaped (now t) × (0 < freeCount (now t)) ⌝ }
-    ensures { λ _. ⌜ now (t .exit) ≡ reissued (now (t .entry)) ⌝ }
+    ensures { λ _. ⌜ now (t .exit) ≡ reissue (now (t .entry)) ⌝ }
 {
     t[Header::FREE] = t[Header::FREE] - 1;
 }

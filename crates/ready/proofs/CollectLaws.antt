@@ -9,14 +9,14 @@ use native.Mathlib.Omega.{arith}
 use borrow.Author.Tests.{ltb-true, ne-eqb}
 use lib.Dec.{ltb, leb, eqb}
 use lib.ListN.{length}
-use Rattle.model.proofs.Counting.{equal, other, same?}
+use Rattle.demands.proofs.Counting.{equal, other, same?}
 use Rattle.lane.specs.Table.{headerWords, rowWords, laneWords, HasRow, head, cell, setCell, laneAt}
 use Rattle.lane.proofs.TableLaws.{frames, has-row}
 use Rattle.queues.specs.Header.{Shaped, issued, groupCursor, setGroupCursor}
 use Rattle.queues.specs.Queue.{queueColumn, QueueNames}
 use Rattle.queues.specs.Registry.{freeOf}
 use Rattle.ready.specs.Bits.{bit, bitsFrom}
-use Rattle.ready.specs.Ready.{pageColumn, groupColumn, pageWord, groupWord, nonZero, Linked, queuedLane, offered, collectedPage, collectedGroup, groupsOf, groupAt, collectedFrom, collectReady}
+use Rattle.ready.specs.Ready.{pageColumn, groupColumn, pageWord, groupWord, nonZero, Linked, queuedLane, offer, collectPage, collectGroup, groupCount, groupAt, collectedFrom, collectReady}
 use Rattle.ready.proofs.BitLaws.{In, here, there, bits-in, Each, none, both, bits-each, bit-zero}
 use Rattle.queues.proofs.NamesLaws.{names-same}
 use Rattle.queues.proofs.QueueLaws.{queue-frames, header-in, shaped-setCell}
@@ -36,8 +36,8 @@ pub linked-rest : (t u : List ℕ) → Rest t u → Linked t → Linked u
 linked-rest t u r =
     linked-by t u (r .heads 0 refl refl) (λ page. r .cells pageColumn page refl refl refl) (λ group. r .cells groupColumn group refl refl refl)
 
-pub linked-offered : (t : List ℕ) (x : ℕ) → Shaped t → Linked t → Linked (offered t x)
-linked-offered t x s = linked-rest t (offered t x) (rest-offered t x s)
+pub linked-offered : (t : List ℕ) (x : ℕ) → Shaped t → Linked t → Linked (offer t x)
+linked-offered t x s = linked-rest t (offer t x) (rest-offered t x s)
 
 -- ---- what every step keeps
 
@@ -71,7 +71,7 @@ kept-setCell t c row v a p n s q =
       long = simp frames;
     }
 
-pub kept-offered : (t : List ℕ) (x : ℕ) → Shaped t → QueueNames t → Kept t (offered t x)
+pub kept-offered : (t : List ℕ) (x : ℕ) → Shaped t → QueueNames t → Kept t (offer t x)
 kept-offered t x s q =
     record {
       shaped = shaped-offered t x s q;
@@ -80,73 +80,73 @@ kept-offered t x s q =
       long = rest-offered t x s .long;
     }
 
-pub kept-page : (t : List ℕ) (page : ℕ) → Shaped t → QueueNames t → Kept t (collectedPage t page)
-unfolding collectedPage
+pub kept-page : (t : List ℕ) (page : ℕ) → Shaped t → QueueNames t → Kept t (collectPage t page)
+unfolding collectPage
 kept-page t page s q =
     let a = kept-setCell t pageColumn page 0 refl refl refl s q in
-    kept-then a (kept-fold offered kept-offered (bitsFrom 64 (64 * page) (pageWord t page)) _ (a .shaped) (a .names))
+    kept-then a (kept-fold offer kept-offered (bitsFrom 64 (64 * page) (pageWord t page)) _ (a .shaped) (a .names))
 
-pub kept-group : (t : List ℕ) (group : ℕ) → Shaped t → QueueNames t → Kept t (collectedGroup t group)
-unfolding collectedGroup
+pub kept-group : (t : List ℕ) (group : ℕ) → Shaped t → QueueNames t → Kept t (collectGroup t group)
+unfolding collectGroup
 kept-group t group s q =
     let a = kept-setCell t groupColumn group 0 refl refl refl s q in
-    kept-then a (kept-fold collectedPage kept-page (bitsFrom 64 (64 * group) (groupWord t group)) _ (a .shaped) (a .names))
+    kept-then a (kept-fold collectPage kept-page (bitsFrom 64 (64 * group) (groupWord t group)) _ (a .shaped) (a .names))
 
 -- ---- page and group words under a page's collection
 
-rest-fold : (l t : List ℕ) → Shaped t → QueueNames t → Rest t (foldl offered t l)
+rest-fold : (l t : List ℕ) → Shaped t → QueueNames t → Rest t (foldl offer t l)
 rest-fold [] t s q = rest-self t
 rest-fold (x ∷ l) t s q =
-    rest-then (rest-offered t x s) (rest-fold l (offered t x) (shaped-offered t x s q) (names-offered t x s q))
+    rest-then (rest-offered t x s) (rest-fold l (offer t x) (shaped-offered t x s q) (names-offered t x s q))
 
 module _ (t : List ℕ) (page : ℕ) (s : Shaped t) (q : QueueNames t) where
   -- taking the page's word aside, only the lanes' queued words and the queue change
-  pub rest-page : Rest (setCell t pageColumn page 0) (collectedPage t page)
-  unfolding collectedPage
+  pub rest-page : Rest (setCell t pageColumn page 0) (collectPage t page)
+  unfolding collectPage
   rest-page =
       let a = kept-setCell t pageColumn page 0 refl refl refl s q in
       rest-fold (bitsFrom 64 (64 * page) (pageWord t page)) (setCell t pageColumn page 0) (a .shaped) (a .names)
 
-  pub page-taken : HasRow page (length t) → pageWord (collectedPage t page) page ≡ 0
+  pub page-taken : HasRow page (length t) → pageWord (collectPage t page) page ≡ 0
   page-taken r = rest-page .cells pageColumn page refl refl refl ∙ simp (frames, has-row t page r)
 
-  pub page-left : (x : ℕ) → eqb x page ≡ false → pageWord (collectedPage t page) x ≡ pageWord t x
+  pub page-left : (x : ℕ) → eqb x page ≡ false → pageWord (collectPage t page) x ≡ pageWord t x
   page-left x n = rest-page .cells pageColumn x refl refl refl ∙ simp (frames, n)
 
-  pub group-left : (group : ℕ) → groupWord (collectedPage t page) group ≡ groupWord t group
+  pub group-left : (group : ℕ) → groupWord (collectPage t page) group ≡ groupWord t group
   group-left group = rest-page .cells groupColumn group refl refl refl ∙ simp frames
 
 -- ---- under a run of them
 
 module _ (page : ℕ) where
-  run-zero : (l t : List ℕ) → Shaped t → QueueNames t → HasRow page (length t) → pageWord t page ≡ 0 → pageWord (foldl collectedPage t l) page ≡ 0
+  run-zero : (l t : List ℕ) → Shaped t → QueueNames t → HasRow page (length t) → pageWord t page ≡ 0 → pageWord (foldl collectPage t l) page ≡ 0
   run-zero [] t s q r z = z
   run-zero (x ∷ l) t s q r z =
       let k = kept-page t x s q in
-      run-zero l (collectedPage t x) (k .shaped) (k .names) (omega (arith, k .long)) (elim (same? page x) [
+      run-zero l (collectPage t x) (k .shaped) (k .names) (omega (arith, k .long)) (elim (same? page x) [
         | equal e p i ↦ rw (← e) (page-taken t page s q r)
         | other d p i ↦ page-left t x s q page p ∙ z
       ])
 
-  run-in : (l t : List ℕ) → Shaped t → QueueNames t → HasRow page (length t) → In page l → pageWord (foldl collectedPage t l) page ≡ 0
+  run-in : (l t : List ℕ) → Shaped t → QueueNames t → HasRow page (length t) → In page l → pageWord (foldl collectPage t l) page ≡ 0
   run-in (x ∷ l) t s q r (here e) =
       let k = kept-page t x s q in
-      run-zero l (collectedPage t x) (k .shaped) (k .names) (omega (arith, k .long)) (rw (← e) (page-taken t page s q r))
+      run-zero l (collectPage t x) (k .shaped) (k .names) (omega (arith, k .long)) (rw (← e) (page-taken t page s q r))
   run-in (x ∷ l) t s q r (there i) =
       let k = kept-page t x s q in
-      run-in l (collectedPage t x) (k .shaped) (k .names) (omega (arith, k .long)) i
+      run-in l (collectPage t x) (k .shaped) (k .names) (omega (arith, k .long)) i
 
-  run-other : (l t : List ℕ) → Shaped t → QueueNames t → Each (λ x. page ≡ x → ⊥) l → pageWord (foldl collectedPage t l) page ≡ pageWord t page
+  run-other : (l t : List ℕ) → Shaped t → QueueNames t → Each (λ x. page ≡ x → ⊥) l → pageWord (foldl collectPage t l) page ≡ pageWord t page
   run-other [] t s q none = refl
   run-other (x ∷ l) t s q (both n r) =
       let k = kept-page t x s q in
-      run-other l (collectedPage t x) (k .shaped) (k .names) r ∙ page-left t x s q page (ne-eqb page x n)
+      run-other l (collectPage t x) (k .shaped) (k .names) r ∙ page-left t x s q page (ne-eqb page x n)
 
-run-groups : (group : ℕ) (l t : List ℕ) → Shaped t → QueueNames t → groupWord (foldl collectedPage t l) group ≡ groupWord t group
+run-groups : (group : ℕ) (l t : List ℕ) → Shaped t → QueueNames t → groupWord (foldl collectPage t l) group ≡ groupWord t group
 run-groups group [] t s q = refl
 run-groups group (x ∷ l) t s q =
     let k = kept-page t x s q in
-    run-groups group l (collectedPage t x) (k .shaped) (k .names) ∙ group-left t x s q group
+    run-groups group l (collectPage t x) (k .shaped) (k .names) ∙ group-left t x s q group
 
 -- ---- under a group's collection
 
@@ -171,29 +171,29 @@ module _ (t : List ℕ) (group : ℕ) (s : Shaped t) (q : QueueNames t) where
   begun : Kept t (setCell t groupColumn group 0)
   begun = kept-setCell t groupColumn group 0 refl refl refl s q
 
-  pub group-taken : HasRow group (length t) → groupWord (collectedGroup t group) group ≡ 0
-  unfolding collectedGroup
+  pub group-taken : HasRow group (length t) → groupWord (collectGroup t group) group ≡ 0
+  unfolding collectGroup
   group-taken r =
       run-groups group (bitsFrom 64 (64 * group) (groupWord t group)) (setCell t groupColumn group 0) (begun .shaped) (begun .names)
       ∙ simp (frames, has-row t group r)
 
-  pub other-group-left : (x : ℕ) → eqb x group ≡ false → groupWord (collectedGroup t group) x ≡ groupWord t x
-  unfolding collectedGroup
+  pub other-group-left : (x : ℕ) → eqb x group ≡ false → groupWord (collectGroup t group) x ≡ groupWord t x
+  unfolding collectGroup
   other-group-left x n =
       run-groups x (bitsFrom 64 (64 * group) (groupWord t group)) (setCell t groupColumn group 0) (begun .shaped) (begun .names)
       ∙ simp (frames, n)
 
   -- a page of another group
-  pub other-pages-left : (page : ℕ) → (page / 64 ≡ group → ⊥) → pageWord (collectedGroup t group) page ≡ pageWord t page
-  unfolding collectedGroup
+  pub other-pages-left : (page : ℕ) → (page / 64 ≡ group → ⊥) → pageWord (collectGroup t group) page ≡ pageWord t page
+  unfolding collectGroup
   other-pages-left page n =
       run-other page (bitsFrom 64 (64 * group) (groupWord t group)) (setCell t groupColumn group 0) (begun .shaped) (begun .names)
       (bits-each (λ x. page ≡ x → ⊥) 64 (64 * group) (groupWord t group) (λ b l e f. n (omega arith)))
       ∙ simp frames
 
   -- a page of the group: taken if its bit was set, 0 before if not
-  pub pages-taken : Linked t → (page : ℕ) → page / 64 ≡ group → 64 * page < issued t → pageWord (collectedGroup t group) page ≡ 0
-  unfolding collectedGroup
+  pub pages-taken : Linked t → (page : ℕ) → page / 64 ≡ group → 64 * page < issued t → pageWord (collectGroup t group) page ≡ 0
+  unfolding collectGroup
   pages-taken k page e h =
       let l = bitsFrom 64 (64 * group) (groupWord t group) in
       let u = setCell t groupColumn group 0 in
@@ -205,9 +205,9 @@ module _ (t : List ℕ) (group : ℕ) (s : Shaped t) (q : QueueNames t) where
       ]
 
   -- pages and groups stay linked
-  pub linked-group : Linked t → 4096 * group < issued t → Linked (collectedGroup t group)
+  pub linked-group : Linked t → 4096 * group < issued t → Linked (collectGroup t group)
   linked-group k h =
-      let same : issued (collectedGroup t group) ≡ issued t = kept-group t group s q .same-issued in
+      let same : issued (collectGroup t group) ≡ issued t = kept-group t group s q .same-issued in
       let row : HasRow group (length t) = omega (arith, s .room, s .issued-most) in
       record {
         of-issued = λ slot l b. elim (same? (slot / 64 / 64) group) [
@@ -219,7 +219,7 @@ module _ (t : List ℕ) (group : ℕ) (s : Shaped t) (q : QueueNames t) where
           | other d p i ↦ rw (other-pages-left page d, other-group-left (page / 64) p) (k .linked page (rw same at l))
         ];
         of-pages = λ page l b. elim (same? (page / 64) group) [
-          | equal e p i ↦ absurd (absent (page % 64) (ap (groupWord (collectedGroup t group)) e ∙ group-taken row) b)
+          | equal e p i ↦ absurd (absent (page % 64) (ap (groupWord (collectGroup t group)) e ∙ group-taken row) b)
           | other d p i ↦ rw same (k .of-pages page (rw same at l) (rw (other-group-left (page / 64) p) at b))
         ];
       }
@@ -246,7 +246,7 @@ beside-then a b =
       lanes = λ y. b .lanes y ∙ a .lanes y;
     }
 
-beside-page : (t : List ℕ) (page : ℕ) → Shaped t → QueueNames t → Beside t (collectedPage t page)
+beside-page : (t : List ℕ) (page : ℕ) → Shaped t → QueueNames t → Beside t (collectPage t page)
 beside-page t page s q =
     let r = rest-page t page s q in
     record {
@@ -255,14 +255,14 @@ beside-page t page s q =
       lanes = λ y. let same : laneAt (setCell t pageColumn page 0) y ≡ laneAt t y = simp frames in r .lanes y ∙ ap queuedLane same;
     }
 
-beside-pages : (l t : List ℕ) → Shaped t → QueueNames t → Beside t (foldl collectedPage t l)
+beside-pages : (l t : List ℕ) → Shaped t → QueueNames t → Beside t (foldl collectPage t l)
 beside-pages [] t s q = beside-self t
 beside-pages (x ∷ l) t s q =
     let k = kept-page t x s q in
-    beside-then (beside-page t x s q) (beside-pages l (collectedPage t x) (k .shaped) (k .names))
+    beside-then (beside-page t x s q) (beside-pages l (collectPage t x) (k .shaped) (k .names))
 
-pub beside-group : (t : List ℕ) (group : ℕ) → Shaped t → QueueNames t → Beside t (collectedGroup t group)
-unfolding collectedGroup
+pub beside-group : (t : List ℕ) (group : ℕ) → Shaped t → QueueNames t → Beside t (collectGroup t group)
+unfolding collectGroup
 beside-group t group s q =
     let k = begun t group s q in
     let b = beside-pages (bitsFrom 64 (64 * group) (groupWord t group)) (setCell t groupColumn group 0) (k .shaped) (k .names) in
@@ -303,13 +303,13 @@ keeps-then : {t u v : List ℕ} → Keeps t u → Keeps u v → Keeps t v
 keeps-then a b = record { kept = kept-then (a .kept) (b .kept); linked = b .linked; beside = beside-then (a .beside) (b .beside) }
 
 -- a group, and the cursor after it
-pub keeps-group : (t : List ℕ) (g : ℕ) → Shaped t → QueueNames t → Linked t → g < groupsOf (issued t) → Keeps t (setGroupCursor (collectedGroup t g) (g + 1))
+pub keeps-group : (t : List ℕ) (g : ℕ) → Shaped t → QueueNames t → Linked t → g < groupCount (issued t) → Keeps t (setGroupCursor (collectGroup t g) (g + 1))
 keeps-group t g s q k low =
     let a = kept-group t g s q in
     let two : g + 1 ≤ 2 = omega (arith, s .issued-most, s .slots-most) in
     record {
-      kept = kept-then a (kept-cursor (collectedGroup t g) (g + 1) two (a .shaped) (a .names));
-      linked = linked-cursor (collectedGroup t g) (g + 1) (linked-group t g s q k (omega arith));
+      kept = kept-then a (kept-cursor (collectGroup t g) (g + 1) two (a .shaped) (a .names));
+      linked = linked-cursor (collectGroup t g) (g + 1) (linked-group t g s q k (omega arith));
       beside =
           beside-then (beside-group t g s q)
           (record { heads = λ i p m c. simp (frames, c); cells = λ c row a p m d e. simp frames; lanes = λ y. simp frames });
@@ -323,7 +323,7 @@ group-lt n next h = go (ltb next n) refl
     go true e = ltb-true next n e
     go false e = h
 
-keeps-from : (n k : ℕ) (all : Bool) (t : List ℕ) (next : ℕ) → n ≡ groupsOf (issued t) → k ≤ n → Shaped t → QueueNames t → Linked t
+keeps-from : (n k : ℕ) (all : Bool) (t : List ℕ) (next : ℕ) → n ≡ groupCount (issued t) → k ≤ n → Shaped t → QueueNames t → Linked t
     → Keeps t (collectedFrom n k all t next)
 unfolding collectedFrom
 keeps-from n zero all t next e h s q k = record { kept = kept-self t s q; linked = k; beside = beside-self t }
@@ -333,7 +333,7 @@ keeps-from n (suc m) all t next e h s q k =
     go (eqb (groupWord t g) 0) all
     (keeps-from n m all t (g + 1) e (omega arith) s q k)
     one
-    (keeps-from n m all (setGroupCursor (collectedGroup t g) (g + 1)) (g + 1) (e ∙ sym (ap groupsOf (one .kept .same-issued))) (omega arith)
+    (keeps-from n m all (setGroupCursor (collectGroup t g) (g + 1)) (g + 1) (e ∙ sym (ap groupCount (one .kept .same-issued))) (omega arith)
     (one .kept .shaped) (one .kept .names) (one .linked))
   where
     go : {u v w : List ℕ} (b c : Bool) → Keeps t u → Keeps t v → Keeps v w → Keeps t (cond b u (cond c w v))
@@ -343,4 +343,4 @@ keeps-from n (suc m) all t next e h s q k =
 
 pub keeps-ready : (t : List ℕ) (all : Bool) → Shaped t → QueueNames t → Linked t → Keeps t (collectReady all t)
 unfolding collectReady
-keeps-ready t all s q k = keeps-from (groupsOf (issued t)) (groupsOf (issued t)) all t (groupCursor t) refl (omega arith) s q k
+keeps-ready t all s q k = keeps-from (groupCount (issued t)) (groupCount (issued t)) all t (groupCursor t) refl (omega arith) s q k

@@ -15,12 +15,12 @@ use lib.ListN.{length}
 use Rattle.model.specs.Lists.{if, keep, from}
 use Rattle.model.specs.State.{State}
 use Rattle.model.specs.Ready.{marks}
-use Rattle.model.proofs.Pages.{marks-range, byPages, pages}
+use Rattle.demands.proofs.Pages.{marks-range, byPages, pages}
 use Rattle.lane.specs.Table.{HasRow}
 use Rattle.queues.specs.Header.{Shaped, issued}
 use Rattle.queues.specs.Queue.{queueOf, QueueNames}
 use Rattle.ready.specs.Bits.{bit, keepIf, bitsFrom}
-use Rattle.ready.specs.Ready.{pageWord, groupWord, pageBit, groupBit, marked, nonZero, Linked, wanted, collectedGroup}
+use Rattle.ready.specs.Ready.{pageWord, groupWord, pageBit, groupBit, mark, nonZero, Linked, wanted, collectGroup}
 use Rattle.ready.proofs.BitLaws.{bit-suc, bit-zero}
 use Rattle.ready.proofs.MarkLaws.{head-marked, bits-marked}
 use Rattle.ready.proofs.CollectedQueue.{slotsOfPage, slotsOfPages, slotsOfGroup, queue-group}
@@ -142,17 +142,17 @@ module _ (t : List ℕ) (s : State) (k : Linked t) (m : SameMarks t s) where
 
   -- the queue after a group's collection: at its back the wanted ones of the group's marked slots, ascending
   pub queue-collected : Shaped t → QueueNames t → (group : ℕ) → 4096 * group < issued t
-      → queueOf (collectedGroup t group) ≡ queueOf t ++ keep (wanted t) (marks s group)
+      → queueOf (collectGroup t group) ≡ queueOf t ++ keep (wanted t) (marks s group)
   queue-collected sh q group h = queue-group t group sh q ∙ ap (λ (l : List ℕ). queueOf t ++ keep (wanted t) l) (group-marks group h)
 
 -- ---- a mark
 
 -- marking a slot of the table is marking it in the rules' state
 pub same-marks-marked : (t : List ℕ) (s u : State) (x : ℕ) → Shaped t → x < issued t → SameMarks t s → u .issued ≡ s .issued
-    → ((y : ℕ) → u .slotOf y .marked ≡ if (eqb x y) true (s .slotOf y .marked)) → SameMarks (marked t x) u
+    → ((y : ℕ) → u .slotOf y .marked ≡ if (eqb x y) true (s .slotOf y .marked)) → SameMarks (mark t x) u
 same-marks-marked t s u x sh h m i f =
     let row : HasRow (x / 64) (length t) = omega (arith, sh .room, sh .issued-most) in
-    let same : issued (marked t x) ≡ issued t = head-marked t x 0 refl in
+    let same : issued (mark t x) ≡ issued t = head-marked t x 0 refl in
     record {
       slots-issued = i ∙ m .slots-issued ∙ sym same;
       marked-issued = λ y l.

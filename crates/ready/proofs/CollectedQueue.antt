@@ -13,7 +13,7 @@ use Rattle.lane.proofs.TableLaws.{frames}
 use Rattle.queues.specs.Header.{Shaped, issued}
 use Rattle.queues.specs.Queue.{queueOf, QueueNames}
 use Rattle.ready.specs.Bits.{bitsFrom}
-use Rattle.ready.specs.Ready.{pageColumn, groupColumn, pageWord, groupWord, wanted, offered, collectedPage, collectedGroup}
+use Rattle.ready.specs.Ready.{pageColumn, groupColumn, pageWord, groupWord, wanted, offer, collectPage, collectGroup}
 use Rattle.ready.proofs.BitLaws.{Each, none, both, bits-each, Ascends, end, next, bits-ascend}
 use Rattle.queues.proofs.QueueLaws.{queue-frames}
 use Rattle.ready.proofs.OfferLaws.{wants, offered-case, rest-offered, shaped-offered, names-offered, queue-enqueued, other-enqueued}
@@ -57,32 +57,32 @@ each-ascends (x ∷ l) (next h r) = both h (each-map l (λ y g. omega arith) (ea
 
 module _ (t : List ℕ) (x : ℕ) (s : Shaped t) where
   -- another slot is wanted as before
-  wanted-offered : (y : ℕ) → (y ≡ x → ⊥) → wanted (offered t x) y ≡ wanted t y
+  wanted-offered : (y : ℕ) → (y ≡ x → ⊥) → wanted (offer t x) y ≡ wanted t y
   unfolding wanted
   wanted-offered y n =
-      let lane : laneAt (offered t x) y ≡ laneAt t y =
+      let lane : laneAt (offer t x) y ≡ laneAt t y =
       offered-case (λ u. laneAt u y ≡ laneAt t y) t x (λ e. other-enqueued t x y (ne-eqb y x n)) (λ e. refl) in
-      let same : issued (offered t x) ≡ issued t = rest-offered t x s .heads 0 refl refl in
+      let same : issued (offer t x) ≡ issued t = rest-offered t x s .heads 0 refl refl in
       rw (lane, same)
 
-  queue-offered : QueueNames t → queueOf (offered t x) ≡ queueOf t ++ keep (wanted t) (x ∷ [])
+  queue-offered : QueueNames t → queueOf (offer t x) ≡ queueOf t ++ keep (wanted t) (x ∷ [])
   unfolding keep
   queue-offered q =
       offered-case (λ u. queueOf u ≡ queueOf t ++ if (wanted t x) (x ∷ []) []) t x
       (λ e. rw e (queue-enqueued t x s q (wants t x e))) (λ e. rw e (sym (append-nil (queueOf t))))
 
-wanted-offers : (y : ℕ) (l t : List ℕ) → Shaped t → QueueNames t → Each (λ x. y ≡ x → ⊥) l → wanted (foldl offered t l) y ≡ wanted t y
+wanted-offers : (y : ℕ) (l t : List ℕ) → Shaped t → QueueNames t → Each (λ x. y ≡ x → ⊥) l → wanted (foldl offer t l) y ≡ wanted t y
 wanted-offers y [] t s q none = refl
 wanted-offers y (x ∷ l) t s q (both n r) =
-    wanted-offers y l (offered t x) (shaped-offered t x s q) (names-offered t x s q) r ∙ wanted-offered t x s y n
+    wanted-offers y l (offer t x) (shaped-offered t x s q) (names-offered t x s q) r ∙ wanted-offered t x s y n
 
-pub queue-offers : {a : ℕ} (l t : List ℕ) → Shaped t → QueueNames t → Ascends a l → queueOf (foldl offered t l) ≡ queueOf t ++ keep (wanted t) l
+pub queue-offers : {a : ℕ} (l t : List ℕ) → Shaped t → QueueNames t → Ascends a l → queueOf (foldl offer t l) ≡ queueOf t ++ keep (wanted t) l
 unfolding keep
 queue-offers [] t s q end = sym (append-nil (queueOf t))
 queue-offers (x ∷ l) t s q (next h r) =
-    queue-offers l (offered t x) (shaped-offered t x s q) (names-offered t x s q) r
+    queue-offers l (offer t x) (shaped-offered t x s q) (names-offered t x s q) r
     ∙ ap₂ _++_ (queue-offered t x s q)
-    (keep-each (wanted (offered t x)) (wanted t) l (each-map l (λ y g. wanted-offered t x s y (λ e. omega arith)) (each-ascends l r)))
+    (keep-each (wanted (offer t x)) (wanted t) l (each-map l (λ y g. wanted-offered t x s y (λ e. omega arith)) (each-ascends l r)))
     ∙ append-assoc (queueOf t) (keep (wanted t) (x ∷ [])) (keep (wanted t) l)
     ∙ ap (λ (m : List ℕ). queueOf t ++ m) (sym (keep-append (wanted t) (x ∷ []) l))
 
@@ -103,8 +103,8 @@ module _ (t : List ℕ) (page : ℕ) (s : Shaped t) (q : QueueNames t) where
   taken : Kept t (setCell t pageColumn page 0)
   taken = kept-setCell t pageColumn page 0 refl refl refl s q
 
-  pub queue-page : queueOf (collectedPage t page) ≡ queueOf t ++ keep (wanted t) (slotsOfPage t page)
-  unfolding collectedPage
+  pub queue-page : queueOf (collectPage t page) ≡ queueOf t ++ keep (wanted t) (slotsOfPage t page)
+  unfolding collectPage
   queue-page =
       let same : queueOf (setCell t pageColumn page 0) ≡ queueOf t = simp queue-frames in
       queue-offers (slotsOfPage t page) (setCell t pageColumn page 0) (taken .shaped) (taken .names) (bits-ascend 64 (64 * page) (pageWord t page))
@@ -112,8 +112,8 @@ module _ (t : List ℕ) (page : ℕ) (s : Shaped t) (q : QueueNames t) where
       (keep-all (wanted (setCell t pageColumn page 0)) (wanted t) (slotsOfPage t page) (λ y. wanted-setCell t pageColumn page 0 y refl refl))
 
   -- a slot of another page is wanted as before
-  wanted-page : (y : ℕ) → (y / 64 ≡ page → ⊥) → wanted (collectedPage t page) y ≡ wanted t y
-  unfolding collectedPage
+  wanted-page : (y : ℕ) → (y / 64 ≡ page → ⊥) → wanted (collectPage t page) y ≡ wanted t y
+  unfolding collectPage
   wanted-page y n =
       wanted-offers y (slotsOfPage t page) (setCell t pageColumn page 0) (taken .shaped) (taken .names)
       (each-map (slotsOfPage t page) (λ x e f. n (ap (λ (z : ℕ). z / 64) f ∙ e)) (in-page t page))
@@ -138,12 +138,12 @@ slots-from t (page ∷ l) (next h r) =
     (each-map (slotsOfPages t l) (λ y g. omega arith) (slots-from t l r))
 
 pub queue-pages : {a : ℕ} (l t : List ℕ) → Shaped t → QueueNames t → Ascends a l
-    → queueOf (foldl collectedPage t l) ≡ queueOf t ++ keep (wanted t) (slotsOfPages t l)
+    → queueOf (foldl collectPage t l) ≡ queueOf t ++ keep (wanted t) (slotsOfPages t l)
 unfolding keep
 queue-pages [] t s q end = sym (append-nil (queueOf t))
 queue-pages (page ∷ l) t s q (next h r) =
     let k = kept-page t page s q in
-    let u = collectedPage t page in
+    let u = collectPage t page in
     queue-pages l u (k .shaped) (k .names) r
     ∙ ap₂ _++_ (queue-page t page s q)
     (ap (keep (wanted u)) (slots-same t u l (each-map l (λ x g. page-left t page s q x (ne-eqb x page (λ e. omega arith))) (each-ascends l r)))
@@ -159,8 +159,8 @@ abbrev pub slotsOfGroup : List ℕ → ℕ → List ℕ
 slotsOfGroup t group = slotsOfPages t (bitsFrom 64 (64 * group) (groupWord t group))
 
 pub queue-group : (t : List ℕ) (group : ℕ) → Shaped t → QueueNames t
-    → queueOf (collectedGroup t group) ≡ queueOf t ++ keep (wanted t) (slotsOfGroup t group)
-unfolding collectedGroup
+    → queueOf (collectGroup t group) ≡ queueOf t ++ keep (wanted t) (slotsOfGroup t group)
+unfolding collectGroup
 queue-group t group s q =
     let u = setCell t groupColumn group 0 in
     let k = kept-setCell t groupColumn group 0 refl refl refl s q in

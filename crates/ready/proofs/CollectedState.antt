@@ -15,15 +15,16 @@ use Rattle.model.specs.Lists.{if, keep, from, count}
 use Rattle.model.specs.Lists as rules
 use Rattle.model.specs.State.{State, mayQueue}
 use Rattle.model.specs.Changes.{withSlots, withQueue, withCursor, unmarked}
-use Rattle.model.specs.Ready.{groupOf, marks, isReady, collectMarks, collectGroup}
-use Rattle.model.proofs.Counting.{equal, other, same?}
+use Rattle.model.specs.Ready.{groupOf, marks, isReady, collectMarks}
+use Rattle.model.specs.Ready as ready-rules
+use Rattle.demands.proofs.Counting.{equal, other, same?}
 use Rattle.lane.specs.declared.lane.Lane.{Lane}
 use Rattle.lane.specs.Table.{laneAt}
 use Rattle.lane.proofs.TableLaws.{frames}
 use Rattle.queues.specs.Header.{Shaped, issued, groupCursor, setGroupCursor}
 use Rattle.queues.specs.Queue.{queueOf, QueueNames}
 use Rattle.ready.specs.Bits.{bitsFrom}
-use Rattle.ready.specs.Ready.{pageWord, groupWord, pageBit, groupBit, nonZero, Linked, wantedLane, wanted, collectedGroup}
+use Rattle.ready.specs.Ready.{pageWord, groupWord, pageBit, groupBit, nonZero, Linked, wantedLane, wanted, collectGroup}
 use Rattle.ready.proofs.BitLaws.{bits-next, bits-zero, tz-lt, tz-set, bit-zero, Each, none, both}
 use Rattle.queues.proofs.QueueLaws.{queue-frames, header-in}
 use Rattle.ready.proofs.CollectLaws.{kept-group, beside-group, group-taken, other-group-left, pages-taken, other-pages-left}
@@ -62,7 +63,7 @@ module _ (t : List ℕ) (s : State) (k : Linked t) (m : SameMarks t s) (group : 
 -- ---- the marks after it
 
 module _ (t : List ℕ) (group : ℕ) (sh : Shaped t) (q : QueueNames t) (k : Linked t) where
-  pub bits-collected : (x : ℕ) → x < issued t → pageBit (collectedGroup t group) x ≡ cond (eqb (x / 4096) group) 0 (pageBit t x)
+  pub bits-collected : (x : ℕ) → x < issued t → pageBit (collectGroup t group) x ≡ cond (eqb (x / 4096) group) 0 (pageBit t x)
   bits-collected x h =
       let d : x / 64 / 64 ≡ x / 4096 = omega arith in
       elim (same? (x / 4096) group) [
@@ -70,9 +71,9 @@ module _ (t : List ℕ) (group : ℕ) (sh : Shaped t) (q : QueueNames t) (k : Li
         | other n p i ↦ rw (p, other-pages-left t group sh q (x / 64) (λ e. n (sym d ∙ e)))
       ]
 
-  pub fit-collected : WordsFit t → 4096 * group < issued t → WordsFit (collectedGroup t group)
+  pub fit-collected : WordsFit t → 4096 * group < issued t → WordsFit (collectGroup t group)
   fit-collected f h =
-      let same : issued (collectedGroup t group) ≡ issued t = kept-group t group sh q .same-issued in
+      let same : issued (collectGroup t group) ≡ issued t = kept-group t group sh q .same-issued in
       record {
         pages-fit = λ page l. elim (same? (page / 64) group) [
           | equal e p i ↦ rw (pages-taken t group sh q k page e (rw same at l)) (lit< tt)
@@ -153,27 +154,27 @@ each-marked s group = each-keep (λ x. rules.both (s .slotOf x .marked) (eqb (gr
 
 -- the rules, for a group that has a mark
 collect-some : (s : State) (group x : ℕ) (l : List ℕ) → marks s group ≡ x ∷ l
-    → collectGroup s group
+    → ready-rules.collectGroup s group
     ≡ withCursor (suc group)
     (withQueue (s .queue ++ keep (isReady s) (marks s group))
     (withSlots (λ y. if (eqb (groupOf y) group) (unmarked (s .slotOf y)) (s .slotOf y)) s))
-unfolding collectGroup collectMarks
+unfolding ready-rules.collectGroup collectMarks
 collect-some s group x l e = rw e
 
 module _ (t : List ℕ) (s : State) (group : ℕ) (sh : Shaped t) (q : QueueNames t) (k : Linked t) (v : Sees t s) (h : 4096 * group < issued t) where
-  same-issued-after : issued (setGroupCursor (collectedGroup t group) (group + 1)) ≡ issued t
-  same-issued-after = let a : issued (setGroupCursor (collectedGroup t group) (group + 1)) ≡ issued (collectedGroup t group) = simp frames in a ∙ kept-group t group sh q .same-issued
+  same-issued-after : issued (setGroupCursor (collectGroup t group) (group + 1)) ≡ issued t
+  same-issued-after = let a : issued (setGroupCursor (collectGroup t group) (group + 1)) ≡ issued (collectGroup t group) = simp frames in a ∙ kept-group t group sh q .same-issued
 
   -- the queue, with the group's ready lanes at its back
-  queue-after : queueOf (setGroupCursor (collectedGroup t group) (group + 1)) ≡ s .queue ++ keep (isReady s) (marks s group)
+  queue-after : queueOf (setGroupCursor (collectGroup t group) (group + 1)) ≡ s .queue ++ keep (isReady s) (marks s group)
   queue-after =
-      let a : queueOf (setGroupCursor (collectedGroup t group) (group + 1)) ≡ queueOf (collectedGroup t group) = simp queue-frames in
+      let a : queueOf (setGroupCursor (collectGroup t group) (group + 1)) ≡ queueOf (collectGroup t group) = simp queue-frames in
       a ∙ queue-collected t s k (v .same-marks) sh q group h
       ∙ ap₂ _++_ (sym (v .same-queue))
       (keep-each (wanted t) (isReady s) (marks s group)
       (each-map (marks s group) (λ x l. wanted-ready t s q v x (omega (arith, v .same-marks .slots-issued))) (each-marked s group)))
 
-  marks-after : SameMarks (setGroupCursor (collectedGroup t group) (group + 1))
+  marks-after : SameMarks (setGroupCursor (collectGroup t group) (group + 1))
       (withCursor (suc group)
       (withQueue (s .queue ++ keep (isReady s) (marks s group))
       (withSlots (λ y. if (eqb (groupOf y) group) (unmarked (s .slotOf y)) (s .slotOf y)) s)))
@@ -183,7 +184,7 @@ module _ (t : List ℕ) (s : State) (group : ℕ) (sh : Shaped t) (q : QueueName
         slots-issued = v .same-marks .slots-issued ∙ sym same-issued-after;
         marked-issued = λ x l.
             let c : x < issued t = rw same-issued-after at l in
-            let w : pageBit (setGroupCursor (collectedGroup t group) (group + 1)) x ≡ pageBit (collectedGroup t group) x = simp frames in
+            let w : pageBit (setGroupCursor (collectGroup t group) (group + 1)) x ≡ pageBit (collectGroup t group) x = simp frames in
             slot x (eqb (x / 4096) group) c ∙ ap (λ (n : ℕ). eqb n 1) (sym (w ∙ bits-collected t group sh q k x c));
         unmarked-past = λ x l. past x (eqb (x / 4096) group) (v .same-marks .unmarked-past x (rw same-issued-after at l));
       }
@@ -199,9 +200,9 @@ module _ (t : List ℕ) (s : State) (group : ℕ) (sh : Shaped t) (q : QueueName
   lanes-after : (x : ℕ) (b : Bool) → x < issued t
       → rules.both (if b (unmarked (s .slotOf x)) (s .slotOf x) .pending)
       (rules.both (if b (unmarked (s .slotOf x)) (s .slotOf x) .registered) (not (if b (unmarked (s .slotOf x)) (s .slotOf x) .paused)))
-      ≡ calling (laneAt (setGroupCursor (collectedGroup t group) (group + 1)) x)
+      ≡ calling (laneAt (setGroupCursor (collectGroup t group) (group + 1)) x)
   lanes-after x b l =
-      let a : laneAt (setGroupCursor (collectedGroup t group) (group + 1)) x ≡ laneAt (collectedGroup t group) x = simp frames in
+      let a : laneAt (setGroupCursor (collectGroup t group) (group + 1)) x ≡ laneAt (collectGroup t group) x = simp frames in
       same b ∙ v .same-lanes x l ∙ sym (ap calling a ∙ ap calling (beside-group t group sh q .lanes x))
     where
       same : (b : Bool)
@@ -212,10 +213,10 @@ module _ (t : List ℕ) (s : State) (group : ℕ) (sh : Shaped t) (q : QueueName
       same false = refl
 
   -- the rules' collecting of a group that has bits
-  pub sees-group : WordsFit t → (groupWord t group ≡ 0 → ⊥) → Sees (setGroupCursor (collectedGroup t group) (group + 1)) (collectGroup s group)
+  pub sees-group : WordsFit t → (groupWord t group ≡ 0 → ⊥) → Sees (setGroupCursor (collectGroup t group) (group + 1)) (ready-rules.collectGroup s group)
   sees-group f n =
       let (x, l, e) = some-marks t s k (v .same-marks) group h f n in
-      subst (Sees (setGroupCursor (collectedGroup t group) (group + 1))) (sym (collect-some s group x l e))
+      subst (Sees (setGroupCursor (collectGroup t group) (group + 1))) (sym (collect-some s group x l e))
       (record {
         same-marks = marks-after;
         same-queue = sym queue-after;
@@ -223,10 +224,10 @@ module _ (t : List ℕ) (s : State) (group : ℕ) (sh : Shaped t) (q : QueueName
         same-lanes = λ x l. lanes-after x (eqb (groupOf x) group) (rw same-issued-after at l);
       })
     where
-      stored : groupCursor (setGroupCursor (collectedGroup t group) (group + 1)) ≡ group + 1
-      stored = simp (frames, header-in (collectedGroup t group) (kept-group t group sh q .shaped))
+      stored : groupCursor (setGroupCursor (collectGroup t group) (group + 1)) ≡ group + 1
+      stored = simp (frames, header-in (collectGroup t group) (kept-group t group sh q .shaped))
 
   -- of a group that has none
-  pub sees-none : groupWord t group ≡ 0 → collectGroup s group ≡ s
-  unfolding collectGroup collectMarks
+  pub sees-none : groupWord t group ≡ 0 → ready-rules.collectGroup s group ≡ s
+  unfolding ready-rules.collectGroup collectMarks
   sees-none z = rw (no-marks t s k (v .same-marks) group h z)

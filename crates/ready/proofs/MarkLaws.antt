@@ -9,14 +9,14 @@ use borrow.Author.Tests.{eqb-true, eqb-false}
 use lib.Dec.{ltb, eqb}
 use lib.ListN.{length}
 use Rattle.model.specs.Lists.{count}
-use Rattle.model.proofs.Counting.{equal, other, same?}
+use Rattle.demands.proofs.Counting.{equal, other, same?}
 use Rattle.lane.specs.Table.{headerWords, rowWords, HasRow, head, cell, laneAt}
 use Rattle.lane.proofs.TableLaws.{frames, has-row}
 use Rattle.queues.specs.Header.{Shaped, issued}
 use Rattle.queues.specs.Queue.{queueOf, QueueNames}
 use Rattle.queues.specs.Registry.{freeOf}
 use Rattle.ready.specs.Bits.{bit, withBit}
-use Rattle.ready.specs.Ready.{pageColumn, groupColumn, pageWord, groupWord, pageBit, groupBit, setPageBit, setGroupBit, marked, nonZero, Linked}
+use Rattle.ready.specs.Ready.{pageColumn, groupColumn, pageWord, groupWord, pageBit, groupBit, setPageBit, setGroupBit, mark, nonZero, Linked}
 use Rattle.ready.proofs.BitLaws.{bit-set-same, bit-set-other, set-not-zero}
 use Rattle.queues.proofs.NamesLaws.{names-same}
 use Rattle.queues.proofs.QueueLaws.{queue-frames}
@@ -26,49 +26,49 @@ use Rattle.ready.proofs.CollectLaws.{Kept}
 module _ (t : List ℕ) (x : ℕ) where
   -- a mark does one of two things
   pub marked-case : (P : List ℕ → Type 0) → (pageWord t (x / 64) ≡ 0 → P (setGroupBit (setPageBit t x) (x / 64)))
-      → ((pageWord t (x / 64) ≡ 0 → ⊥) → P (setPageBit t x)) → P (marked t x)
-  unfolding marked
+      → ((pageWord t (x / 64) ≡ 0 → ⊥) → P (setPageBit t x)) → P (mark t x)
+  unfolding mark
   marked-case P f g = go (eqb (pageWord t (x / 64)) 0) refl
     where
       go : (b : Bool) → eqb (pageWord t (x / 64)) 0 ≡ b → P (cond b (setGroupBit (setPageBit t x) (x / 64)) (setPageBit t x))
       go true e = f (eqb-true (pageWord t (x / 64)) 0 e)
       go false e = g (eqb-false (pageWord t (x / 64)) 0 e)
 
-  pub length-marked : length (marked t x) ≡ length t
+  pub length-marked : length (mark t x) ≡ length t
   length-marked = marked-case (λ u. length u ≡ length t) (λ e. simp frames) (λ n. simp frames)
 
-  pub head-marked : (k : ℕ) → ltb k headerWords ≡ true → head (marked t x) k ≡ head t k
+  pub head-marked : (k : ℕ) → ltb k headerWords ≡ true → head (mark t x) k ≡ head t k
   head-marked k p = marked-case (λ u. head u k ≡ head t k) (λ e. simp (frames, p)) (λ n. simp (frames, p))
 
-  pub lane-marked : (y : ℕ) → laneAt (marked t x) y ≡ laneAt t y
+  pub lane-marked : (y : ℕ) → laneAt (mark t x) y ≡ laneAt t y
   lane-marked y = marked-case (λ u. laneAt u y ≡ laneAt t y) (λ e. simp frames) (λ n. simp frames)
 
-  pub queue-marked : queueOf (marked t x) ≡ queueOf t
+  pub queue-marked : queueOf (mark t x) ≡ queueOf t
   queue-marked = marked-case (λ u. queueOf u ≡ queueOf t) (λ e. simp queue-frames) (λ n. simp queue-frames)
 
-  pub free-marked : freeOf (marked t x) ≡ freeOf t
+  pub free-marked : freeOf (mark t x) ≡ freeOf t
   free-marked = marked-case (λ u. freeOf u ≡ freeOf t) (λ e. simp registry-frames) (λ n. simp registry-frames)
 
   -- a column that is neither the pages' nor the groups'
-  pub cell-marked : (c row : ℕ) → ltb c rowWords ≡ true → eqb pageColumn c ≡ false → eqb groupColumn c ≡ false → cell (marked t x) c row ≡ cell t c row
+  pub cell-marked : (c row : ℕ) → ltb c rowWords ≡ true → eqb pageColumn c ≡ false → eqb groupColumn c ≡ false → cell (mark t x) c row ≡ cell t c row
   cell-marked c row p m n =
       marked-case (λ u. cell u c row ≡ cell t c row) (λ e. simp (frames, p, m, n)) (λ e. simp (frames, p, m))
 
   -- ---- the page words
 
-  pub other-page-marked : (page : ℕ) → eqb page (x / 64) ≡ false → pageWord (marked t x) page ≡ pageWord t page
+  pub other-page-marked : (page : ℕ) → eqb page (x / 64) ≡ false → pageWord (mark t x) page ≡ pageWord t page
   other-page-marked page n = marked-case (λ u. pageWord u page ≡ pageWord t page) (λ e. simp (frames, n)) (λ e. simp (frames, n))
 
   module _ (r : HasRow (x / 64) (length t)) where
-    pub page-marked : pageWord (marked t x) (x / 64) ≡ withBit (pageWord t (x / 64)) (x % 64)
+    pub page-marked : pageWord (mark t x) (x / 64) ≡ withBit (pageWord t (x / 64)) (x % 64)
     page-marked =
         marked-case (λ u. pageWord u (x / 64) ≡ withBit (pageWord t (x / 64)) (x % 64)) (λ e. simp (frames, has-row t (x / 64) r))
         (λ n. simp (frames, has-row t (x / 64) r))
 
-    pub own-bit-marked : pageBit (marked t x) x ≡ 1
+    pub own-bit-marked : pageBit (mark t x) x ≡ 1
     own-bit-marked = ap (λ (w : ℕ). bit w (x % 64)) page-marked ∙ bit-set-same (pageWord t (x / 64)) (x % 64)
 
-    pub other-bit-marked : (y : ℕ) → (y ≡ x → ⊥) → pageBit (marked t x) y ≡ pageBit t y
+    pub other-bit-marked : (y : ℕ) → (y ≡ x → ⊥) → pageBit (mark t x) y ≡ pageBit t y
     other-bit-marked y n = elim (same? (y / 64) (x / 64)) [
       | equal e p i ↦
           rw (e, page-marked) (bit-set-other (pageWord t (x / 64)) (x % 64) (y % 64) (λ f. n (omega arith)))
@@ -76,7 +76,7 @@ module _ (t : List ℕ) (x : ℕ) where
     ]
 
     -- marking sets exactly the slot's page bit
-    pub bits-marked : (y : ℕ) → pageBit (marked t x) y ≡ cond (eqb x y) 1 (pageBit t y)
+    pub bits-marked : (y : ℕ) → pageBit (mark t x) y ≡ cond (eqb x y) 1 (pageBit t y)
     bits-marked y = elim (same? x y) [
       | equal e p i ↦ rw (p, ← e) own-bit-marked
       | other d p i ↦ rw p (other-bit-marked y (λ e. d (sym e)))
@@ -87,7 +87,7 @@ module _ (t : List ℕ) (x : ℕ) where
     row-of-group : HasRow (x / 64 / 64) (length t)
     row-of-group = omega arith
 
-    other-group-bit-marked : (page : ℕ) → (page ≡ x / 64 → ⊥) → groupBit (marked t x) page ≡ groupBit t page
+    other-group-bit-marked : (page : ℕ) → (page ≡ x / 64 → ⊥) → groupBit (mark t x) page ≡ groupBit t page
     other-group-bit-marked page n = elim (same? (page / 64) (x / 64 / 64)) [
       | equal e p i ↦
           marked-case (λ u. groupBit u page ≡ groupBit t page)
@@ -101,7 +101,7 @@ module _ (t : List ℕ) (x : ℕ) where
       not-zero zero d = absurd (d refl)
       not-zero (suc n) d = refl
 
-      own-group-bit-marked : groupBit (marked t x) (x / 64) ≡ 1
+      own-group-bit-marked : groupBit (mark t x) (x / 64) ≡ 1
       own-group-bit-marked =
           marked-case (λ u. groupBit u (x / 64) ≡ 1)
           (λ z. simp (frames, has-row t (x / 64 / 64) row-of-group) (bit-set-same (groupWord t (x / 64 / 64)) (x / 64 % 64)))
@@ -118,11 +118,11 @@ pub ruleset mark-frames = (
 )
 
 -- pages and groups stay linked
-pub linked-marked : (t : List ℕ) (x : ℕ) → Shaped t → x < issued t → Linked t → Linked (marked t x)
+pub linked-marked : (t : List ℕ) (x : ℕ) → Shaped t → x < issued t → Linked t → Linked (mark t x)
 linked-marked t x s l k =
     let row : HasRow (x / 64) (length t) = omega (arith, s .room, s .issued-most) in
     let own : 64 * (x / 64) < issued t = omega arith in
-    let same : issued (marked t x) ≡ issued t = head-marked t x 0 refl in
+    let same : issued (mark t x) ≡ issued t = head-marked t x 0 refl in
     record {
       of-issued = λ y h b. rw same (elim (same? y x) [
         | equal e p i ↦ rw e l
@@ -141,11 +141,11 @@ linked-marked t x s l k =
       ]);
     }
 
-pub kept-marked : (t : List ℕ) (x : ℕ) → Shaped t → QueueNames t → Kept t (marked t x)
+pub kept-marked : (t : List ℕ) (x : ℕ) → Shaped t → QueueNames t → Kept t (mark t x)
 kept-marked t x s q =
     record {
       shaped = marked-case t x Shaped (λ e. simp frames s) (λ n. simp frames s);
-      names = names-same t (marked t x) q (head-marked t x 0 refl) (lane-marked t x) (λ y. ap (count y) (queue-marked t x));
+      names = names-same t (mark t x) q (head-marked t x 0 refl) (lane-marked t x) (λ y. ap (count y) (queue-marked t x));
       same-issued = head-marked t x 0 refl;
       long = length-marked t x;
     }

@@ -10,7 +10,7 @@ use lib.Dec.{eqb, ltb}
 use lib.ListN.{length}
 use Rattle.lane.specs.Table.{HasRow}
 use Rattle.queues.specs.Header.{Shaped, issued, groupCursor}
-use Rattle.ready.specs.Ready.{groupWord, groupsOf, groupAt, collectedFrom, collectReady, anyReady}
+use Rattle.ready.specs.Ready.{groupWord, groupCount, groupAt, collectedFrom, collectReady, anyReady}
 
 pred-suc : (k : ℕ) → suc k - 1 ≡ k
 pred-suc k = omega arith
@@ -58,9 +58,9 @@ module _ (t : List ℕ) where
   nothing-from n (suc k) all next h z =
       simp (eq-eqb (groupWord t (groupAt n next)) 0 (z (groupAt n next) (at-below n next h))) (nothing-from n k all (groupAt n next + 1) h z)
 
-  pub none-collected : (all : Bool) → anyReady (groupsOf (issued t)) t ≡ false → collectReady all t ≡ t
+  pub none-collected : (all : Bool) → anyReady (groupCount (issued t)) t ≡ false → collectReady all t ≡ t
   unfolding collectReady collectedFrom
-  none-collected all e = go (groupsOf (issued t)) e
+  none-collected all e = go (groupCount (issued t)) e
     where
       go : (n : ℕ) → anyReady n t ≡ false → collectedFrom n n all t (groupCursor t) ≡ t
       go zero f = refl
@@ -72,5 +72,5 @@ module _ (t : List ℕ) where
   none-left e z = sym (e ∙ ap (λ (k : ℕ). anyReady k t) z)
 
   -- a group that exists has a row
-  pub groups-fit : (n : ℕ) → Shaped t → n ≤ groupsOf (issued t) → (n ≡ 0 → ⊥) → HasRow (n - 1) (length t)
+  pub groups-fit : (n : ℕ) → Shaped t → n ≤ groupCount (issued t) → (n ≡ 0 → ⊥) → HasRow (n - 1) (length t)
   groups-fit n s h z = omega (arith, s .issued-most, s .room)

@@ -9,13 +9,13 @@ use borrow.Author.Tests.{ltb-true, le-leb, eqb-true}
 use lib.Dec.{ltb, leb, eqb}
 use lib.ListN.{length}
 use Rattle.model.specs.Lists as rules
-use Rattle.model.proofs.Counting.{equal, other, same?}
+use Rattle.demands.proofs.Counting.{equal, other, same?}
 use Rattle.lane.specs.Table.{headerWords, rowWords, laneWords, head, cellAt, cell, laneAt, putLane}
 use Rattle.lane.proofs.TableLaws.{frames, slot-of-lane}
 use Rattle.queues.specs.Header.{Shaped, issued, queueCount, slots}
 use Rattle.queues.specs.Queue.{queueColumn, queueOf, QueueNames}
 use Rattle.queues.specs.Registry.{freeOf}
-use Rattle.ready.specs.Ready.{wantedLane, wanted, queuedLane, enqueued, offered}
+use Rattle.ready.specs.Ready.{wantedLane, wanted, queuedLane, enqueue, offer}
 use Rattle.queues.proofs.NamesLaws.{names-pushed-back}
 use Rattle.queues.proofs.RegistryLaws.{registry-frames}
 use Rattle.queues.proofs.QueueLaws.{queue-frames, queue-pushed-back, queue-has-room, shaped-pushed-back, shaped-putLane}
@@ -49,29 +49,29 @@ wants t x e =
 -- ---- a lane that goes to the back of the queue
 
 module _ (t : List ℕ) (x : ℕ) where
-  pub length-enqueued : length (enqueued t x) ≡ length t
-  unfolding enqueued
+  pub length-enqueued : length (enqueue t x) ≡ length t
+  unfolding enqueue
   length-enqueued = simp (queue-frames, frames)
 
-  pub head-enqueued : (k : ℕ) → ltb k headerWords ≡ true → eqb 2 k ≡ false → head (enqueued t x) k ≡ head t k
-  unfolding enqueued
+  pub head-enqueued : (k : ℕ) → ltb k headerWords ≡ true → eqb 2 k ≡ false → head (enqueue t x) k ≡ head t k
+  unfolding enqueue
   head-enqueued k p n = simp (queue-frames, frames, p, n)
 
   -- the columns past the queue's
-  pub cell-enqueued : (c row : ℕ) → leb laneWords c ≡ true → ltb c rowWords ≡ true → eqb queueColumn c ≡ false → cell (enqueued t x) c row ≡ cell t c row
-  unfolding enqueued
+  pub cell-enqueued : (c row : ℕ) → leb laneWords c ≡ true → ltb c rowWords ≡ true → eqb queueColumn c ≡ false → cell (enqueue t x) c row ≡ cell t c row
+  unfolding enqueue
   cell-enqueued c row a p n = simp (queue-frames, frames, a, p, n)
 
-  pub lane-enqueued : leb (cellAt rowWords x) (length t) ≡ true → laneAt (enqueued t x) x ≡ queuedLane (laneAt t x)
-  unfolding enqueued
+  pub lane-enqueued : leb (cellAt rowWords x) (length t) ≡ true → laneAt (enqueue t x) x ≡ queuedLane (laneAt t x)
+  unfolding enqueue
   lane-enqueued r = simp (queue-frames, frames, r)
 
-  pub other-enqueued : (y : ℕ) → eqb y x ≡ false → laneAt (enqueued t x) y ≡ laneAt t y
-  unfolding enqueued
+  pub other-enqueued : (y : ℕ) → eqb y x ≡ false → laneAt (enqueue t x) y ≡ laneAt t y
+  unfolding enqueue
   other-enqueued y n = simp (queue-frames, frames, n)
 
-  pub free-enqueued : freeOf (enqueued t x) ≡ freeOf t
-  unfolding enqueued
+  pub free-enqueued : freeOf (enqueue t x) ≡ freeOf t
+  unfolding enqueue
   free-enqueued = simp registry-frames
 
 pub ruleset enqueue-frames = (
@@ -109,11 +109,11 @@ rest-then a b =
     }
 
 -- an offer does one of two things
-pub offered-case : (P : List ℕ → Type 0) (t : List ℕ) (x : ℕ) → (wanted t x ≡ true → P (enqueued t x)) → (wanted t x ≡ false → P t) → P (offered t x)
-unfolding offered
+pub offered-case : (P : List ℕ → Type 0) (t : List ℕ) (x : ℕ) → (wanted t x ≡ true → P (enqueue t x)) → (wanted t x ≡ false → P t) → P (offer t x)
+unfolding offer
 offered-case P t x f g = go (wanted t x) refl
   where
-    go : (b : Bool) → wanted t x ≡ b → P (cond b (enqueued t x) t)
+    go : (b : Bool) → wanted t x ≡ b → P (cond b (enqueue t x) t)
     go true e = f e
     go false e = g e
 
@@ -122,7 +122,7 @@ module _ (t : List ℕ) (x : ℕ) (s : Shaped t) where
   row-of : Wants t x → leb (cellAt rowWords x) (length t) ≡ true
   row-of w = le-leb (cellAt rowWords x) (length t) (omega (arith, s .issued-most, s .room, w .is-issued))
 
-  pub rest-enqueued : Wants t x → Rest t (enqueued t x)
+  pub rest-enqueued : Wants t x → Rest t (enqueue t x)
   rest-enqueued w =
       record {
         long = length-enqueued t x;
@@ -134,28 +134,28 @@ module _ (t : List ℕ) (x : ℕ) (s : Shaped t) where
         ];
       }
 
-  pub rest-offered : Rest t (offered t x)
+  pub rest-offered : Rest t (offer t x)
   rest-offered = offered-case (Rest t) t x (λ e. rest-enqueued (wants t x e)) (λ e. rest-self t)
 
   module _ (q : QueueNames t) where
     module _ (w : Wants t x) where
-      pub shaped-enqueued : Shaped (enqueued t x)
-      unfolding enqueued
+      pub shaped-enqueued : Shaped (enqueue t x)
+      unfolding enqueue
       shaped-enqueued = shaped-pushed-back (putLane t (queuedLane (laneAt t x))) (shaped-putLane t s _) x (simp frames (wants-room t x s q w))
 
-      pub queue-enqueued : queueOf (enqueued t x) ≡ queueOf t ++ (x ∷ [])
-      unfolding enqueued
+      pub queue-enqueued : queueOf (enqueue t x) ≡ queueOf t ++ (x ∷ [])
+      unfolding enqueue
       queue-enqueued =
           queue-pushed-back (putLane t (queuedLane (laneAt t x))) (shaped-putLane t s _) x (simp frames (wants-room t x s q w)) ∙ simp queue-frames
 
-      pub names-enqueued : QueueNames (enqueued t x)
-      unfolding enqueued
+      pub names-enqueued : QueueNames (enqueue t x)
+      unfolding enqueue
       names-enqueued =
           names-pushed-back t s q x (queuedLane (laneAt t x)) (slot-of-lane t x) (w .is-issued)
           (sym (q .flagged x (w .is-issued) (w .registered)) ∙ w .unqueued) refl
 
-    pub shaped-offered : Shaped (offered t x)
+    pub shaped-offered : Shaped (offer t x)
     shaped-offered = offered-case Shaped t x (λ e. shaped-enqueued (wants t x e)) (λ e. s)
 
-    pub names-offered : QueueNames (offered t x)
+    pub names-offered : QueueNames (offer t x)
     names-offered = offered-case QueueNames t x (λ e. names-enqueued (wants t x e)) (λ e. q)

@@ -17,7 +17,7 @@ use Rattle.queues.specs.Header.{Shaped, issued, slots}
 use Rattle.queues.specs.Queue.{queueOf}
 use Rattle.queues.specs.Registry.{freeOf}
 use Rattle.ready.specs.Bits.{bit}
-use Rattle.ready.specs.Ready.{pageColumn, groupColumn, pageWord, groupWord, pageBit, groupBit, nonZero, Linked, openedGroup, openedPage}
+use Rattle.ready.specs.Ready.{pageColumn, groupColumn, pageWord, groupWord, pageBit, groupBit, nonZero, Linked, openGroup, openPage}
 use Rattle.ready.proofs.BitLaws.{bit-zero}
 use Rattle.queues.proofs.FrameLaws.{ready-frames}
 use Rattle.queues.proofs.QueueLaws.{header-in}
@@ -30,8 +30,8 @@ module _ (t : List ℕ) (x : ℕ) where
   -- opening does one of three things
   opened-case : (P : List ℕ → Type 0) → ((x % 64 ≡ 0 → ⊥) → P t)
       → (x % 64 ≡ 0 → (x / 64 % 64 ≡ 0 → ⊥) → P (setCell t pageColumn (x / 64) 0))
-      → (x % 64 ≡ 0 → x / 64 % 64 ≡ 0 → P (setCell (setCell t pageColumn (x / 64) 0) groupColumn (x / 64 / 64) 0)) → P (openedPage t x)
-  unfolding openedPage openedGroup
+      → (x % 64 ≡ 0 → x / 64 % 64 ≡ 0 → P (setCell (setCell t pageColumn (x / 64) 0) groupColumn (x / 64 / 64) 0)) → P (openPage t x)
+  unfolding openPage openGroup
   opened-case P f g h = go (eqb (x % 64) 0) refl (eqb (x / 64 % 64) 0) refl
     where
       go : (a : Bool) → eqb (x % 64) 0 ≡ a → (b : Bool) → eqb (x / 64 % 64) 0 ≡ b
@@ -40,38 +40,38 @@ module _ (t : List ℕ) (x : ℕ) where
       go true e false d = g (eqb-true (x % 64) 0 e) (eqb-false (x / 64 % 64) 0 d)
       go false e b d = f (eqb-false (x % 64) 0 e)
 
-  pub length-opened : length (openedPage t x) ≡ length t
+  pub length-opened : length (openPage t x) ≡ length t
   length-opened = opened-case (λ u. length u ≡ length t) (λ a. refl) (λ a b. simp frames) (λ a b. simp frames)
 
-  pub head-opened : (k : ℕ) → ltb k headerWords ≡ true → head (openedPage t x) k ≡ head t k
+  pub head-opened : (k : ℕ) → ltb k headerWords ≡ true → head (openPage t x) k ≡ head t k
   head-opened k p = opened-case (λ u. head u k ≡ head t k) (λ a. refl) (λ a b. simp (frames, p)) (λ a b. simp (frames, p))
 
-  pub lane-opened : (y : ℕ) → laneAt (openedPage t x) y ≡ laneAt t y
+  pub lane-opened : (y : ℕ) → laneAt (openPage t x) y ≡ laneAt t y
   lane-opened y = opened-case (λ u. laneAt u y ≡ laneAt t y) (λ a. refl) (λ a b. simp frames) (λ a b. simp frames)
 
-  pub queue-opened : queueOf (openedPage t x) ≡ queueOf t
+  pub queue-opened : queueOf (openPage t x) ≡ queueOf t
   queue-opened = opened-case (λ u. queueOf u ≡ queueOf t) (λ a. refl) (λ a b. simp ready-frames) (λ a b. simp ready-frames)
 
-  pub free-opened : freeOf (openedPage t x) ≡ freeOf t
+  pub free-opened : freeOf (openPage t x) ≡ freeOf t
   free-opened = opened-case (λ u. freeOf u ≡ freeOf t) (λ a. refl) (λ a b. simp ready-frames) (λ a b. simp ready-frames)
 
   -- the page and the group words
-  pub page-opened : HasRow (x / 64) (length t) → x % 64 ≡ 0 → pageWord (openedPage t x) (x / 64) ≡ 0
+  pub page-opened : HasRow (x / 64) (length t) → x % 64 ≡ 0 → pageWord (openPage t x) (x / 64) ≡ 0
   page-opened r e =
       opened-case (λ u. pageWord u (x / 64) ≡ 0) (λ a. absurd (a e)) (λ a b. simp (frames, has-row t (x / 64) r))
       (λ a b. simp (frames, has-row t (x / 64) r))
 
-  pub page-not-opened : (page : ℕ) → (page ≡ x / 64 → x % 64 ≡ 0 → ⊥) → pageWord (openedPage t x) page ≡ pageWord t page
+  pub page-not-opened : (page : ℕ) → (page ≡ x / 64 → x % 64 ≡ 0 → ⊥) → pageWord (openPage t x) page ≡ pageWord t page
   page-not-opened page n =
       opened-case (λ u. pageWord u page ≡ pageWord t page) (λ a. refl)
       (λ a b. simp (frames, ne-eqb page (x / 64) (λ e. n e a))) (λ a b. simp (frames, ne-eqb page (x / 64) (λ e. n e a)))
 
-  pub group-opened : HasRow (x / 64 / 64) (length t) → x % 4096 ≡ 0 → groupWord (openedPage t x) (x / 64 / 64) ≡ 0
+  pub group-opened : HasRow (x / 64 / 64) (length t) → x % 4096 ≡ 0 → groupWord (openPage t x) (x / 64 / 64) ≡ 0
   group-opened r e =
       opened-case (λ u. groupWord u (x / 64 / 64) ≡ 0) (λ a. absurd (a (omega arith))) (λ a b. absurd (b (first-page x e)))
       (λ a b. simp (frames, has-row t (x / 64 / 64) r))
 
-  pub group-not-opened : (group : ℕ) → (group ≡ x / 64 / 64 → x % 4096 ≡ 0 → ⊥) → groupWord (openedPage t x) group ≡ groupWord t group
+  pub group-not-opened : (group : ℕ) → (group ≡ x / 64 / 64 → x % 4096 ≡ 0 → ⊥) → groupWord (openPage t x) group ≡ groupWord t group
   group-not-opened group n =
       opened-case (λ u. groupWord u group ≡ groupWord t group) (λ a. refl) (λ a b. simp frames)
       (λ a b. simp (frames, ne-eqb group (x / 64 / 64) (λ e. n e (omega arith))))
@@ -101,10 +101,10 @@ module _ (t : List ℕ) (s : Shaped t) (room : issued t < slots t) (k : Linked t
   unset : (w b : ℕ) → (bit w b ≡ 1 → ⊥) → bit w b ≡ 0
   unset w b n = omega (arith, mod-lt (w / 2 ^ b) (zero-lt-suc 1))
 
-  pub linked-issued : Linked (setHead (openedPage t (issued t)) 0 (issued t + 1))
+  pub linked-issued : Linked (setHead (openPage t (issued t)) 0 (issued t + 1))
   linked-issued =
       let x = issued t in
-      let u = openedPage t x in
+      let u = openPage t x in
       let header : leb headerWords (length u) ≡ true = rw (length-opened t x) (header-in t s) in
       let one : issued (setHead u 0 (x + 1)) ≡ x + 1 = simp (frames, header) in
       record {
@@ -127,13 +127,13 @@ module _ (t : List ℕ) (s : Shaped t) (room : issued t < slots t) (k : Linked t
       up = omega (arith, s .room)
 
       -- a page that was there before
-      old-page : (page : ℕ) → 64 * page < issued t → pageWord (openedPage t (issued t)) page ≡ pageWord t page
+      old-page : (page : ℕ) → 64 * page < issued t → pageWord (openPage t (issued t)) page ≡ pageWord t page
       old-page page h = page-not-opened t (issued t) page (λ e z. omega arith)
 
-      old-group : (group : ℕ) → 4096 * group < issued t → groupWord (openedPage t (issued t)) group ≡ groupWord t group
+      old-group : (group : ℕ) → 4096 * group < issued t → groupWord (openPage t (issued t)) group ≡ groupWord t group
       old-group group h = group-not-opened t (issued t) group (λ e z. omega arith)
 
-      issued-bit : (y : ℕ) → 64 * (y / 64) < issued t + 1 → pageBit (openedPage t (issued t)) y ≡ 1 → y < issued t + 1
+      issued-bit : (y : ℕ) → 64 * (y / 64) < issued t + 1 → pageBit (openPage t (issued t)) y ≡ 1 → y < issued t + 1
       issued-bit y h b = go (decLt (64 * (y / 64)) (issued t))
         where
           go : Dec (64 * (y / 64) < issued t) → y < issued t + 1
@@ -142,24 +142,24 @@ module _ (t : List ℕ) (s : Shaped t) (room : issued t < slots t) (k : Linked t
               omega arith
           go (no n) =
               let same : issued t / 64 ≡ y / 64 = omega arith in
-              absurd (absent (y % 64) (ap (pageWord (openedPage t (issued t))) (sym same) ∙ page-opened t (issued t) row (omega arith)) b)
+              absurd (absent (y % 64) (ap (pageWord (openPage t (issued t))) (sym same) ∙ page-opened t (issued t) row (omega arith)) b)
 
-      existing : (page : ℕ) → 4096 * (page / 64) < issued t + 1 → groupBit (openedPage t (issued t)) page ≡ 1 → 64 * page < issued t
+      existing : (page : ℕ) → 4096 * (page / 64) < issued t + 1 → groupBit (openPage t (issued t)) page ≡ 1 → 64 * page < issued t
       existing page h b = go (decLt (4096 * (page / 64)) (issued t))
         where
           go : Dec (4096 * (page / 64) < issued t) → 64 * page < issued t
           go (yes l) = k .of-pages page l (rw (old-group (page / 64) l) at b)
           go (no n) =
               let same : issued t / 64 / 64 ≡ page / 64 = omega arith in
-              absurd (absent (page % 64) (ap (groupWord (openedPage t (issued t))) (sym same) ∙ group-opened t (issued t) up (omega arith)) b)
+              absurd (absent (page % 64) (ap (groupWord (openPage t (issued t))) (sym same) ∙ group-opened t (issued t) up (omega arith)) b)
 
-      link : (page : ℕ) → 64 * page < issued t + 1 → groupBit (openedPage t (issued t)) page ≡ nonZero (pageWord (openedPage t (issued t)) page)
+      link : (page : ℕ) → 64 * page < issued t + 1 → groupBit (openPage t (issued t)) page ≡ nonZero (pageWord (openPage t (issued t)) page)
       link page h = go (decLt (64 * page) (issued t))
         where
-          go : Dec (64 * page < issued t) → groupBit (openedPage t (issued t)) page ≡ nonZero (pageWord (openedPage t (issued t)) page)
+          go : Dec (64 * page < issued t) → groupBit (openPage t (issued t)) page ≡ nonZero (pageWord (openPage t (issued t)) page)
           go (yes l) = rw (old-page page l, old-group (page / 64) (omega arith)) (k .linked page l)
           go (no n) =
               let same : issued t / 64 ≡ page = omega arith in
-              let empty : pageWord (openedPage t (issued t)) page ≡ 0 = ap (pageWord (openedPage t (issued t))) (sym same) ∙ page-opened t (issued t) row (omega arith) in
+              let empty : pageWord (openPage t (issued t)) page ≡ 0 = ap (pageWord (openPage t (issued t))) (sym same) ∙ page-opened t (issued t) row (omega arith) in
               rw empty
-              (unset (groupWord (openedPage t (issued t)) (page / 64)) (page % 64) (λ b. omega (arith, existing page (omega arith) b)))
+              (unset (groupWord (openPage t (issued t)) (page / 64)) (page % 64) (λ b. omega (arith, existing page (omega arith) b)))

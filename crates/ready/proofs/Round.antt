@@ -10,7 +10,7 @@ use native.Mathlib.Omega.{arith}
 use borrow.Author.Tests.{eq-eqb, ne-eqb}
 use Rattle.queues.specs.Header.{Shaped, issued, groupCursor, setGroupCursor}
 use Rattle.queues.specs.Queue.{QueueNames}
-use Rattle.ready.specs.Ready.{groupWord, Linked, collectedGroup, groupsOf, groupAt, collectedFrom, collectReady}
+use Rattle.ready.specs.Ready.{groupWord, Linked, collectGroup, groupCount, groupAt, collectedFrom, collectReady}
 use Rattle.ready.proofs.CollectLaws.{Kept, kept-self, kept-then, Keeps, keeps-group}
 
 -- ---- one turn of the definition, at the code's `left - 1` and at what the code has for the group and for the table
@@ -24,7 +24,7 @@ module _ (n : ℕ) (all : Bool) (t : List ℕ) (next g : ℕ) (at : g ≡ groupA
   from-none zero h e = absurd (h refl)
   from-none (suc k) h e = rw (← at, eq-eqb _ _ e, pred-suc k)
 
-  module _ (u : List ℕ) (did : u ≡ collectedGroup t g) (some : groupWord t g ≡ 0 → ⊥) where
+  module _ (u : List ℕ) (did : u ≡ collectGroup t g) (some : groupWord t g ≡ 0 → ⊥) where
     from-all : (left : ℕ) → (left ≡ 0 → ⊥) → all ≡ true → collectedFrom n left all t next ≡ collectedFrom n (left - 1) all (setGroupCursor u (g + 1)) (g + 1)
     unfolding collectedFrom
     from-all zero h e = absurd (h refl)
@@ -40,11 +40,11 @@ module _ (n : ℕ) (all : Bool) (t : List ℕ) (next g : ℕ) (at : g ≡ groupA
 pub record Round (n : ℕ) (all : Bool) (t₀ t : List ℕ) (left next : ℕ) : Type 0 where
   pub kept : Kept t₀ t
   pub linked : Linked t
-  pub groups : groupsOf (issued t₀) ≡ n
+  pub groups : groupCount (issued t₀) ≡ n
   pub most : left ≤ n
   pub same : collectedFrom n left all t next ≡ collectReady all t₀
 
-pub round-start : (n : ℕ) (all : Bool) (t : List ℕ) → Shaped t → QueueNames t → Linked t → n ≡ groupsOf (issued t) → Round n all t t n (groupCursor t)
+pub round-start : (n : ℕ) (all : Bool) (t : List ℕ) → Shaped t → QueueNames t → Linked t → n ≡ groupCount (issued t) → Round n all t t n (groupCursor t)
 unfolding collectReady
 round-start n all t s q l e =
     record {
@@ -68,7 +68,7 @@ module _ {n : ℕ} {all : Bool} {t₀ t : List ℕ} {left next : ℕ} (k : Round
     round-none e =
         record { kept = k .kept; linked = k .linked; groups = k .groups; most = omega (arith, k .most); same = sym (from-none n all t next g at left h e) ∙ k .same }
 
-    module _ (u : List ℕ) (did : u ≡ collectedGroup t g) (low : g < n) where
+    module _ (u : List ℕ) (did : u ≡ collectGroup t g) (low : g < n) where
       keeps-round : Keeps t (setGroupCursor u (g + 1))
       keeps-round =
           subst (λ (w : List ℕ). Keeps t (setGroupCursor w (g + 1))) (sym did)

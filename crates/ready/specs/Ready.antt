@@ -9,7 +9,7 @@ use Rattle.lane.specs.Lane.{withFlags}
 use Rattle.lane.specs.Table.{laneWords, cell, setCell, laneAt, putLane}
 use Rattle.lane.specs.declared.lane.Lane.{Lane}
 use Rattle.queues.specs.Header.{issued, groupCursor, setGroupCursor}
-use Rattle.queues.specs.Queue.{pushedBack}
+use Rattle.queues.specs.Queue.{pushBack}
 use Rattle.ready.specs.Bits.{bit, withBit, bitsFrom}
 use Rattle.ready.specs.declared.ready.Page.{Page}
 use Rattle.ready.specs.declared.ready.Group.{Group}
@@ -28,26 +28,26 @@ abbrev pub groupWord : List ℕ → ℕ → ℕ
 groupWord t group = cell t groupColumn group
 
 -- a page, and a group, with no bit; as the table has it; with a bit set; stored in the table
-abbrev pub emptyPage : ℕ → Page
-emptyPage page = record { id = page; bits = 0 }
+abbrev pub newPage : ℕ → Page
+newPage page = record { id = page; bits = 0 }
 
 abbrev pub readPage : List ℕ → ℕ → Page
 readPage t page = record { id = page; bits = pageWord t page }
 
-abbrev pub markedPage : Page → ℕ → Page
-markedPage p b = record { id = p .id; bits = withBit (p .bits) b }
+abbrev pub markPage : Page → ℕ → Page
+markPage p b = record { id = p .id; bits = withBit (p .bits) b }
 
 abbrev pub putPage : List ℕ → Page → List ℕ
 putPage t p = setCell t pageColumn (p .id) (p .bits)
 
-abbrev pub emptyGroup : ℕ → Group
-emptyGroup group = record { id = group; bits = 0 }
+abbrev pub newGroup : ℕ → Group
+newGroup group = record { id = group; bits = 0 }
 
 abbrev pub readGroup : List ℕ → ℕ → Group
 readGroup t group = record { id = group; bits = groupWord t group }
 
-abbrev pub markedGroup : Group → ℕ → Group
-markedGroup g b = record { id = g .id; bits = withBit (g .bits) b }
+abbrev pub markGroup : Group → ℕ → Group
+markGroup g b = record { id = g .id; bits = withBit (g .bits) b }
 
 abbrev pub putGroup : List ℕ → Group → List ℕ
 putGroup t g = setCell t groupColumn (g .id) (g .bits)
@@ -66,16 +66,16 @@ abbrev pub setGroupBit : List ℕ → ℕ → List ℕ
 setGroupBit t page = setCell t groupColumn (page / 64) (withBit (groupWord t (page / 64)) (page % 64))
 
 -- "sets the page bit; a page that was 0 sets its group bit"
-unfoldable pub marked : List ℕ → ℕ → List ℕ
-marked t slot = cond (eqb (pageWord t (slot / 64)) 0) (setGroupBit (setPageBit t slot) (slot / 64)) (setPageBit t slot)
+unfoldable pub mark : List ℕ → ℕ → List ℕ
+mark t slot = cond (eqb (pageWord t (slot / 64)) 0) (setGroupBit (setPageBit t slot) (slot / 64)) (setPageBit t slot)
 
 -- "A page or group exists once a slot of it has been issued": the first slot of a page makes its word 0,
 -- the first page of a group the group's
-unfoldable pub openedGroup : List ℕ → ℕ → List ℕ
-openedGroup t page = cond (eqb (page % 64) 0) (setCell t groupColumn (page / 64) 0) t
+unfoldable pub openGroup : List ℕ → ℕ → List ℕ
+openGroup t page = cond (eqb (page % 64) 0) (setCell t groupColumn (page / 64) 0) t
 
-unfoldable pub openedPage : List ℕ → ℕ → List ℕ
-openedPage t slot = cond (eqb (slot % 64) 0) (openedGroup (setCell t pageColumn (slot / 64) 0) (slot / 64)) t
+unfoldable pub openPage : List ℕ → ℕ → List ℕ
+openPage t slot = cond (eqb (slot % 64) 0) (openGroup (setCell t pageColumn (slot / 64) 0) (slot / 64)) t
 
 -- 0 of 0, and 1 of every other number
 abbrev pub nonZero : ℕ → ℕ
@@ -104,22 +104,22 @@ abbrev pub queuedLane : Lane → Lane
 queuedLane l = withFlags (l .pending) 1 (l .paused) (l .registered) (l .living) l
 
 -- the lane of a slot goes to the back of the queue
-unfoldable pub enqueued : List ℕ → ℕ → List ℕ
-enqueued t slot = pushedBack (putLane t (queuedLane (laneAt t slot))) slot
+unfoldable pub enqueue : List ℕ → ℕ → List ℕ
+enqueue t slot = pushBack (putLane t (queuedLane (laneAt t slot))) slot
 
-unfoldable pub offered : List ℕ → ℕ → List ℕ
-offered t slot = cond (wanted t slot) (enqueued t slot) t
+unfoldable pub offer : List ℕ → ℕ → List ℕ
+offer t slot = cond (wanted t slot) (enqueue t slot) t
 
 -- "Taking a page or group reads it and leaves 0." Its slots are offered, "lowest bit first".
-unfoldable pub collectedPage : List ℕ → ℕ → List ℕ
-collectedPage t page = foldl offered (setCell t pageColumn page 0) (bitsFrom 64 (64 * page) (pageWord t page))
+unfoldable pub collectPage : List ℕ → ℕ → List ℕ
+collectPage t page = foldl offer (setCell t pageColumn page 0) (bitsFrom 64 (64 * page) (pageWord t page))
 
-unfoldable pub collectedGroup : List ℕ → ℕ → List ℕ
-collectedGroup t group = foldl collectedPage (setCell t groupColumn group 0) (bitsFrom 64 (64 * group) (groupWord t group))
+unfoldable pub collectGroup : List ℕ → ℕ → List ℕ
+collectGroup t group = foldl collectPage (setCell t groupColumn group 0) (bitsFrom 64 (64 * group) (groupWord t group))
 
 -- "A page or group exists once a slot of it has been issued."
-abbrev pub groupsOf : ℕ → ℕ
-groupsOf n = (n + 4095) / 4096
+abbrev pub groupCount : ℕ → ℕ
+groupCount n = (n + 4095) / 4096
 
 -- "from the group cursor round": the group that `next` stands at, of n groups
 unfoldable pub groupAt : ℕ → ℕ → ℕ
@@ -131,13 +131,13 @@ unfoldable pub collectedFrom : ℕ → ℕ → Bool → List ℕ → ℕ → Lis
 collectedFrom n zero all t next = t
 collectedFrom n (suc k) all t next =
     let g = groupAt n next in
-    let after = setGroupCursor (collectedGroup t g) (g + 1) in
+    let after = setGroupCursor (collectGroup t g) (g + 1) in
     cond (eqb (groupWord t g) 0)
     (collectedFrom n k all t (g + 1))
     (cond all (collectedFrom n k all after (g + 1)) after)
 
 unfoldable pub collectReady : Bool → List ℕ → List ℕ
-collectReady all t = collectedFrom (groupsOf (issued t)) (groupsOf (issued t)) all t (groupCursor t)
+collectReady all t = collectedFrom (groupCount (issued t)) (groupCount (issued t)) all t (groupCursor t)
 
 -- whether one of the first n groups has bits
 unfoldable pub anyReady : ℕ → List ℕ → Bool

@@ -7,27 +7,27 @@ ghost use Rattle.queues.specs.Header.{Shaped, slots, queueCount, issued};
 ghost use Rattle.queues.specs.Queue.{QueueNames};
 ghost use Rattle.ready.specs.Bits.{withBit};
 ghost use Rattle.ready.specs.Ready.{
-  emptyPage,
+  newPage,
   readPage,
-  markedPage,
+  markPage,
   putPage,
-  emptyGroup,
+  newGroup,
   readGroup,
-  markedGroup,
+  markGroup,
   putGroup,
   setGroupBit,
-  marked,
-  openedGroup,
-  openedPage,
+  mark,
+  openGroup,
+  openPage,
   Linked,
   wantedLane,
   wanted,
   queuedLane,
-  enqueued,
-  offered,
-  collectedPage,
-  collectedGroup,
-  groupsOf,
+  enqueue,
+  offer,
+  collectPage,
+  collectGroup,
+  groupCount,
   groupAt,
   collectReady,
   anyReady,
@@ -58,7 +58,7 @@ impl Page {
     pub const COLUMN: usize = Lane::LANE_WORDS + 2;
 
     pub fn new(id: usize) -> Self
-        ensures { λ r. ⌜ r ≡ emptyPage id ⌝ }
+        ensures { λ r. ⌜ r ≡ newPage id ⌝ }
     {
         Page { id: id, bits: 0 }
     }
@@ -82,7 +82,7 @@ impl Page {
 
     fn mark(mut self, lane: usize) -> Self
         requires { ⌜ lane < 64 ⌝ }
-        ensures { λ r. ⌜ r ≡ markedPage self lane ⌝ }
+        ensures { λ r. ⌜ r ≡ markPage self lane ⌝ }
     {
         self.bits = with_bit(self.bits, lane);
         self
@@ -104,7 +104,7 @@ impl Group {
     pub const COLUMN: usize = Lane::LANE_WORDS + 3;
 
     pub fn new(id: usize) -> Self
-        ensures { λ r. ⌜ r ≡ emptyGroup id ⌝ }
+        ensures { λ r. ⌜ r ≡ newGroup id ⌝ }
     {
         Group { id: id, bits: 0 }
     }
@@ -128,7 +128,7 @@ impl Group {
 
     fn mark(mut self, page: usize) -> Self
         requires { ⌜ page < 64 ⌝ }
-        ensures { λ r. ⌜ r ≡ markedGroup self page ⌝ }
+        ensures { λ r. ⌜ r ≡ markGroup self page ⌝ }
     {
         self.bits = with_bit(self.bits, page);
         self
@@ -138,16 +138,16 @@ impl Group {
 // Marks a slot's page, and the group of a page that had no mark (`ReadyPage::mark`, `ReadyGroup::mark`).
 pub fn mark(t: &mut [u64], slot: usize)
     requires { ⌜ Shaped (now t) × (slot < slots (now t)) ⌝ }
-    ensures { λ _. ⌜ now (t .exit) ≡ marked (now (t .entry)) slot ⌝ }
+    ensures { λ _. ⌜ now (t .exit) ≡ mark (now (t .entry)) slot ⌝ }
 {
     let page = Page::load(t, slot / Page::LANES_PER_PAGE);
     page.mark(slot % Page::LANES_PER_PAGE).store(t);
     if page.bits == 0 {
-        mark_group(t, page.id);
+        set_group_bit(t, page.id);
     }
 }
 
-fn mark_group(t: &mut [u64], page: usize)
+fn set_group_bit(t: &mut [u64], page: usize)
     requires { ⌜ HasRow page (length (now t)) ⌝ }
     ensures { λ _. ⌜ now (t .exit) ≡ setGroupBit (now (t .entry)) page ⌝ }
 {
@@ -158,7 +158,7 @@ fn mark_group(t: &mut [u64], page: usize)
 // The page of a slot that is issued for the first time comes to be with the first of its slots, and so does the group.
 pub fn open_page(t: &mut [u64], slot: usize)
     requires { ⌜ HasRow slot (length (now t)) ⌝ }
-    ensures { λ _. ⌜ now (t .exit) ≡ openedPage (now (t .entry)) slot ⌝ }
+    ensures { λ _. ⌜ now (t .exit) ≡ openPage (now (t .entry)) slot ⌝ }
 {
     if slot % Page::LANES_PER_PAGE == 0 {
         Page::new(slot / Page::LANES_PER_PAGE).store(t);
@@ -168,7 +168,7 @@ pub fn open_page(t: &mut [u64], slot: usize)
 
 fn open_group(t: &mut [u64], page: usize)
     requires { ⌜ HasRow page (length (now t)) ⌝ }
-    ensures { λ _. ⌜ now (t .exit) ≡ openedGroup (now (t .entry)) page ⌝ }
+    ensures { λ _. ⌜ now (t .exit) ≡ openGroup (now (t .entry)) page ⌝ }
 {
     if page % Group::PAGES_PER_GROUP == 0 {
         Group::new(page / Group::PAGES_PER_GROUP).store(t);
@@ -176,7 +176,7 @@ fn open_group(t: &mut [u64], page: usize)
 }
 
 // Whether a lane is to be queued: pending, unpaused and unqueued.
-fn is_ready(l: Lane) -> bool
+fn wanted_lane(l: Lane) -> bool
     ensures { λ r. ⌜ r ≡ wantedLane l ⌝ }
 {
     if l.registered != 1 {
@@ -192,14 +192,14 @@ fn is_ready(l: Lane) -> bool
 }
 
 // Whether a slot is issued and its lane to be queued.
-fn wants(t: &[u64], slot: u64) -> bool
+fn wanted(t: &[u64], slot: u64) -> bool
     requires { ⌜ Shaped (now t) ⌝ }
     ensures { λ r. ⌜ r ≡ wanted (now (t .entry)) slot ⌝ }
 {
     if slot >= t[Header::ISSUED] {
         return false;
     }
-    is_ready(Lane::load(t, slot))
+    wanted_lane(Lane::load(t, slot))
 }
 
 fn queued_lane(mut l: Lane) -> Lane
@@ -212,7 +212,7 @@ fn queued_lane(mut l: Lane) -> Lane
 // The lane of a slot goes to the back of the queue.
 pub fn enqueue(t: &mut [u64], slot: u64)
     requires { ⌜ Shaped (now t) × (slot < slots (now t)) × (queueCount (now t) < slots (now t)) ⌝ }
-    ensures { λ _. ⌜ now (t .exit) ≡ enqueued (now (t .entry)) slot ⌝ }
+    ensures { λ _. ⌜ now (t .exit) ≡ enqueue (now (t .entry)) slot ⌝ }
 {
     let l = Lane::load(t, slot);
     queued_lane(l).store(t);
@@ -222,9 +222,9 @@ pub fn enqueue(t: &mut [u64], slot: u64)
 // Queues the lane of a slot if it is to be queued.
 fn offer(t: &mut [u64], slot: u64)
     requires { ⌜ Shaped (now t) × QueueNames (now t) ⌝ }
-    ensures { λ _. ⌜ now (t .exit) ≡ offered (now (t .entry)) slot ⌝ }
+    ensures { λ _. ⌜ now (t .exit) ≡ offer (now (t .entry)) slot ⌝ }
 {
-    if wants(t, slot) {
+    if wanted(t, slot) {
         enqueue(t, slot);
     }
 }
@@ -232,7 +232,7 @@ fn offer(t: &mut [u64], slot: u64)
 // Takes a page and offers its lanes, lowest bit first.
 fn collect_page(t: &mut [u64], id: usize)
     requires { ⌜ Shaped (now t) × QueueNames (now t) × (64 * id < issued (now t)) ⌝ }
-    ensures { λ _. ⌜ now (t .exit) ≡ collectedPage (now (t .entry)) id ⌝ }
+    ensures { λ _. ⌜ now (t .exit) ≡ collectPage (now (t .entry)) id ⌝ }
 {
     let mut bits = Page::load(t, id).bits;
     Page::new(id).store(t);
@@ -246,7 +246,7 @@ fn collect_page(t: &mut [u64], id: usize)
 // Takes a group and collects its pages, lowest bit first.
 fn collect_group(t: &mut [u64], id: usize)
     requires { ⌜ Shaped (now t) × QueueNames (now t) × Linked (now t) × (4096 * id < issued (now t)) ⌝ }
-    ensures { λ _. ⌜ now (t .exit) ≡ collectedGroup (now (t .entry)) id ⌝ }
+    ensures { λ _. ⌜ now (t .exit) ≡ collectGroup (now (t .entry)) id ⌝ }
 {
     let mut bits = Group::load(t, id).bits;
     Group::new(id).store(t);
@@ -260,7 +260,7 @@ fn collect_group(t: &mut [u64], id: usize)
 // How many groups have an issued slot.
 fn group_count(issued: u64) -> u64
     requires { ⌜ issued ≤ 8192 ⌝ }
-    ensures { λ r. ⌜ r ≡ groupsOf issued ⌝ }
+    ensures { λ r. ⌜ r ≡ groupCount issued ⌝ }
 {
     (issued + (Group::LANES_PER_GROUP - 1) as u64) / Group::LANES_PER_GROUP as u64
 }
@@ -298,7 +298,7 @@ pub fn collect_ready(t: &mut [u64], all: bool)
 // Whether any group has bits.
 fn has_ready(t: &[u64]) -> bool
     requires { ⌜ Shaped (now t) ⌝ }
-    ensures { λ r. ⌜ r ≡ anyReady (groupsOf (issued (now (t .entry)))) (now (t .entry)) ⌝ }
+    ensures { λ r. ⌜ r ≡ anyReady (groupCount (issued (now (t .entry)))) (now (t .entry)) ⌝ }
 {
     let mut left = group_count(t[Header::ISSUED]);
     while left != 0 {

@@ -17,9 +17,9 @@ use Rattle.lane.specs.declared.lane.Popped.{Popped}
 use Rattle.lane.specs.declared.lane.Popped.the-variants as Popped
 use Rattle.lane.specs.declared.lane.LanePoll.{LanePoll}
 use Rattle.lane.specs.declared.lane.LanePoll.the-variants as LanePoll
-use Rattle.yring.specs.Ring.{ringOf}
+use Rattle.yring.specs.Ring.{newRing}
 use Rattle.lane.specs.Order.{InOrder, poppedLane}
-use Rattle.lane.specs.Lane.{popFast, grantFast, openFor, closeFast, reload, popFair}
+use Rattle.lane.specs.Lane.{popFast, grantFast, openFor, closeFast, reload, popLone}
 use Rattle.yring.specs.Lists.{scatter}
 use Rattle.lane.specs.Table.{laneAt, words, cellAt, putLane, setHead}
 use Rattle.lane.proofs.OrderLaws.{cond-holds, closed-reload-keeps, window-for-fits}
@@ -34,9 +34,9 @@ use Rattle.turns.specs.declared.turn.Took.{Took}
 use Rattle.turns.specs.declared.turn.Took.the-variants as Took
 use Rattle.turns.specs.declared.turn.Turn.{Turn}
 use Rattle.turns.specs.declared.turn.Turn.the-variants as Turn
-use Rattle.turns.specs.Turn.{registeredIn, Turning, Ringed, frontLane, turnBy, pollFront, after, turnsWithin, turns}
+use Rattle.turns.specs.Turn.{registeredIn, Turning, Ringed, frontLane, turnBy, pollFront, afterTurn, turnsWithin, turns}
 use Rattle.turns.specs.Drained.{Idle, Rests}
-use Rattle.receive.specs.Receive.{elseTake, windowTook, fastTook, Affords, takeFast, openTook, takeWindow, pollLoop, refillTake, takeOne, takeLone, takeFair}
+use Rattle.receive.specs.Receive.{elseTake, takeFromWindow, fastTook, Affords, takeFast, takeIfPopped, takeFrontWindow, pollLoop, tryRecvRefill, takeOne, takeLone, takeFair}
 use Rattle.store.proofs.ViewLaws.{slot-in}
 use Rattle.store.proofs.CountLaws.{passing-same}
 use Rattle.store.proofs.StoreLaws.{free-slot}
@@ -44,7 +44,7 @@ use Rattle.store.proofs.LaneFields.{Flagged, flagged-pop-fast, flagged-grant, f
 use Rattle.turns.proofs.TurnLaws.{slot-below, front-issued, front-ordered, turning-budget}
 use Rattle.turns.proofs.FrontLaws.{Keeps, keeps-self, keeps-then, Turned, polledFront, poll-front-turned, turns-keep}
 use Rattle.turns.proofs.CollectKeeps.{collect-keeps}
-use Rattle.turns.specs.Due.{collectedIfDue}
+use Rattle.turns.specs.Due.{collectIfDue}
 use Rattle.turns.proofs.DueLaws.{turning-of, ringed-of, due-keeps}
 
 -- ---- windows
@@ -62,12 +62,12 @@ module _ (ring : Ring) (store : List ℕ) (l : Lane) where
   pop-slot p e = ap (λ (q : Popped). poppedLane q .key .slot) (sym e) ∙ ap (λ (z : Flagged). z .0 .slot) (flagged-pop-fast ring store l)
 
 module _ (t r : List ℕ) (o : StoreInOrder t r) (h : fastSlot t < issued t) (e : laneAt t (fastSlot t) .registered ≡ 1) where
-  pub fast-room : (item : ℕ) (m : Lane) → popFast (ringOf (fastSlot t) (capacity t)) r (laneAt t (fastSlot t)) ≡ Popped.Item item m
+  pub fast-room : (item : ℕ) (m : Lane) → popFast (newRing (fastSlot t) (capacity t)) r (laneAt t (fastSlot t)) ≡ Popped.Item item m
       → Shaped t × (m .key .slot < slots t) × (0 < budget t)
   fast-room item m p =
-      let some = pop-open (ringOf (fastSlot t) (capacity t)) r (laneAt t (fastSlot t)) item m p in
+      let some = pop-open (newRing (fastSlot t) (capacity t)) r (laneAt t (fastSlot t)) item m p in
       let w : 0 < laneAt t (fastSlot t) .window = omega (arith, some) in
-      let at = pop-slot (ringOf (fastSlot t) (capacity t)) r (laneAt t (fastSlot t)) (Popped.Item item m) p ∙ slot-of-lane t (fastSlot t) in
+      let at = pop-slot (newRing (fastSlot t) (capacity t)) r (laneAt t (fastSlot t)) (Popped.Item item m) p ∙ slot-of-lane t (fastSlot t) in
       (o .stores .shaped, rw at (slot-below t (turning-of t r o) (fastSlot t) h), omega (arith, w, o .stores .windows (fastSlot t) h e w .within))
 
 -- a window granted is within the budget
@@ -83,25 +83,25 @@ module _ (t r : List ℕ) (k : Turning t) (some : queueCount t ≡ 0 → ⊥) wh
   granted-slot : grantFast (capacity t) (budget t) (frontLane t) .key .slot ≡ frontSlot t
   granted-slot = ap (λ (z : Flagged). z .0 .slot) (flagged-grant (capacity t) (budget t) (frontLane t)) ∙ slot-of-lane t (frontSlot t)
 
-  pub window-room : (l : Lane) → l ≡ grantFast (capacity t) (budget t) (frontLane t) → (p : Popped) → p ≡ popFast (ringOf (frontSlot t) (capacity t)) r l
+  pub window-room : (l : Lane) → l ≡ grantFast (capacity t) (budget t) (frontLane t) → (p : Popped) → p ≡ popFast (newRing (frontSlot t) (capacity t)) r l
       → Shaped t × (poppedLane p .key .slot < slots t) × Affords t p
   window-room l a p e = (
     k .shaped,
-    rw (pop-slot (ringOf (frontSlot t) (capacity t)) r l p (sym e) ∙ ap (λ (m : Lane). m .key .slot) a ∙ granted-slot) (slot-below t k (frontSlot t) (front-issued t k some)),
+    rw (pop-slot (newRing (frontSlot t) (capacity t)) r l p (sym e) ∙ ap (λ (m : Lane). m .key .slot) a ∙ granted-slot) (slot-below t k (frontSlot t) (front-issued t k some)),
     go p (sym e),
   )
     where
-      go : (p : Popped) → popFast (ringOf (frontSlot t) (capacity t)) r l ≡ p → Affords t p
+      go : (p : Popped) → popFast (newRing (frontSlot t) (capacity t)) r l ≡ p → Affords t p
       go (Popped.Item item m) f =
-          let w = pop-open (ringOf (frontSlot t) (capacity t)) r l item m f in
+          let w = pop-open (newRing (frontSlot t) (capacity t)) r l item m f in
           let b : l .window ≤ budget t = rw a (granted-within (capacity t) (budget t) (frontLane t) (k .power .most) (front-ordered t k some)) in
           omega (arith, w, b)
       go (Popped.Nothing m) f = omega arith
 
-  pub lone-room : 0 < budget t → (p : Popped) → p ≡ popFair (ringOf (frontSlot t) (capacity t)) r (budget t) (frontLane t)
+  pub lone-room : 0 < budget t → (p : Popped) → p ≡ popLone (newRing (frontSlot t) (capacity t)) r (budget t) (frontLane t)
       → Shaped t × (poppedLane p .key .slot < slots t) × Affords t p
   lone-room h p e =
-      let at = ap (λ (q : Popped). poppedLane q .key .slot) e ∙ ap (λ (z : Flagged). z .0 .slot) (flagged-pop-fair (ringOf (frontSlot t) (capacity t)) r (budget t) (frontLane t)) ∙ slot-of-lane t (frontSlot t) in
+      let at = ap (λ (q : Popped). poppedLane q .key .slot) e ∙ ap (λ (z : Flagged). z .0 .slot) (flagged-pop-fair (newRing (frontSlot t) (capacity t)) r (budget t) (frontLane t)) ∙ slot-of-lane t (frontSlot t) in
       (k .shaped, rw at (slot-below t k (frontSlot t) (front-issued t k some)), affords-some t h p)
 
 -- ---- one take after another
@@ -120,13 +120,13 @@ abbrev pub Unmoved : List ℕ → Took × List ℕ → Type 0
 Unmoved t (Took.Item item key, u) = 0 < 1
 Unmoved t (Took.Nothing, u) = u ≡ t
 
-open-unmoved : (t : List ℕ) (p : Popped) → Unmoved t (openTook t p)
-unfolding openTook windowTook
+open-unmoved : (t : List ℕ) (p : Popped) → Unmoved t (takeIfPopped t p)
+unfolding takeIfPopped takeFromWindow
 open-unmoved t (Popped.Item item l) = omega arith
 open-unmoved t (Popped.Nothing l) = refl
 
 fast-unmoved : (t : List ℕ) (p : Popped) → Unmoved t (fastTook t p)
-unfolding fastTook windowTook
+unfolding fastTook takeFromWindow
 fast-unmoved t (Popped.Item item l) = omega arith
 fast-unmoved t (Popped.Nothing l) = refl
 
@@ -136,8 +136,8 @@ take-fast-unmoved t r =
     cond-holds (Unmoved t) (ltb (fastSlot t) (issued t)) _ (Took.Nothing, t)
     (λ e. cond-holds (Unmoved t) (eqb (laneAt t (fastSlot t) .registered) 1) _ (Took.Nothing, t) (λ f. fast-unmoved t _) (λ f. refl)) (λ e. refl)
 
-pub take-window-unmoved : (t r : List ℕ) → Unmoved t (takeWindow t r)
-unfolding takeWindow
+pub take-window-unmoved : (t r : List ℕ) → Unmoved t (takeFrontWindow t r)
+unfolding takeFrontWindow
 take-window-unmoved t r = cond-holds (Unmoved t) (eqb (queueCount t) 0) (Took.Nothing, t) _ (λ e. refl) (λ e. open-unmoved t _)
 
 pub take-lone-unmoved : (t r : List ℕ) → Unmoved t (takeLone t r)
@@ -169,7 +169,7 @@ poll-ending t r fair =
     go (LanePoll.Idle found) = omega arith
 
 rest-within : (n : ℕ) (t r : List ℕ) (fair : Bool) → Turning t → queueCount t ≡ n → Rests (turnsWithin n t r fair)
-unfolding turnsWithin after
+unfolding turnsWithin afterTurn
 rest-within zero t r fair k e = record { turning = k; none-queued = e }
 rest-within (suc n) t r fair k e = go (λ u m f. rest-within n u r fair m f) (pollFront t r fair) (poll-front-turned t r fair k) (poll-ending t r fair)
   where
@@ -177,7 +177,7 @@ rest-within (suc n) t r fair k e = go (λ u m f. rest-within n u r fair m f) (po
     one-less f = omega arith
 
     go : ((u : List ℕ) → Turning u → queueCount u ≡ n → Rests (turnsWithin n u r fair)) → (o : Turn × List ℕ) → Turned t o → Ending o
-        → Rests (after o (turnsWithin n (o .1) r fair))
+        → Rests (afterTurn o (turnsWithin n (o .1) r fair))
     go ih (Turn.Ends (Took.Item item key), u) a b = omega arith
     go ih (Turn.Ends Took.Nothing, u) a b = record { turning = a .keeps .turning; none-queued = b }
     go ih (Turn.Left, u) a b = ih u (a .keeps .turning) (one-less (a .fewer refl))
@@ -198,11 +198,11 @@ loop-rest t r k =
     else-rest (turns t r false) (λ u. turns (collectReady true u) r false)
     (λ u e. turns-rest (collectReady true u) r false (collect-keeps true u (subst (λ (o : Took × List ℕ). Turning (o .1)) e (turns-keep t r false k .turning)) .turning))
 
-pub refill-rest : (t r : List ℕ) → Turning t → Rests (refillTake t r)
-unfolding refillTake
+pub refill-rest : (t r : List ℕ) → Turning t → Rests (tryRecvRefill t r)
+unfolding tryRecvRefill
 refill-rest t r k =
-    else-rest (takeWindow (collectedIfDue t) r) (λ u. pollLoop u r)
-    (λ u e. loop-rest u r (subst Turning (sym (unmoved-is (collectedIfDue t) u _ (sym e) (take-window-unmoved (collectedIfDue t) r))) (due-keeps t k .turning)))
+    else-rest (takeFrontWindow (collectIfDue t) r) (λ u. pollLoop u r)
+    (λ u e. loop-rest u r (subst Turning (sym (unmoved-is (collectIfDue t) u _ (sym e) (take-window-unmoved (collectIfDue t) r))) (due-keeps t k .turning)))
 
 pub take-fair-rest : (t r : List ℕ) → Turning t → Rests (takeFair t r)
 unfolding takeFair
@@ -214,19 +214,19 @@ take-fair-rest t r k =
 -- ---- what the code has for the definitions' parts
 
 pub take-fast-is : (t r : List ℕ) → fastSlot t < issued t → laneAt t (fastSlot t) .registered ≡ 1 → (p : Popped)
-    → popFast (ringOf (fastSlot t) (capacity t)) r (laneAt t (fastSlot t)) ≡ p → fastTook t p ≡ takeFast t r
+    → popFast (newRing (fastSlot t) (capacity t)) r (laneAt t (fastSlot t)) ≡ p → fastTook t p ≡ takeFast t r
 unfolding takeFast
 take-fast-is t r h e p f = sym (rw (lt-ltb (fastSlot t) (issued t) h, eq-eqb (laneAt t (fastSlot t) .registered) 1 e) (ap (fastTook t) f))
 
 pub take-window-is : (t r : List ℕ) → (queueCount t ≡ 0 → ⊥) → (p : Popped)
-    → p ≡ popFast (ringOf (frontSlot t) (capacity t)) r (grantFast (capacity t) (budget t) (frontLane t)) → openTook t p ≡ takeWindow t r
-unfolding takeWindow
-take-window-is t r h p f = sym (rw (ne-eqb (queueCount t) 0 h) (ap (openTook t) (sym f)))
+    → p ≡ popFast (newRing (frontSlot t) (capacity t)) r (grantFast (capacity t) (budget t) (frontLane t)) → takeIfPopped t p ≡ takeFrontWindow t r
+unfolding takeFrontWindow
+take-window-is t r h p f = sym (rw (ne-eqb (queueCount t) 0 h) (ap (takeIfPopped t) (sym f)))
 
 pub take-lone-is : (t r : List ℕ) → queueCount t ≡ 1 → (p : Popped)
-    → p ≡ popFair (ringOf (frontSlot t) (capacity t)) r (budget t) (frontLane t) → openTook t p ≡ takeLone t r
+    → p ≡ popLone (newRing (frontSlot t) (capacity t)) r (budget t) (frontLane t) → takeIfPopped t p ≡ takeLone t r
 unfolding takeLone
-take-lone-is t r h p f = sym (rw (eq-eqb (queueCount t) 1 h) (ap (openTook t) (sym f)))
+take-lone-is t r h p f = sym (rw (eq-eqb (queueCount t) 1 h) (ap (takeIfPopped t) (sym f)))
 
 -- a header word stored before a lane, or after it
 scatter-after : (ws t : List ℕ) (p : ℕ → ℕ) (k v : ℕ) → ((i : ℕ) → k ≡ p i → ⊥) → scatter (set t k v) p ws ≡ set (scatter t p ws) k v
@@ -239,20 +239,20 @@ unfolding putLane
 lane-after-fast t l v = scatter-after (words l) t (λ i. cellAt i (l .key .slot)) 12 v (λ i e. omega arith)
 
 -- `fast_slot` may be stored after the item is counted
-pub fast-after : (t u : List ℕ) (took : Took) (item : ℕ) (l : Lane) (v : ℕ) → (took, u) ≡ windowTook t item l → (took, setHead u 12 v) ≡ windowTook (setHead t 12 v) item l
-unfolding windowTook
+pub fast-after : (t u : List ℕ) (took : Took) (item : ℕ) (l : Lane) (v : ℕ) → (took, u) ≡ takeFromWindow t item l → (took, setHead u 12 v) ≡ takeFromWindow (setHead t 12 v) item l
+unfolding takeFromWindow
 fast-after t u took item l v e =
     let same : budget (setHead t 12 v) ≡ budget t = simp frames in
     ap (λ (o : Took × List ℕ). (o .0, setHead (o .1) 12 v)) e
     ∙ ap (λ (w : List ℕ). (Took.Item item (l .key), w))
     (set-comm (putLane t l) 5 12 (budget t - 1) v (λ z. omega arith) ∙ ap₂ (λ (w : List ℕ) (b : ℕ). setHead w 5 (b - 1)) (sym (lane-after-fast t l v)) (sym same))
 
-window-long : (t : List ℕ) (item : ℕ) (l : Lane) (v : ℕ) → length ((windowTook (setHead t 12 v) item l) .1) ≡ length t
-unfolding windowTook
+window-long : (t : List ℕ) (item : ℕ) (l : Lane) (v : ℕ) → length ((takeFromWindow (setHead t 12 v) item l) .1) ≡ length t
+unfolding takeFromWindow
 window-long t item l v = simp frames
 
-open-long : (t : List ℕ) (p : Popped) → length ((openTook t p) .1) ≡ length t
-unfolding openTook
+open-long : (t : List ℕ) (p : Popped) → length ((takeIfPopped t p) .1) ≡ length t
+unfolding takeIfPopped
 open-long t (Popped.Item item l) = window-long t item l (l .key .slot)
 open-long t (Popped.Nothing l) = refl
 
@@ -263,8 +263,8 @@ take-lone-long t r = cond-holds (λ (o : Took × List ℕ). length (o .1) ≡ le
 pub fair-budget : (t : List ℕ) → Turning t → 0 < budget (setHead (collectReady true t) 5 64)
 fair-budget t k = simp (frames, header-in (collectReady true t) (collect-keeps true t k .turning .shaped)) (omega arith)
 
-pub counted-long : (t u : List ℕ) (took : Took) (item : ℕ) (l : Lane) → (took, u) ≡ windowTook t item l → length u ≡ length t
-unfolding windowTook
+pub counted-long : (t u : List ℕ) (took : Took) (item : ℕ) (l : Lane) → (took, u) ≡ takeFromWindow t item l → length u ≡ length t
+unfolding takeFromWindow
 counted-long t u took item l e =
     let same : length (setHead (putLane t l) 5 (budget t - 1)) ≡ length t = simp frames in
     ap (λ (o : Took × List ℕ). length (o .1)) e ∙ same

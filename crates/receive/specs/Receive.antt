@@ -10,8 +10,8 @@ use Rattle.model.specs.declared.Answer.the-variants.{Item}
 use Rattle.lane.specs.declared.lane.Lane.{Lane}
 use Rattle.lane.specs.declared.lane.Popped.{Popped}
 use Rattle.lane.specs.declared.lane.Popped.the-variants as Popped
-use Rattle.yring.specs.Ring.{ringOf}
-use Rattle.lane.specs.Lane.{popFast, grantFast, popFair}
+use Rattle.yring.specs.Ring.{newRing}
+use Rattle.lane.specs.Lane.{popFast, grantFast, popLone}
 use Rattle.lane.specs.Table.{laneAt, putLane}
 use Rattle.queues.specs.Header.{setBudget, setFastSlot, issued, queueCount, budget, capacity, channel, fastSlot}
 use Rattle.queues.specs.Queue.{frontSlot}
@@ -22,7 +22,7 @@ use Rattle.store.specs.Refusal.{receiverVerdict}
 use Rattle.store.specs.Order.{StoreInOrder}
 use Rattle.store.specs.Words.{Words, unlessRefused, withRings}
 use Rattle.turns.specs.Turn.{frontLane, turns}
-use Rattle.turns.specs.Due.{collectedIfDue}
+use Rattle.turns.specs.Due.{collectIfDue}
 use Rattle.turns.specs.Drained.{nothingTaken}
 
 -- a take that handed nothing out goes on with another
@@ -31,11 +31,11 @@ elseTake (Took.Item item k, t) more = (Took.Item item k, t)
 elseTake (Took.Nothing, t) more = more t
 
 -- an item of a window, charged to the budget
-unfoldable pub windowTook : List ℕ → ℕ → Lane → Took × List ℕ
-windowTook t item l = (Took.Item item (l .key), setBudget (putLane t l) (budget t - 1))
+unfoldable pub takeFromWindow : List ℕ → ℕ → Lane → Took × List ℕ
+takeFromWindow t item l = (Took.Item item (l .key), setBudget (putLane t l) (budget t - 1))
 
 unfoldable pub fastTook : List ℕ → Popped → Took × List ℕ
-fastTook t (Popped.Item item l) = windowTook t item l
+fastTook t (Popped.Item item l) = takeFromWindow t item l
 fastTook t (Popped.Nothing l) = (Took.Nothing, t)
 
 -- what an item asks of the budget
@@ -48,7 +48,7 @@ unfoldable pub takeFast : List ℕ → List ℕ → Took × List ℕ
 takeFast t r =
     cond (ltb (fastSlot t) (issued t))
     (cond (eqb (laneAt t (fastSlot t) .registered) 1)
-    (fastTook t (popFast (ringOf (fastSlot t) (capacity t)) r (laneAt t (fastSlot t))))
+    (fastTook t (popFast (newRing (fastSlot t) (capacity t)) r (laneAt t (fastSlot t))))
     (Took.Nothing, t))
     (Took.Nothing, t)
 
@@ -61,31 +61,31 @@ pub record FastOpen (t r : List ℕ) (l : Lane) : Type 0 where
   pub is-open : l .window ≡ 0 → ⊥
 
 -- an item of a window that was just opened: `fast_slot` is then its lane's
-unfoldable pub openTook : List ℕ → Popped → Took × List ℕ
-openTook t (Popped.Item item l) = windowTook (setFastSlot t (l .key .slot)) item l
-openTook t (Popped.Nothing l) = (Took.Nothing, t)
+unfoldable pub takeIfPopped : List ℕ → Popped → Took × List ℕ
+takeIfPopped t (Popped.Item item l) = takeFromWindow (setFastSlot t (l .key .slot)) item l
+takeIfPopped t (Popped.Nothing l) = (Took.Nothing, t)
 
 -- "then the front lane's window"
-unfoldable pub takeWindow : List ℕ → List ℕ → Took × List ℕ
-takeWindow t r =
+unfoldable pub takeFrontWindow : List ℕ → List ℕ → Took × List ℕ
+takeFrontWindow t r =
     cond (eqb (queueCount t) 0) (Took.Nothing, t)
-    (openTook t (popFast (ringOf (frontSlot t) (capacity t)) r (grantFast (capacity t) (budget t) (frontLane t))))
+    (takeIfPopped t (popFast (newRing (frontSlot t) (capacity t)) r (grantFast (capacity t) (budget t) (frontLane t))))
 
 -- "then the poll loop, which goes on until it has an item or nothing is queued and nothing is ready"
 unfoldable pub pollLoop : List ℕ → List ℕ → Took × List ℕ
 pollLoop t r = elseTake (turns t r false) (λ u. turns (collectReady true u) r false)
 
-unfoldable pub refillTake : List ℕ → List ℕ → Took × List ℕ
-refillTake t r = elseTake (takeWindow (collectedIfDue t) r) (λ u. pollLoop u r)
+unfoldable pub tryRecvRefill : List ℕ → List ℕ → Took × List ℕ
+tryRecvRefill t r = elseTake (takeFrontWindow (collectIfDue t) r) (λ u. pollLoop u r)
 
 unfoldable pub takeOne : List ℕ → List ℕ → Took × List ℕ
-takeOne t r = elseTake (takeFast t r) (λ u. refillTake u r)
+takeOne t r = elseTake (takeFast t r) (λ u. tryRecvRefill u r)
 
 -- "A lone lane takes `pop_fair`."
 unfoldable pub takeLone : List ℕ → List ℕ → Took × List ℕ
 takeLone t r =
     cond (eqb (queueCount t) 1)
-    (openTook t (popFair (ringOf (frontSlot t) (capacity t)) r (budget t) (frontLane t)))
+    (takeIfPopped t (popLone (newRing (frontSlot t) (capacity t)) r (budget t) (frontLane t)))
     (Took.Nothing, t)
 
 -- "Fair: collect all groups if any is ready, budget 64, one item of the front lane, which goes to the back."

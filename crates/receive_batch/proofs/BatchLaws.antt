@@ -29,8 +29,8 @@ use Rattle.store.specs.Refusal.{receiverVerdict, andThen}
 use Rattle.store.specs.Words.{unlessRefused, withRings}
 use Rattle.turns.specs.Turn.{Turning}
 use Rattle.turns.specs.Drained.{Idle}
-use Rattle.all_lanes.specs.Batch.{forSlots, AllRefundable, releaseSlot, releaseAll}
-use Rattle.receive_batch.specs.Drain.{drained, drainInto, roomVerdict, batchVerdict, answerItems, RestsAt, batchAnswer, tryRecvBatchInto, handedBy, batchHands, batchInto}
+use Rattle.all_lanes.specs.AllLanes.{forSlots, AllRefundable, releaseSlot, releaseAll}
+use Rattle.receive_batch.specs.Batch.{drained, drainInto, roomVerdict, batchVerdict, answerItems, RestsAt, batchAnswer, tryRecvBatchInto, handedBy, batchHands, batchInto}
 use Rattle.store.proofs.CountLaws.{one}
 use Rattle.store.proofs.StepLaws.{Step, step-from, step-put-lane}
 use Rattle.store.proofs.CreditLaws.{GivesBack, gives-back}
@@ -100,7 +100,7 @@ module _ (t r out : List ℕ) (limit : ℕ) where
   by-verdict : (v : Verdict) → Answer × List ℕ × List ℕ × List ℕ
   by-verdict v =
       let w = unlessRefused v t r (withRings r (batchAnswer t r limit)) in
-      (w .0, w .1, w .2, rules.written (handedBy v (drained t r limit .0)) out)
+      (w .0, w .1, w .2, rules.writtenTo (handedBy v (drained t r limit .0)) out)
 
   is-by-verdict : batchInto t r out limit ≡ by-verdict (batchVerdict t limit (length out))
   unfolding batchInto tryRecvBatchInto batchHands by-verdict

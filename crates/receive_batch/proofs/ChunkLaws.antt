@@ -10,17 +10,17 @@ use lib.ListN.{length, set}
 use Rattle.lane.specs.declared.lane.Lane.{Lane}
 use Rattle.lane.specs.declared.lane.BurstEnd.{BurstEnd}
 use Rattle.lane.specs.declared.lane.Reloaded.{Reloaded}
-use Rattle.yring.specs.Ring.{ringOf, Within}
+use Rattle.yring.specs.Ring.{newRing, Within}
 use Rattle.lane.specs.Order.{Counts, InOrder, Filled}
-use Rattle.lane.specs.Lane.{reloadIsEmpty, headOn, charged, addBurst, endFullBurst, chunkLimit, moveChunk}
+use Rattle.lane.specs.Lane.{reloadIsEmpty, advance, charge, addBurst, endFullBurst, chunkLimit, moveChunk}
 use Rattle.lane.specs.Table.{laneAt, putLane, setHead}
 use Rattle.lane.proofs.OrderLaws.{cond-holds, refill-fills, move-chunk-keeps}
 use Rattle.lane.proofs.HeldLaws.{refill-is}
 use Rattle.lane.proofs.TableLaws.{frames, slot-of-lane}
 use Rattle.queues.specs.Header.{slots, budget, capacity}
 use Rattle.queues.specs.Queue.{frontSlot}
-use Rattle.turns.specs.Turn.{Turning, Ringed, frontLane, lessOne, rotatedIf, gaveFront}
-use Rattle.receive_batch.specs.Drain.{Fronts, fullBudget, chunkSize, gaveChunk, chunkGiven}
+use Rattle.turns.specs.Turn.{Turning, Ringed, frontLane, lessOne, rotateIf, gaveFront}
+use Rattle.receive_batch.specs.Batch.{Fronts, fullBudget, chunkSize, gaveChunk, chunkGiven}
 use Rattle.store.proofs.LaneFields.{Flagged, flagged, flagged-at-batch, flagged-end, RefillKept, refill-kept}
 use Rattle.turns.proofs.TurnLaws.{slot-below, ring-in, front-issued, front-ordered, turning-budget}
 use Rattle.turns.proofs.FrontLaws.{Keeps, turning-gave, head-gave, length-gave}
@@ -81,8 +81,8 @@ module _ (t : List ℕ) (l : Lane) (f : Fronts t l) where
   pub chunk-below : l .key .slot < slots t
   chunk-below = rw chunk-slot (slot-below t k (frontSlot t) (front-issued t k (f .some)))
 
-  pub chunk-ring : (r : List ℕ) → Ringed t r → Within (ringOf (l .key .slot) (capacity t)) (length r)
-  chunk-ring r g = subst (λ (x : ℕ). Within (ringOf x (capacity t)) (length r)) (sym chunk-slot) (ring-in t k (frontSlot t) (front-issued t k (f .some)) r g)
+  pub chunk-ring : (r : List ℕ) → Ringed t r → Within (newRing (l .key .slot) (capacity t)) (length r)
+  chunk-ring r g = subst (λ (x : ℕ). Within (newRing x (capacity t)) (length r)) (sym chunk-slot) (ring-in t k (frontSlot t) (front-issued t k (f .some)) r g)
 
   -- the lane loaded anew
   pub loaded-again : (a : Lane) (m : Reloaded) → a ≡ laneAt t (l .key .slot) → m ≡ reloadIsEmpty a → m .lane ≡ l
@@ -98,7 +98,7 @@ module _ (t : List ℕ) (l : Lane) (f : Fronts t l) where
 
     pub lane-flags : flagged (moveChunk C n l) ≡ flagged (frontLane t)
     unfolding moveChunk
-    lane-flags = flagged-at-batch C (addBurst n (charged n (headOn n l))) ∙ chunk-flags
+    lane-flags = flagged-at-batch C (addBurst n (charge n (advance n l))) ∙ chunk-flags
 
     pub end-flags : flagged (chunkEnd C n l .lane) ≡ flagged (frontLane t)
     end-flags = end-keeps-flags (moveChunk C n l) ∙ lane-flags
@@ -109,7 +109,7 @@ module _ (t : List ℕ) (l : Lane) (f : Fronts t l) where
     -- the table after it is that after one item, with another budget
     given-is : setHead (gaveFront t (chunkEnd C n l .ended) (chunkEnd C n l .lane)) 5 (fullBudget (budget t) - n) ≡ chunkGiven t n l
     unfolding chunkGiven gaveChunk gaveFront
-    given-is = set-again (rotatedIf (chunkEnd C n l .ended) (putLane t (chunkEnd C n l .lane))) 5 (lessOne (budget t)) (fullBudget (budget t) - n)
+    given-is = set-again (rotateIf (chunkEnd C n l .ended) (putLane t (chunkEnd C n l .lane))) 5 (lessOne (budget t)) (fullBudget (budget t) - n)
 
     pub chunk-keeps : Keeps t (chunkGiven t n l)
     chunk-keeps =

@@ -18,14 +18,14 @@ use Rattle.lane.proofs.OrderLaws.{cond-holds, refundable, refill-keeps}
 use Rattle.queues.specs.Header.{Shaped, slots, queueCount, freeCount, capacity, laneCount}
 use Rattle.queues.specs.Queue.{frontSlot}
 use Rattle.ready.specs.Ready.{collectReady}
-use Rattle.receive_batch.specs.declared.drain.Front.{Front}
-use Rattle.receive_batch.specs.declared.drain.Front.the-variants as Front
-use Rattle.receive_batch.specs.declared.drain.Look.{Look}
-use Rattle.receive_batch.specs.declared.drain.Look.the-variants as Look
-use Rattle.turns.specs.Turn.{Turning, frontLane, leftFront}
-use Rattle.turns.specs.Due.{collectedIfDue}
+use Rattle.receive_batch.specs.declared.batch.Front.{Front}
+use Rattle.receive_batch.specs.declared.batch.Front.the-variants as Front
+use Rattle.receive_batch.specs.declared.batch.Look.{Look}
+use Rattle.receive_batch.specs.declared.batch.Look.the-variants as Look
+use Rattle.turns.specs.Turn.{Turning, frontLane, settleEmptyFront}
+use Rattle.turns.specs.Due.{collectIfDue}
 use Rattle.turns.specs.Drained.{Idle}
-use Rattle.receive_batch.specs.Drain.{lookBy, lookFront, afterLook, runDownWithin, runDown, elseFront, refreshActive, Reached}
+use Rattle.receive_batch.specs.Batch.{lookBy, lookFront, afterLook, runDownWithin, runDown, elseFront, refreshActive, Reached}
 use Rattle.store.proofs.LaneFields.{Emptied, RefillKept, refill-kept}
 use Rattle.turns.proofs.TurnLaws.{slot-below, some-lane, free-room, front-issued, front-registered, front-ordered, turning-met}
 use Rattle.turns.proofs.FrontLaws.{Keeps, keeps-self, keeps-then, left-slot, turning-left, head-left, length-left, count-left, head-met, length-met}
@@ -55,12 +55,12 @@ module _ (t : List ℕ) (k : Turning t) where
     looked-by (Refill.Idle found) e o =
         record {
           keeps = record {
-            turning = turning-met (leftFront t found) (turning-left t k some found e o);
-            long = length-met (leftFront t found) ∙ length-left t found;
-            same-slots = head-met (leftFront t found) 4 refl ∙ head-left t found 4 refl refl refl refl refl;
-            same-capacity = head-met (leftFront t found) 8 refl ∙ head-left t found 8 refl refl refl refl refl;
+            turning = turning-met (settleEmptyFront t found) (turning-left t k some found e o);
+            long = length-met (settleEmptyFront t found) ∙ length-left t found;
+            same-slots = head-met (settleEmptyFront t found) 4 refl ∙ head-left t found 4 refl refl refl refl refl;
+            same-capacity = head-met (settleEmptyFront t found) 8 refl ∙ head-left t found 8 refl refl refl refl refl;
           };
-          fewer = λ z. omega (arith, head-met (leftFront t found) 2 refl, count-left t found (k .shaped), some);
+          fewer = λ z. omega (arith, head-met (settleEmptyFront t found) 2 refl, count-left t found (k .shaped), some);
         }
 
     -- a lane found empty: what settling it asks of the code
@@ -81,7 +81,7 @@ module _ (t : List ℕ) (k : Turning t) where
             some-lane t k (frontSlot t) h (front-registered t k some),
           )
 
-      pub look-shaped : Shaped (leftFront t found)
+      pub look-shaped : Shaped (settleEmptyFront t found)
       look-shaped = turning-left t k some found emptied found-ordered .shaped
 
     pub look-is : (p : Refill) → refill (frontLane t) ≡ p → lookBy t p ≡ lookFront t
@@ -194,7 +194,7 @@ pub refresh-searched : (t : List ℕ) → Turning t → Searched t (refreshActiv
 unfolding refreshActive
 refresh-searched t k =
     let d = due-keeps t k in
-    else-searched t (runDown (collectedIfDue t)) (λ u. runDown (collectReady true u)) (after-searched d (run-down-searched (collectedIfDue t) (d .turning)))
+    else-searched t (runDown (collectIfDue t)) (λ u. runDown (collectReady true u)) (after-searched d (run-down-searched (collectIfDue t) (d .turning)))
     (λ u m. let c = collect-keeps true u m in after-searched c (run-down-searched (collectReady true u) (c .turning)))
 
 -- what the code has for the front lane, refilled
@@ -220,7 +220,7 @@ module _ (t u : List ℕ) where
   unfolding searchRest
   rest-collects collected c e = else-none (runDown t) (λ u. runDown (collectReady true u)) u e ∙ ap (λ (b : Bool). searchRest b t) (sym c)
 
-pub rest-starts : (t : List ℕ) → searchRest false (collectedIfDue t) ≡ refreshActive t
+pub rest-starts : (t : List ℕ) → searchRest false (collectIfDue t) ≡ refreshActive t
 unfolding searchRest refreshActive
 rest-starts t = refl
 

@@ -1,1 +1,1 @@
-pub mod Drain
+pub mod Batch

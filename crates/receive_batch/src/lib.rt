@@ -1,2 +1,2 @@
 // The batch on a store in order.
-pub mod drain;
+pub mod batch;

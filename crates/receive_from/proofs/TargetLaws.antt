@@ -10,18 +10,18 @@ use Rattle.lane.specs.declared.lane.Lane.{Lane}
 use Rattle.lane.specs.declared.lane.EmptyLane.{EmptyLane}
 use Rattle.lane.specs.declared.lane.Refill.{Refill}
 use Rattle.lane.specs.declared.lane.Refill.the-variants as Refill
-use Rattle.yring.specs.Ring.{ringOf, Within}
+use Rattle.yring.specs.Ring.{newRing, Within}
 use Rattle.lane.specs.Order.{InOrder, Filled, Refundable}
 use Rattle.lane.specs.Lane.{refill, popTargeted}
 use Rattle.lane.specs.Table.{laneAt, putLane}
 use Rattle.lane.proofs.OrderLaws.{refundable, refill-fills}
 use Rattle.lane.proofs.TableLaws.{slot-of-lane}
 use Rattle.queues.specs.Header.{Shaped, issued, slots, queueCount, freeCount, capacity, laneCount}
-use Rattle.queues.specs.Queue.{removed}
+use Rattle.queues.specs.Queue.{remove}
 use Rattle.queues.proofs.QueueLaws.{queue-has-room}
 use Rattle.store.specs.Order.{StoreInOrder}
-use Rattle.turns.specs.Turn.{Turning, retiredIf}
-use Rattle.receive_from.specs.Target.{targetSettled, targetTook, takeFrom}
+use Rattle.turns.specs.Turn.{Turning, retireIf}
+use Rattle.receive_from.specs.Target.{settleTarget, targetTook, takeFrom}
 use Rattle.store.proofs.LaneFields.{Fixed, Flagged, flagged, RefillKept, refill-kept, flagged-targeted}
 use Rattle.turns.proofs.TurnLaws.{slot-below, ring-in, some-lane, free-room}
 use Rattle.turns.proofs.DueLaws.{turning-of, ringed-of}
@@ -40,7 +40,7 @@ module _ (t r : List ℕ) (o : StoreInOrder t r) (x : ℕ) (h : x < issued t) (e
   pub target-below : x < slots t
   target-below = slot-below t turning x h
 
-  pub target-ring : Within (ringOf x (capacity t)) (length r)
+  pub target-ring : Within (newRing x (capacity t)) (length r)
   target-ring = ring-in t turning x h r (ringed-of t r o)
 
   pub settled-room : (found : EmptyLane) → refill (laneAt t x) ≡ Refill.Idle found
@@ -56,10 +56,10 @@ module _ (t r : List ℕ) (o : StoreInOrder t r) (x : ℕ) (h : x < issued t) (e
     pub target-filled : Filled (capacity t) l
     target-filled = refill-fills (capacity t) (o .stores .power .most) (laneAt t x) ordered l p
 
-    pub kept-room : Shaped t × (popTargeted (ringOf x (capacity t)) r l .lane .key .slot < slots t)
-        × (popTargeted (ringOf x (capacity t)) r l .lane .queued ≡ 0 → queueCount t < slots t)
+    pub kept-room : Shaped t × (popTargeted (newRing x (capacity t)) r l .lane .key .slot < slots t)
+        × (popTargeted (newRing x (capacity t)) r l .lane .queued ≡ 0 → queueCount t < slots t)
     kept-room =
-        let f = flagged-targeted (ringOf x (capacity t)) r l ∙ same-flags in (
+        let f = flagged-targeted (newRing x (capacity t)) r l ∙ same-flags in (
           o .stores .shaped,
           rw (ap (λ (z : Flagged). z .0 .slot) f ∙ slot-of-lane t x) target-below,
           λ q. queue-has-room t (o .stores .shaped) (o .stores .named) x h (sym (o .stores .named .flagged x h e) ∙ sym (ap (λ (z : Flagged). z .4) f) ∙ q),
@@ -78,11 +78,11 @@ abbrev answered : Answer → List ℕ → Answer × List ℕ
 answered a u = (a, u)
 
 module _ (t : List ℕ) (found : EmptyLane) (u : List ℕ)
-    (e : u ≡ retiredIf (found .disconnected) (removed (putLane t (found .lane)) (found .lane .key .slot)) (found .lane)) where
-  pub settled-dropped : found .disconnected ≡ true → (Disconnected, u) ≡ targetSettled t found
-  unfolding targetSettled
+    (e : u ≡ retireIf (found .disconnected) (remove (putLane t (found .lane)) (found .lane .key .slot)) (found .lane)) where
+  pub settled-dropped : found .disconnected ≡ true → (Disconnected, u) ≡ settleTarget t found
+  unfolding settleTarget
   settled-dropped d = ap₂ answered (ap (λ (b : Bool). cond b Disconnected Empty) (sym d)) e
 
-  pub settled-living : found .disconnected ≡ false → (Empty, u) ≡ targetSettled t found
-  unfolding targetSettled
+  pub settled-living : found .disconnected ≡ false → (Empty, u) ≡ settleTarget t found
+  unfolding settleTarget
   settled-living d = ap₂ answered (ap (λ (b : Bool). cond b Disconnected Empty) (sym d)) e

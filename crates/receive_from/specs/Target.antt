@@ -11,38 +11,38 @@ use Rattle.lane.specs.declared.lane.Lane.{Lane}
 use Rattle.lane.specs.declared.lane.EmptyLane.{EmptyLane}
 use Rattle.lane.specs.declared.lane.Refill.{Refill}
 use Rattle.lane.specs.declared.lane.Refill.the-variants as Refill
-use Rattle.yring.specs.Ring.{ringOf}
+use Rattle.yring.specs.Ring.{newRing}
 use Rattle.lane.specs.Lane.{refill, popTargeted}
 use Rattle.lane.specs.Table.{laneAt, putLane}
 use Rattle.queues.specs.Header.{capacity, channel}
-use Rattle.queues.specs.Queue.{pushedBack, removed}
+use Rattle.queues.specs.Queue.{pushBack, remove}
 use Rattle.store.specs.Refusal.{idVerdict}
 use Rattle.store.specs.Words.{Words, unlessRefused, withRings}
-use Rattle.store.specs.Signal.{markedIfIdle}
+use Rattle.store.specs.Signal.{markIfIdle}
 use Rattle.control.specs.Control.{withTurn}
-use Rattle.turns.specs.Turn.{retiredIf}
+use Rattle.turns.specs.Turn.{retireIf}
 
 -- A lane found empty settles and leaves the queue; with its sender dropped it retires and the answer is Disconnected.
-unfoldable pub targetSettled : List ℕ → EmptyLane → Answer × List ℕ
-targetSettled t found = (
+unfoldable pub settleTarget : List ℕ → EmptyLane → Answer × List ℕ
+settleTarget t found = (
   cond (found .disconnected) Disconnected Empty,
-  retiredIf (found .disconnected) (removed (putLane t (found .lane)) (found .lane .key .slot)) (found .lane),
+  retireIf (found .disconnected) (remove (putLane t (found .lane)) (found .lane .key .slot)) (found .lane),
 )
 
 -- "Whatever queues a lane, resume too, puts it at the back." Its signal is marked.
-unfoldable pub targetQueued : List ℕ → Lane → List ℕ
-targetQueued t l = pushedBack (markedIfIdle (putLane t (withTurn 1 1 0 l)) l) (l .key .slot)
+unfoldable pub queueTarget : List ℕ → Lane → List ℕ
+queueTarget t l = pushBack (markIfIdle (putLane t (withTurn 1 1 0 l)) l) (l .key .slot)
 
 -- "works on a paused lane, queues an unpaused one"
-unfoldable pub targetKept : List ℕ → Lane → List ℕ
-targetKept t l = cond (eqb (l .paused) 0) (cond (eqb (l .queued) 0) (targetQueued t l) (putLane t l)) (putLane t l)
+unfoldable pub keepTarget : List ℕ → Lane → List ℕ
+keepTarget t l = cond (eqb (l .paused) 0) (cond (eqb (l .queued) 0) (queueTarget t l) (putLane t l)) (putLane t l)
 
 -- "Targeted: counts in neither burst nor budget"
 unfoldable pub targetTook : List ℕ → List ℕ → ℕ → Refill → Answer × List ℕ
-targetTook t r x (Refill.Idle found) = targetSettled t found
+targetTook t r x (Refill.Idle found) = settleTarget t found
 targetTook t r x (Refill.Ready l) = (
-  Item (popTargeted (ringOf x (capacity t)) r l .item) (record { channel = channel t; key = l .key }),
-  targetKept t (popTargeted (ringOf x (capacity t)) r l .lane),
+  Item (popTargeted (newRing x (capacity t)) r l .item) (record { channel = channel t; key = l .key }),
+  keepTarget t (popTargeted (newRing x (capacity t)) r l .lane),
 )
 
 unfoldable pub takeFrom : List ℕ → List ℕ → ℕ → Answer × List ℕ

@@ -4,7 +4,7 @@ ghost use Prim.Native.Nat.{_<_};
 ghost use Rattle.lane.specs.Table.{laneAt};
 ghost use Rattle.queues.specs.Header.{Shaped, issued, slots, queueCount, freeCount, laneCount};
 ghost use Rattle.store.specs.Order.{StoreInOrder};
-ghost use Rattle.receive_from.specs.Target.{targetSettled, targetQueued, targetKept, takeFrom, tryRecvFrom};
+ghost use Rattle.receive_from.specs.Target.{settleTarget, queueTarget, keepTarget, takeFrom, tryRecvFrom};
 use control::lane_control;
 use lane::lane::EmptyLane;
 use lane::lane::Lane;
@@ -21,7 +21,7 @@ use yring::ring::Ring;
 
 fn settle_target(t: &mut [u64], found: EmptyLane) -> Answer
     requires { ⌜ Shaped (now t) × (found .lane .key .slot < slots (now t)) × (freeCount (now t) < slots (now t)) × (0 < laneCount (now t)) ⌝ }
-    ensures { λ a. ⌜ (a, now (t .exit)) ≡ targetSettled (now (t .entry)) found ⌝ }
+    ensures { λ a. ⌜ (a, now (t .exit)) ≡ settleTarget (now (t .entry)) found ⌝ }
 {
     let l = found.lane;
     l.store(t);
@@ -36,7 +36,7 @@ fn settle_target(t: &mut [u64], found: EmptyLane) -> Answer
 // The lane goes to the back of the queue, with its signal marked.
 fn queue_target(t: &mut [u64], l: Lane)
     requires { ⌜ Shaped (now t) × (l .key .slot < slots (now t)) × (queueCount (now t) < slots (now t)) ⌝ }
-    ensures { λ _. ⌜ now (t .exit) ≡ targetQueued (now (t .entry)) l ⌝ }
+    ensures { λ _. ⌜ now (t .exit) ≡ queueTarget (now (t .entry)) l ⌝ }
 {
     lane_control::with_turn(l, 1, 1, 0).store(t);
     signal::mark_if_idle(t, l);
@@ -46,7 +46,7 @@ fn queue_target(t: &mut [u64], l: Lane)
 // An item was popped: the lane goes back, into the queue if it is neither paused nor there.
 fn keep_target(t: &mut [u64], l: Lane)
     requires { ⌜ Shaped (now t) × (l .key .slot < slots (now t)) × (l .queued ≡ 0 → queueCount (now t) < slots (now t)) ⌝ }
-    ensures { λ _. ⌜ now (t .exit) ≡ targetKept (now (t .entry)) l ⌝ }
+    ensures { λ _. ⌜ now (t .exit) ≡ keepTarget (now (t .entry)) l ⌝ }
 {
     if l.paused != 0 {
         l.store(t);

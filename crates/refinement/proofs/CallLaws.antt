@@ -18,7 +18,7 @@ use Rattle.lane.specs.Table.{laneAt}
 use Rattle.queues.specs.Queue.{queueOf}
 use Rattle.store.specs.View.{view}
 use Rattle.store.specs.Order.{StoreInOrder}
-use Rattle.receive_batch.specs.Drain.{tryRecvBatchInto, batchHands, batchInto}
+use Rattle.receive_batch.specs.Batch.{tryRecvBatchInto, batchHands, batchInto}
 use Rattle.refinement.specs.Runs.{receiveWords, handsWords, outputWords, callWords}
 use Rattle.store.proofs.RefusalLaws.{seen}
 use Rattle.sender.proofs.SenderLaws.{sender-calls-alike, sender-calls-keep-order}
@@ -81,7 +81,7 @@ module _ (t r : List ℕ) (o : StoreInOrder t r) where
   output-alike TryRecvFair out h = refl
   output-alike (TryRecvFrom i) out h = refl
   output-alike (TryRecvBatchInto limit room) out h =
-      ap (λ (n : ℕ). rules.written (batchHands t r limit n) out) h ∙ try-recv-batch-output t r out o limit room
+      ap (λ (n : ℕ). rules.writtenTo (batchHands t r limit n) out) h ∙ try-recv-batch-output t r out o limit room
 
   -- a lane in the queue keeps its key
   pub call-keeps-queued-key : (c : Call) (x : ℕ) → 1 ≤ count x (queueOf t) → laneAt ((callWords t r c) .1) x .key ≡ laneAt t x .key

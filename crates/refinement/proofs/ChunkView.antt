@@ -14,19 +14,19 @@ use Rattle.model.specs.State.{Slot, State, releaseBatch}
 use Rattle.model.specs.Changes.{withQueue, withBudget, put, popped}
 use Rattle.model.specs.Order.{Ordered}
 use Rattle.model.specs.Turn as rules
-use Rattle.model.proofs.WholeChunk.{firstOf, given, ChunkFits, given-ordered}
+use Rattle.demands.proofs.WholeChunk.{firstOf, given, ChunkFits, given-ordered}
 use Rattle.lane.specs.declared.lane.Lane.{Lane}
 use Rattle.lane.specs.declared.lane.Released.{Released}
-use Rattle.yring.specs.Ring.{ringOf, items}
-use Rattle.lane.specs.Lane.{headOn, charged, addBurst, endBurst, released, held, releaseAtBatch, endFullBurst, chunkLimit, moveChunk}
+use Rattle.yring.specs.Ring.{newRing, items}
+use Rattle.lane.specs.Lane.{advance, charge, addBurst, endBurst, release, heldItems, releaseAtBatch, endFullBurst, chunkLimit, moveChunk}
 use Rattle.lane.specs.Table.{laneAt}
 use Rattle.lane.proofs.OrderLaws.{chunk-within}
 use Rattle.lane.proofs.HeldLaws.{move-chunk-takes-first, refill-is}
 use Rattle.queues.specs.Header.{budget, capacity}
-use Rattle.queues.specs.Queue.{queueOf, frontSlot, poppedFront}
+use Rattle.queues.specs.Queue.{queueOf, frontSlot, popFront}
 use Rattle.store.specs.View.{slotAt, view}
 use Rattle.store.specs.Order.{Stores, StoreInOrder}
-use Rattle.receive_batch.specs.Drain.{Fronts, fullBudget, chunkItems, gaveChunk, chunkGiven}
+use Rattle.receive_batch.specs.Batch.{Fronts, fullBudget, chunkItems, gaveChunk, chunkGiven}
 use Rattle.store.proofs.ViewLaws.{slot-in}
 use Rattle.store.proofs.LaneView.{looked-counts}
 use Rattle.refinement.proofs.SameFlags.{key-by}
@@ -64,7 +64,7 @@ lane-counts C n l = go (eqb (l .unreleased + n) (releaseBatch C))
   where
     after : Bool → Released
     after b =
-        cond b (record { lane = released (addBurst n (charged n (headOn n l))); released = true }) (record { lane = addBurst n (charged n (headOn n l)); released = false })
+        cond b (record { lane = release (addBurst n (charge n (advance n l))); released = true }) (record { lane = addBurst n (charge n (advance n l)); released = false })
 
     go : (b : Bool) → (after b .lane .unreleased ≡ if b 0 (l .unreleased + n)) × (after b .lane .burst ≡ l .burst + n) × (after b .lane .window ≡ l .window)
     go true = (refl, refl, refl)
@@ -79,11 +79,11 @@ end-counts l = go (eqb (l .burst) 64)
     go true = (refl, refl, refl)
     go false = (refl, refl, refl)
 
-end-holds : (x C : ℕ) (r : List ℕ) (l : Lane) → held (ringOf x C) r (endFullBurst l .lane) ≡ held (ringOf x C) r l
-unfolding endFullBurst held
+end-holds : (x C : ℕ) (r : List ℕ) (l : Lane) → heldItems (newRing x C) r (endFullBurst l .lane) ≡ heldItems (newRing x C) r l
+unfolding endFullBurst heldItems
 end-holds x C r l = go (eqb (l .burst) 64)
   where
-    go : (b : Bool) → held (ringOf x C) r (endBurst b l) ≡ held (ringOf x C) r l
+    go : (b : Bool) → heldItems (newRing x C) r (endBurst b l) ≡ heldItems (newRing x C) r l
     go true = refl
     go false = refl
 
@@ -97,7 +97,7 @@ module _ (t r : List ℕ) (o : StoreInOrder t r) (l : Lane) (f : Fronts t l) (n 
   x = frontSlot t
 
   abbrev q : List ℕ
-  q = queueOf (poppedFront t)
+  q = queueOf (popFront t)
 
   abbrev m : Lane
   m = chunkEnd C n l .lane
@@ -124,25 +124,25 @@ module _ (t r : List ℕ) (o : StoreInOrder t r) (l : Lane) (f : Fronts t l) (n 
         ap (λ (s : Slot). s .burst) sees ∙ sym (c .1) ∙ ap (λ (k : Lane). k .burst) same,
       )
 
-  lane-holds : held (ringOf (l .key .slot) C) r l ≡ chunkItems t r n l ++ held (ringOf (l .key .slot) C) r m
+  lane-holds : heldItems (newRing (l .key .slot) C) r l ≡ chunkItems t r n l ++ heldItems (newRing (l .key .slot) C) r m
   unfolding chunkItems
   lane-holds =
-      move-chunk-takes-first (ringOf (l .key .slot) C) r l (chunk-ring t l f r (ringed-of t r o)) (chunk-filled t l f) n h
-      ∙ ap (λ (vs : List ℕ). items (ringOf (l .key .slot) C) r (l .head) n ++ vs) (sym (end-holds (l .key .slot) C r (moveChunk C n l)))
+      move-chunk-takes-first (newRing (l .key .slot) C) r l (chunk-ring t l f r (ringed-of t r o)) (chunk-filled t l f) n h
+      ∙ ap (λ (vs : List ℕ). items (newRing (l .key .slot) C) r (l .head) n ++ vs) (sym (end-holds (l .key .slot) C r (moveChunk C n l)))
 
   -- the chunk's items are the first of the rules' items of the lane
-  ring-splits : slot .ring ≡ chunkItems t r n l ++ held (ringOf x C) r m
+  ring-splits : slot .ring ≡ chunkItems t r n l ++ heldItems (newRing x C) r m
   unfolding slotAt
   ring-splits =
       ap (λ (s : Slot). s .ring) sees ∙ sym (ready-holds t r (o .stores) x (front .is-issued) (front .registered) l (f .filled))
-      ∙ ap (λ (y : ℕ). held (ringOf y C) r l) (sym (chunk-slot t l f)) ∙ lane-holds
-      ∙ ap (λ (y : ℕ). chunkItems t r n l ++ held (ringOf y C) r m) (chunk-slot t l f)
+      ∙ ap (λ (y : ℕ). heldItems (newRing y C) r l) (sym (chunk-slot t l f)) ∙ lane-holds
+      ∙ ap (λ (y : ℕ). chunkItems t r n l ++ heldItems (newRing y C) r m) (chunk-slot t l f)
 
   items-first : take n (slot .ring) ≡ chunkItems t r n l
-  items-first = ap₂ take (sym (length-chunk t r n l)) ring-splits ∙ take-first (chunkItems t r n l) (held (ringOf x C) r m)
+  items-first = ap₂ take (sym (length-chunk t r n l)) ring-splits ∙ take-first (chunkItems t r n l) (heldItems (newRing x C) r m)
 
-  items-left : held (ringOf x C) r m ≡ drop n (slot .ring)
-  items-left = sym (ap₂ drop (sym (length-chunk t r n l)) ring-splits ∙ drop-first (chunkItems t r n l) (held (ringOf x C) r m))
+  items-left : heldItems (newRing x C) r m ≡ drop n (slot .ring)
+  items-left = sym (ap₂ drop (sym (length-chunk t r n l)) ring-splits ∙ drop-first (chunkItems t r n l) (heldItems (newRing x C) r m))
 
   pub chunk-fits : ChunkFits (view t r) x n
   unfolding view
@@ -151,7 +151,7 @@ module _ (t r : List ℕ) (o : StoreInOrder t r) (l : Lane) (f : Fronts t l) (n 
       let c = seen-counts in
       record {
         some = some;
-        in-ring = omega (arith, ap length ring-splits, length-append (chunkItems t r n l) (held (ringOf x C) r m), length-chunk t r n l);
+        in-ring = omega (arith, ap length ring-splits, length-append (chunkItems t r n l) (heldItems (newRing x C) r m), length-chunk t r n l);
         in-budget = rw (← full-alike (budget t)) b;
         in-burst = omega (arith, c .1, w .2);
         in-batch = omega (arith, c .0, w .1);
@@ -191,7 +191,7 @@ module _ (t r : List ℕ) (o : StoreInOrder t r) (l : Lane) (f : Fronts t l) (n 
   unfolding chunkGiven gaveChunk view
   chunk-view =
       back-view t r o x q chunk-queue (chunkEnd C n l .ended) m back (fullBudget (budget t) - n)
-      ∙ ap₂ (λ (a : ℕ) (over : Bool). leaves (a - n) over (held (ringOf x C) r m) (m .unreleased) (m .burst)) (full-alike (budget t)) turn-over
+      ∙ ap₂ (λ (a : ℕ) (over : Bool). leaves (a - n) over (heldItems (newRing x C) r m) (m .unreleased) (m .burst)) (full-alike (budget t)) turn-over
       ∙ ap (λ (vs : List ℕ). leaves (rules.refill (budget t) - n) (eqb (slot .burst + n) 64) vs (m .unreleased) (m .burst)) items-left
       ∙ ap₂ (λ (u d : ℕ). leaves (rules.refill (budget t) - n) (eqb (slot .burst + n) 64) (drop n (slot .ring)) u d) unreleased-after burst-after
 

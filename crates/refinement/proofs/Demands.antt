@@ -11,9 +11,9 @@ use Rattle.model.specs.State as rules
 use Rattle.model.specs.State.{vacant, hasLane}
 use Rattle.model.specs.Demand1.{RefusalChangesNothing}
 use Rattle.model.specs.Demand2.{Demand2In}
-use Rattle.model.proofs.Words.{words-demand2, words-demand3, words-none-after-close, words-held-as-counted, words-hands-as-answered}
-use Rattle.yring.specs.Ring.{ringOf}
-use Rattle.lane.specs.Lane.{held}
+use Rattle.demands.proofs.Simulation.{words-demand2, words-demand3, words-none-after-close, words-held-as-counted, words-hands-as-answered}
+use Rattle.yring.specs.Ring.{newRing}
+use Rattle.lane.specs.Lane.{heldItems}
 use Rattle.lane.specs.Table.{laneAt}
 use Rattle.queues.specs.Header.{issued, capacity}
 use Rattle.store.specs.View.{flag, slotAt, view}
@@ -29,7 +29,7 @@ unfolding rules.ringOf hasLane itemsIn view slotAt vacant
 ring-seen t r k = go (ltb (k .slot) (issued t)) refl
   where
     vs : List ℕ
-    vs = held (ringOf (k .slot) (capacity t)) r (laneAt t (k .slot))
+    vs = heldItems (newRing (k .slot) (capacity t)) r (laneAt t (k .slot))
 
     both-alike : (a b : Bool) → if (both a b) vs [] ≡ cond a (cond b vs []) []
     both-alike true true = refl

@@ -16,7 +16,7 @@ use Rattle.model.specs.State.{State, hasLane, hasLaneId}
 use Rattle.model.specs.Runs.{accepted}
 use Rattle.model.specs.Rules.{outcome}
 use Rattle.model.specs.Disconnected as rules
-use Rattle.model.proofs.Disconnected.{disconnected-exactly, retires-empty-paused, empty-with-paused-items, only-paused-items-left, targeted-disconnected-exactly}
+use Rattle.demands.proofs.Disconnected.{disconnected-exactly, retires-empty-paused, empty-with-paused-items, only-paused-items-left, targeted-disconnected-exactly}
 use Rattle.queues.specs.Header.{issued}
 use Rattle.store.specs.declared.refusal.Verdict.the-variants.{Pass}
 use Rattle.store.specs.View.{view}

@@ -8,16 +8,16 @@ use Rattle.model.specs.declared.LaneKey.{LaneKey}
 use Rattle.model.specs.State.{State}
 use Rattle.model.specs.Turn.{Took, polled}
 use Rattle.model.specs.Receive.{takeUpTo}
-use Rattle.model.proofs.WholeChunk.{firstOf, given, ChunkFits, onto, take-up-to-none, take-up-to-chunk}
+use Rattle.demands.proofs.WholeChunk.{firstOf, given, ChunkFits, onto, take-up-to-none, take-up-to-chunk}
 use Rattle.lane.specs.declared.lane.Lane.{Lane}
 use Rattle.lane.specs.Lane.{chunkLimit}
 use Rattle.queues.specs.Header.{budget, capacity}
-use Rattle.queues.specs.Queue.{queueOf, frontSlot, poppedFront}
-use Rattle.receive_batch.specs.declared.drain.Front.{Front}
-use Rattle.receive_batch.specs.declared.drain.Front.the-variants as Front
+use Rattle.queues.specs.Queue.{queueOf, frontSlot, popFront}
+use Rattle.receive_batch.specs.declared.batch.Front.{Front}
+use Rattle.receive_batch.specs.declared.batch.Front.the-variants as Front
 use Rattle.store.specs.View.{view}
 use Rattle.store.specs.Order.{StoreInOrder}
-use Rattle.receive_batch.specs.Drain.{refreshActive, Reached, fullBudget, chunkSize, chunkGiven, Drained, chunkThen, drainedWithin, drained}
+use Rattle.receive_batch.specs.Batch.{refreshActive, Reached, fullBudget, chunkSize, chunkGiven, HandsAndTable, chunkThen, drainedWithin, drained}
 use Rattle.turns.proofs.DueLaws.{turning-of}
 use Rattle.receive_batch.proofs.LookLaws.{refresh-searched}
 use Rattle.refinement.proofs.LookView.{ReachedAs, none-queued, refresh-alike}
@@ -26,15 +26,15 @@ use Rattle.refinement.proofs.ChunkView.{chunk-queue, chunk-fits, chunk-
 use Rattle.receive_batch.proofs.DrainLaws.{within-next}
 
 -- the same is handed out, the rules see the same state, and the words are in order
-pub record DrainedAs (r : List ℕ) (d : Drained) (w : Took) : Type 0 where
+pub record DrainedAs (r : List ℕ) (d : HandsAndTable) (w : Took) : Type 0 where
   pub alike : (d .0, view (d .1) r) ≡ w
   pub in-order : StoreInOrder (d .1) r
 
 -- the steps that are left do what the rules do with what is left of the limit
-abbrev Goes : List ℕ → ℕ → (List ℕ → ℕ → Drained) → Type 0
+abbrev Goes : List ℕ → ℕ → (List ℕ → ℕ → HandsAndTable) → Type 0
 Goes r n more = (u : List ℕ) (m : ℕ) → m ≤ n → StoreInOrder u r → DrainedAs r (more u m) (takeUpTo m (view u r))
 
-module _ (r : List ℕ) (s : State) (n left : ℕ) (some : 1 ≤ left) (enough : left ≤ suc n) (more : List ℕ → ℕ → Drained) (ih : Goes r n more) where
+module _ (r : List ℕ) (s : State) (n left : ℕ) (some : 1 ≤ left) (enough : left ≤ suc n) (more : List ℕ → ℕ → HandsAndTable) (ih : Goes r n more) where
   -- nothing is queued and nothing is ready
   none-left : (u : List ℕ) → ReachedAs r (Front.None, u) (polled s) → Reached (Front.None, u) → DrainedAs r ([], u) (takeUpTo left s)
   unfolding view
@@ -56,19 +56,19 @@ module _ (r : List ℕ) (s : State) (n left : ℕ) (some : 1 ≤ left) (enough :
     chunked : StoreInOrder (chunkGiven u c l) r
     chunked = chunk-in-order u r (a .in-order) l k c one (least .2) (least .1)
 
-    queue-seen : (polled s) .queue ≡ frontSlot u ∷ queueOf (poppedFront u)
+    queue-seen : (polled s) .queue ≡ frontSlot u ∷ queueOf (popFront u)
     unfolding view
     queue-seen = sym (ap (λ (z : State). z .queue) (a .alike)) ∙ chunk-queue u r (a .in-order) l k c one (least .2) (least .1)
 
     fits : ChunkFits (polled s) (frontSlot u) c
     fits = subst (λ (z : State). ChunkFits z (frontSlot u) c) (a .alike) (chunk-fits u r (a .in-order) l k c one (least .2) (least .1))
 
-    rules-chunk : takeUpTo left s ≡ onto (firstOf (view u r) (frontSlot u) c) (takeUpTo (left - c) (given (view u r) (frontSlot u) (queueOf (poppedFront u)) c))
+    rules-chunk : takeUpTo left s ≡ onto (firstOf (view u r) (frontSlot u) c) (takeUpTo (left - c) (given (view u r) (frontSlot u) (queueOf (popFront u)) c))
     rules-chunk =
-        subst (λ (z : State). takeUpTo left s ≡ onto (firstOf z (frontSlot u) c) (takeUpTo (left - c) (given z (frontSlot u) (queueOf (poppedFront u)) c))) (sym (a .alike))
-        (take-up-to-chunk left c s (frontSlot u) (queueOf (poppedFront u)) queue-seen fits (least .0))
+        subst (λ (z : State). takeUpTo left s ≡ onto (firstOf z (frontSlot u) c) (takeUpTo (left - c) (given z (frontSlot u) (queueOf (popFront u)) c))) (sym (a .alike))
+        (take-up-to-chunk left c s (frontSlot u) (queueOf (popFront u)) queue-seen fits (least .0))
 
-    rest : DrainedAs r (more (chunkGiven u c l) (left - c)) (takeUpTo (left - c) (given (view u r) (frontSlot u) (queueOf (poppedFront u)) c))
+    rest : DrainedAs r (more (chunkGiven u c l) (left - c)) (takeUpTo (left - c) (given (view u r) (frontSlot u) (queueOf (popFront u)) c))
     rest =
         subst (λ (z : State). DrainedAs r (more (chunkGiven u c l) (left - c)) (takeUpTo (left - c) z)) (chunk-view u r (a .in-order) l k c one (least .2) (least .1))
         (ih (chunkGiven u c l) (left - c) (omega (arith, one, enough)) chunked)
@@ -94,7 +94,7 @@ drained-within-alike zero t r zero h o = record { alike = refl; in-order = o }
 drained-within-alike zero t r (suc left) h o = absurd (omega arith)
 drained-within-alike (suc n) t r zero h o = record { alike = refl; in-order = o }
 drained-within-alike (suc n) t r (suc left) h o =
-    subst (λ (d : Drained). DrainedAs r d (takeUpTo (suc left) (view t r))) (sym (within-next n t r (suc left) (omega arith)))
+    subst (λ (d : HandsAndTable). DrainedAs r d (takeUpTo (suc left) (view t r))) (sym (within-next n t r (suc left) (omega arith)))
     (chunk-then-alike r (view t r) n (suc left) (omega arith) h (λ u m. drainedWithin n u r m) (λ u m i p. drained-within-alike n u r m i p) (refreshActive t) (refresh-alike t r o)
     (refresh-searched t (turning-of t r o) .reached))
 

@@ -13,7 +13,7 @@ use Rattle.lane.specs.declared.lane.Refill.{Refill}
 use Rattle.lane.specs.declared.lane.Refill.the-variants as Refill
 use Rattle.lane.specs.declared.lane.LanePoll.{LanePoll}
 use Rattle.lane.specs.declared.lane.LanePoll.the-variants as LanePoll
-use Rattle.yring.specs.Ring.{ringOf}
+use Rattle.yring.specs.Ring.{newRing}
 use Rattle.lane.specs.Lane.{reload, closeFast, settleEmpty, readyOrIdle, refill, poll}
 use Rattle.lane.specs.Order.{InOrder, refilledLane, polledLane}
 use Rattle.lane.specs.Table.{laneAt}
@@ -31,30 +31,30 @@ slot-path l m a b c d e f g h i =
 
 -- what `found` says of the lane in slot x
 pub record Empties (t r : List ℕ) (x : ℕ) (found : EmptyLane) : Type 0 where
-  pub idle : FoundIdle (ringOf x (capacity t)) r (laneAt t x) found
+  pub idle : FoundIdle (newRing x (capacity t)) r (laneAt t x) found
   pub fixed : Emptied (laneAt t x) found
   pub order : InOrder (capacity t) (found .lane)
 
 module _ (t r : List ℕ) (o : Stores t r) (x : ℕ) (h : x < issued t) (g : laneAt t x .registered ≡ 1) (found : EmptyLane) where
-  pub empties-by-poll : (fair : Bool) → poll (ringOf x (capacity t)) r fair (laneAt t x) ≡ LanePoll.Idle found → Empties t r x found
+  pub empties-by-poll : (fair : Bool) → poll (newRing x (capacity t)) r fair (laneAt t x) ≡ LanePoll.Idle found → Empties t r x found
   empties-by-poll fair e =
       let i = o .lanes x h g in
       record {
-        idle = poll-idle (ringOf x (capacity t)) (o .power .most) r (laneAt t x) i fair found e;
-        fixed = subst (PollKept (laneAt t x)) e (poll-kept (ringOf x (capacity t)) r fair (laneAt t x));
-        order = subst (λ (p : LanePoll). InOrder (capacity t) (polledLane p)) e (poll-keeps (ringOf x (capacity t)) (o .power .most) r (laneAt t x) i fair);
+        idle = poll-idle (newRing x (capacity t)) (o .power .most) r (laneAt t x) i fair found e;
+        fixed = subst (PollKept (laneAt t x)) e (poll-kept (newRing x (capacity t)) r fair (laneAt t x));
+        order = subst (λ (p : LanePoll). InOrder (capacity t) (polledLane p)) e (poll-keeps (newRing x (capacity t)) (o .power .most) r (laneAt t x) i fair);
       }
 
-  found-idle : refill (laneAt t x) ≡ Refill.Idle found → FoundIdle (ringOf x (capacity t)) r (laneAt t x) found
+  found-idle : refill (laneAt t x) ≡ Refill.Idle found → FoundIdle (newRing x (capacity t)) r (laneAt t x) found
   unfolding refill readyOrIdle
   found-idle e = go (eqb (reload (closeFast (laneAt t x)) .cached) 0) refl e
     where
       go : (b : Bool) → eqb (reload (closeFast (laneAt t x)) .cached) 0 ≡ b
           → cond b (Refill.Idle (settleEmpty (reload (closeFast (laneAt t x))))) (Refill.Ready (reload (closeFast (laneAt t x)))) ≡ Refill.Idle found
-          → FoundIdle (ringOf x (capacity t)) r (laneAt t x) found
+          → FoundIdle (newRing x (capacity t)) r (laneAt t x) found
       go true s f =
           let same : settleEmpty (reload (closeFast (laneAt t x))) ≡ found = cc in
-          rw (← same) (settled-idle (ringOf x (capacity t)) (o .power .most) r (laneAt t x) (o .lanes x h g) (eqb-true _ 0 s))
+          rw (← same) (settled-idle (newRing x (capacity t)) (o .power .most) r (laneAt t x) (o .lanes x h g) (eqb-true _ 0 s))
       go false s f = let z : _≡_ {A = ℕ} 0 1 = cc in absurd (omega arith)
 
   pub empties-by-refill : refill (laneAt t x) ≡ Refill.Idle found → Empties t r x found

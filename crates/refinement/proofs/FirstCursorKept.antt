@@ -12,7 +12,7 @@ use Rattle.model.specs.declared.ReceiveCall.the-variants.{TryRecv, TryRecvFair,
 use Rattle.model.specs.declared.Call.{Call}
 use Rattle.model.specs.declared.Call.the-variants.{Sender, Receive, Control}
 use Rattle.model.specs.declared.Answer.the-variants.{Items, Empty}
-use Rattle.model.specs.Runs.{after}
+use Rattle.model.specs.Runs.{afterList}
 use Rattle.lane.specs.declared.lane.Lane.{Lane}
 use Rattle.lane.specs.declared.lane.Popped.{Popped}
 use Rattle.lane.specs.declared.lane.Popped.the-variants as Popped
@@ -21,35 +21,35 @@ use Rattle.lane.specs.declared.lane.Refill.the-variants as Refill
 use Rattle.lane.specs.declared.lane.LanePoll.{LanePoll}
 use Rattle.lane.specs.declared.lane.LanePoll.the-variants as LanePoll
 use Rattle.lane.specs.declared.lane.EmptyLane.{EmptyLane}
-use Rattle.yring.specs.Ring.{ringOf}
+use Rattle.yring.specs.Ring.{newRing}
 use Rattle.lane.specs.Lane.{reloadIsEmpty, refill, popTargeted, poll, endFullBurst, moveChunk}
 use Rattle.lane.specs.Table.{setHead, laneAt, putLane}
 use Rattle.lane.proofs.OrderLaws.{cond-holds}
 use Rattle.queues.specs.Header.{issued, queueCount, budget, capacity, firstCursor, channel, fastSlot, livingCount}
-use Rattle.queues.specs.Queue.{frontSlot, rotated}
+use Rattle.queues.specs.Queue.{frontSlot, rotateLeft}
 use Rattle.ready.specs.Ready.{collectReady}
 use Rattle.queues.proofs.QueueLaws.{head-rotated}
 use Rattle.store.specs.Order.{StoreInOrder}
 use Rattle.store.specs.Words.{Words}
 use Rattle.sender.specs.Sender.{senderWords}
 use Rattle.opening.proofs.FirstCursor.{opening-puts-cursor, registered-starts}
-use Rattle.all_lanes.specs.Batch.{releaseAll}
+use Rattle.all_lanes.specs.AllLanes.{releaseAll}
 use Rattle.control.specs.Control.{withTurn}
 use Rattle.turns.specs.declared.turn.Took.{Took}
 use Rattle.turns.specs.declared.turn.Took.the-variants as Took
 use Rattle.turns.specs.declared.turn.Turn.{Turn}
 use Rattle.turns.specs.declared.turn.Turn.the-variants as Turn
-use Rattle.receive_batch.specs.declared.drain.Front.{Front}
-use Rattle.receive_batch.specs.declared.drain.Front.the-variants as Front
-use Rattle.receive_batch.specs.declared.drain.Look.{Look}
-use Rattle.receive_batch.specs.declared.drain.Look.the-variants as Look
-use Rattle.turns.specs.Turn.{frontLane, retiredIf, leftFront, budgetMet, rotatedIf, turnBy, pollFront, after as afterTurn, turnsWithin, turns}
+use Rattle.receive_batch.specs.declared.batch.Front.{Front}
+use Rattle.receive_batch.specs.declared.batch.Front.the-variants as Front
+use Rattle.receive_batch.specs.declared.batch.Look.{Look}
+use Rattle.receive_batch.specs.declared.batch.Look.the-variants as Look
+use Rattle.turns.specs.Turn.{frontLane, retireIf, settleEmptyFront, meetBudget, rotateIf, turnBy, pollFront, afterTurn, turnsWithin, turns}
 use Rattle.turns.specs.Drained.{retireEmptyPaused, retireEmptyPausedLanes, emptyOrDrained, nothingTaken}
-use Rattle.receive.specs.Receive.{elseTake, windowTook, fastTook, takeFast, openTook, takeWindow, pollLoop, refillTake, takeOne, takeLone, takeFair, answerOne, tryRecv, tryRecvFair}
-use Rattle.turns.specs.Due.{collectedIfDue}
-use Rattle.receive_from.specs.Target.{targetSettled, targetQueued, targetKept, targetTook, takeFrom, tryRecvFrom}
-use Rattle.receive_batch.specs.Drain.{lookBy, lookFront, afterLook, runDownWithin, runDown, elseFront, refreshActive, fullBudget, chunkSize, gaveChunk, chunkGiven, Drained, chunkThen, drainedWithin, drained, answerItems, batchAnswer, tryRecvBatchInto}
-use Rattle.refinement.specs.Runs.{receiveWords, callWords, StoreCalls, listsOf, opened, storesAfter}
+use Rattle.receive.specs.Receive.{elseTake, takeFromWindow, fastTook, takeFast, takeIfPopped, takeFrontWindow, pollLoop, tryRecvRefill, takeOne, takeLone, takeFair, answerOne, tryRecv, tryRecvFair}
+use Rattle.turns.specs.Due.{collectIfDue}
+use Rattle.receive_from.specs.Target.{settleTarget, queueTarget, keepTarget, targetTook, takeFrom, tryRecvFrom}
+use Rattle.receive_batch.specs.Batch.{lookBy, lookFront, afterLook, runDownWithin, runDown, elseFront, refreshActive, fullBudget, chunkSize, gaveChunk, chunkGiven, HandsAndTable, chunkThen, drainedWithin, drained, answerItems, batchAnswer, tryRecvBatchInto}
+use Rattle.refinement.specs.Runs.{receiveWords, callWords, StoreCalls, listsOf, openedStores, storesAfter}
 use Rattle.refinement.specs.RulesOnWords.{StaysInOrder, RingsStartAtFirstCursor}
 use Rattle.turns.proofs.FrontLaws.{head-left, head-met, head-gave}
 use Rattle.refinement.proofs.FirstCursorSteps.{At, at-put, at-head, at-pushed-back, at-removed, at-marked-if-idle, at-retired, at-slots, at-collected, unless-at, sender-keeps-cursor, control-keeps-cursor, at-release-all}
@@ -62,13 +62,13 @@ TableAt c o = At c (o .1)
 module _ {c : ℕ} where
   -- ---- turns
 
-  at-retired-if : (dropped : Bool) (t : List ℕ) → At c t → (l : Lane) → At c (retiredIf dropped t l)
-  unfolding retiredIf
+  at-retired-if : (dropped : Bool) (t : List ℕ) → At c t → (l : Lane) → At c (retireIf dropped t l)
+  unfolding retireIf
   at-retired-if true t h l = at-retired t h l
   at-retired-if false t h l = h
 
-  at-left : (t : List ℕ) → At c t → (found : EmptyLane) → At c (budgetMet (leftFront t found))
-  at-left t h found = head-met (leftFront t found) 10 refl ∙ head-left t found 10 refl refl refl refl refl ∙ h
+  at-left : (t : List ℕ) → At c t → (found : EmptyLane) → At c (meetBudget (settleEmptyFront t found))
+  at-left t h found = head-met (settleEmptyFront t found) 10 refl ∙ head-left t found 10 refl refl refl refl refl ∙ h
 
   at-turn : (t : List ℕ) → At c t → (p : LanePoll) → At c ((turnBy t p) .1)
   unfolding turnBy
@@ -79,7 +79,7 @@ module _ {c : ℕ} where
   unfolding pollFront
   at-front t r fair h =
       cond-holds (TableAt c) (eqb (queueCount t) 0) (Turn.Ends Took.Nothing, t) _ (λ e. h)
-      (λ e. at-turn t h (poll (ringOf (frontSlot t) (capacity t)) r fair (frontLane t)))
+      (λ e. at-turn t h (poll (newRing (frontSlot t) (capacity t)) r fair (frontLane t)))
 
   at-after : (u : Turn × List ℕ) (more : Took × List ℕ) → At c (u .1) → At c (more .1) → At c ((afterTurn u more) .1)
   unfolding afterTurn
@@ -104,8 +104,8 @@ module _ {c : ℕ} where
   at-else (Took.Item item k, t) more h f = h
   at-else (Took.Nothing, t) more h f = f t h
 
-  at-window-took : (t : List ℕ) → At c t → (item : ℕ) (l : Lane) → At c ((windowTook t item l) .1)
-  unfolding windowTook
+  at-window-took : (t : List ℕ) → At c t → (item : ℕ) (l : Lane) → At c ((takeFromWindow t item l) .1)
+  unfolding takeFromWindow
   at-window-took t h item l = at-head (putLane t l) (at-put t h l) 5 (budget t - 1) refl
 
   at-fast-took : (t : List ℕ) → At c t → (p : Popped) → At c ((fastTook t p) .1)
@@ -113,8 +113,8 @@ module _ {c : ℕ} where
   at-fast-took t h (Popped.Item item l) = at-window-took t h item l
   at-fast-took t h (Popped.Nothing l) = h
 
-  at-open-took : (t : List ℕ) → At c t → (p : Popped) → At c ((openTook t p) .1)
-  unfolding openTook
+  at-open-took : (t : List ℕ) → At c t → (p : Popped) → At c ((takeIfPopped t p) .1)
+  unfolding takeIfPopped
   at-open-took t h (Popped.Item item l) = at-window-took (setHead t 12 (l .key .slot)) (at-head t h 12 (l .key .slot) refl) item l
   at-open-took t h (Popped.Nothing l) = h
 
@@ -124,13 +124,13 @@ module _ {c : ℕ} where
       cond-holds (TableAt c) (ltb (fastSlot t) (issued t)) _ (Took.Nothing, t)
       (λ e. cond-holds (TableAt c) (eqb (laneAt t (fastSlot t) .registered) 1) _ (Took.Nothing, t) (λ f. at-fast-took t h _) (λ f. h)) (λ e. h)
 
-  at-window : (t r : List ℕ) → At c t → At c ((takeWindow t r) .1)
-  unfolding takeWindow
+  at-window : (t r : List ℕ) → At c t → At c ((takeFrontWindow t r) .1)
+  unfolding takeFrontWindow
   at-window t r h =
       cond-holds (TableAt c) (eqb (queueCount t) 0) (Took.Nothing, t) _ (λ e. h) (λ e. at-open-took t h _)
 
-  at-due : (t : List ℕ) → At c t → At c (collectedIfDue t)
-  unfolding collectedIfDue
+  at-due : (t : List ℕ) → At c t → At c (collectIfDue t)
+  unfolding collectIfDue
   at-due t h =
       cond-holds (At c) (eqb (budget t) 0) _ t
       (λ e. cond-holds (At c) (eqb (queueCount t) 0) t (setHead (collectReady false t) 5 64) (λ f. h) (λ f. at-head (collectReady false t) (at-collected false t h) 5 64 refl)) (λ e. h)
@@ -140,10 +140,10 @@ module _ {c : ℕ} where
   at-poll-loop t r h = at-else (turns t r false) _ (at-turns t r false h) (λ u k. at-turns (collectReady true u) r false (at-collected true u k))
 
   at-one : (t r : List ℕ) → At c t → At c ((takeOne t r) .1)
-  unfolding takeOne refillTake
+  unfolding takeOne tryRecvRefill
   at-one t r h =
       at-else (takeFast t r) _ (at-fast t r h)
-      (λ u k. at-else (takeWindow (collectedIfDue u) r) _ (at-window (collectedIfDue u) r (at-due u k)) (λ v i. at-poll-loop v r i))
+      (λ u k. at-else (takeFrontWindow (collectIfDue u) r) _ (at-window (collectIfDue u) r (at-due u k)) (λ v i. at-poll-loop v r i))
 
   at-lone : (t r : List ℕ) → At c t → At c ((takeLone t r) .1)
   unfolding takeLone
@@ -177,13 +177,13 @@ module _ {c : ℕ} where
 
   -- ---- the targeted receive
 
-  at-settled : (t : List ℕ) → At c t → (found : EmptyLane) → At c ((targetSettled t found) .1)
-  unfolding targetSettled
+  at-settled : (t : List ℕ) → At c t → (found : EmptyLane) → At c ((settleTarget t found) .1)
+  unfolding settleTarget
   at-settled t h found =
       at-retired-if (found .disconnected) _ (at-removed (putLane t (found .lane)) (at-put t h (found .lane)) (found .lane .key .slot)) (found .lane)
 
-  at-kept : (t : List ℕ) → At c t → (l : Lane) → At c (targetKept t l)
-  unfolding targetKept targetQueued
+  at-kept : (t : List ℕ) → At c t → (l : Lane) → At c (keepTarget t l)
+  unfolding keepTarget queueTarget
   at-kept t h l =
       let p = at-put t h l in
       let q = at-pushed-back _ (at-marked-if-idle _ (at-put t h (withTurn 1 1 0 l)) l) (l .key .slot) in
@@ -192,7 +192,7 @@ module _ {c : ℕ} where
   at-target : (t r : List ℕ) → At c t → (x : ℕ) (p : Refill) → At c ((targetTook t r x p) .1)
   unfolding targetTook
   at-target t r h x (Refill.Idle found) = at-settled t h found
-  at-target t r h x (Refill.Ready l) = at-kept t h (popTargeted (ringOf x (capacity t)) r l .lane)
+  at-target t r h x (Refill.Ready l) = at-kept t h (popTargeted (newRing x (capacity t)) r l .lane)
 
   -- ---- the batch
 
@@ -230,17 +230,17 @@ module _ {c : ℕ} where
   at-refresh : (t : List ℕ) → At c t → At c ((refreshActive t) .1)
   unfolding refreshActive
   at-refresh t h =
-      at-else-front (runDown (collectedIfDue t)) _ (at-run-down (collectedIfDue t) (at-due t h)) (λ u k. at-run-down (collectReady true u) (at-collected true u k))
+      at-else-front (runDown (collectIfDue t)) _ (at-run-down (collectIfDue t) (at-due t h)) (λ u k. at-run-down (collectReady true u) (at-collected true u k))
 
   at-chunk : (t : List ℕ) → At c t → (n : ℕ) (l : Lane) → At c (chunkGiven t n l)
-  unfolding chunkGiven gaveChunk rotatedIf
+  unfolding chunkGiven gaveChunk rotateIf
   at-chunk t h n l =
       let e = endFullBurst (moveChunk (capacity t) n l) in
       let p = at-put t h (e .lane) in
-      at-head (rotatedIf (e .ended) (putLane t (e .lane)))
-      (cond-holds (At c) (e .ended) (rotated (putLane t (e .lane))) (putLane t (e .lane)) (λ d. head-rotated (putLane t (e .lane)) 10 refl refl ∙ p) (λ d. p)) 5 (fullBudget (budget t) - n) refl
+      at-head (rotateIf (e .ended) (putLane t (e .lane)))
+      (cond-holds (At c) (e .ended) (rotateLeft (putLane t (e .lane))) (putLane t (e .lane)) (λ d. head-rotated (putLane t (e .lane)) 10 refl refl ∙ p) (λ d. p)) 5 (fullBudget (budget t) - n) refl
 
-  at-chunk-then : (f : Front × List ℕ) (r : List ℕ) (left : ℕ) (more : List ℕ → ℕ → Drained) → At c (f .1) → ((u : List ℕ) (m : ℕ) → At c u → At c ((more u m) .1))
+  at-chunk-then : (f : Front × List ℕ) (r : List ℕ) (left : ℕ) (more : List ℕ → ℕ → HandsAndTable) → At c (f .1) → ((u : List ℕ) (m : ℕ) → At c u → At c ((more u m) .1))
       → At c ((chunkThen f r left more) .1)
   unfolding chunkThen
   at-chunk-then (Front.None, t) r left more h g = h
@@ -280,8 +280,8 @@ call-keeps-cursor t r (Receive s) = receive-keeps-cursor t r s
 call-keeps-cursor t r (Control s) = control-keeps-cursor t r s
 
 module _ (M : StoreCalls) (i : AsInner M) where
-  calls-keep-cursor : (w : List ℕ × List ℕ) (calls : List Call) → StoreInOrder (w .0) (w .1) → firstCursor ((after (listsOf M) w calls) .0) ≡ firstCursor (w .0)
-  unfolding after
+  calls-keep-cursor : (w : List ℕ × List ℕ) (calls : List Call) → StoreInOrder (w .0) (w .1) → firstCursor ((afterList (listsOf M) w calls) .0) ≡ firstCursor (w .0)
+  unfolding afterList
   calls-keep-cursor w [] o = refl
   calls-keep-cursor w (s ∷ calls) o =
       calls-keep-cursor ((listsOf M .step w s) .1) calls (words-keep M i (w .0) (w .1) o s)
@@ -292,5 +292,5 @@ module _ (M : StoreCalls) (i : AsInner M) where
   rings-start-at-first-cursor x most k =
       let v = storesAfter M x in
       let o = stays-in-order M i x in
-      let here : firstCursor (v .0) ≡ x .opening .cursor = calls-keep-cursor (opened x) (x .calls) (opened-in-order x) ∙ opening-puts-cursor (x .opening) (x .table) (x .rings) (x .accepted) in
+      let here : firstCursor (v .0) ≡ x .opening .cursor = calls-keep-cursor (openedStores x) (x .calls) (opened-in-order x) ∙ opening-puts-cursor (x .opening) (x .table) (x .rings) (x .accepted) in
       rw (i .same-words (v .0) (v .1) o (Sender (RegisterSender most))) (rw here at (registered-starts (v .0) (v .1) o most k))

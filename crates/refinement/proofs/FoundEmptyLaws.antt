@@ -11,11 +11,11 @@ use Rattle.model.specs.State.{Slot}
 use Rattle.model.specs.Changes.{withQueue, put, settledEmpty}
 use Rattle.model.specs.Order.{Ordered}
 use Rattle.model.specs.Turn as rules
-use Rattle.model.proofs.OrderKept.{settle-empty-ordered}
+use Rattle.demands.proofs.OrderKept.{settle-empty-ordered}
 use Rattle.lane.specs.declared.lane.Lane.{Lane}
 use Rattle.lane.specs.declared.lane.EmptyLane.{EmptyLane}
-use Rattle.yring.specs.Ring.{ringOf}
-use Rattle.lane.specs.Lane.{held}
+use Rattle.yring.specs.Ring.{newRing}
+use Rattle.lane.specs.Lane.{heldItems}
 use Rattle.lane.specs.Table.{laneAt, putLane}
 use Rattle.lane.proofs.TableLaws.{slot-of-lane}
 use Rattle.queues.specs.Header.{issued, slots, freeCount, budget, capacity, fastSlot, laneCount, livingCount}
@@ -24,7 +24,7 @@ use Rattle.ready.specs.Ready.{pageBit}
 use Rattle.store.specs.View.{flag, slotOf, slotAt, view}
 use Rattle.store.specs.Order.{Flags, Stores, StoreInOrder}
 use Rattle.store.specs.Registry.{retired, retireLane}
-use Rattle.turns.specs.Turn.{retiredIf}
+use Rattle.turns.specs.Turn.{retireIf}
 use Rattle.store.proofs.ViewLaws.{slot-in, view-put-lane}
 use Rattle.store.proofs.StepLaws.{Step}
 use Rattle.store.proofs.StoreLaws.{lane-counted, registered-seen, OtherWindows, Owes, stores-after}
@@ -46,7 +46,7 @@ module _ (t r : List ℕ) (o : StoreInOrder t r) (x : ℕ) (h : x < issued t) (g
   sees : slot ≡ slotAt t r x
   sees = slot-in t r x h
 
-  slot-settled : slotOf l (pageBit t x) (held (ringOf x (capacity t)) r l) ≡ settledEmpty slot
+  slot-settled : slotOf l (pageBit t x) (heldItems (newRing x (capacity t)) r l) ≡ settledEmpty slot
   unfolding slotAt
   slot-settled =
       slot-path _ _
@@ -85,8 +85,8 @@ module _ (t r : List ℕ) (o : StoreInOrder t r) (x : ℕ) (h : x < issued t) (g
       (settled : view u r ≡ withQueue w (put x (settledEmpty slot) (view t r))) (alone : count x w ≡ 0) (rest : (y : ℕ) → x ≢ y → count y w ≡ count y (queueOf t))
       (windows : OtherWindows t x w (fastSlot t) (budget t)) where
     -- the rules' step
-    pub settled-view : view (retiredIf (found .disconnected) u (found .lane)) r ≡ rules.settleEmpty x w (view t r)
-    unfolding retiredIf rules.settleEmpty rules.retireLaneIf
+    pub settled-view : view (retireIf (found .disconnected) u (found .lane)) r ≡ rules.settleEmpty x w (view t r)
+    unfolding retireIf rules.settleEmpty rules.retireLaneIf
     settled-view = ap (λ (b : Bool). view (cond b (retireLane u l) u) r) found-dropped ∙ go (not (slot .living))
       where
         go : (b : Bool) → view (cond b (retireLane u l) u) r ≡ rules.retireLaneIf b x (withQueue w (put x (settledEmpty slot) (view t r)))
@@ -133,15 +133,15 @@ module _ (t r : List ℕ) (o : StoreInOrder t r) (x : ℕ) (h : x < issued t) (g
           living-count = d .living-count;
         }
 
-    settled-stores : Stores (retiredIf (found .disconnected) u (found .lane)) r
-    unfolding retiredIf
+    settled-stores : Stores (retireIf (found .disconnected) u (found .lane)) r
+    unfolding retireIf
     settled-stores = go (found .disconnected)
       where
         go : (b : Bool) → Stores (cond b (retireLane u l) u) r
         go true = stores-after t r _ r (o .stores) x h (retired l) _ _ _ _ _ (step-retire-lane step l found-slot h room) owes-retired (o .stores .rings-room)
         go false = stores-after t r _ r (o .stores) x h l _ _ _ _ _ step owes-settled (o .stores .rings-room)
 
-    pub settled-in-order : StoreInOrder (retiredIf (found .disconnected) u (found .lane)) r
+    pub settled-in-order : StoreInOrder (retireIf (found .disconnected) u (found .lane)) r
     unfolding view
     settled-in-order =
         record {

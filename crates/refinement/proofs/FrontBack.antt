@@ -9,18 +9,18 @@ use native.Mathlib.Omega.{arith}
 use Rattle.model.specs.Lists.{if, count}
 use Rattle.model.specs.State.{State}
 use Rattle.model.specs.Changes.{withQueue, withBudget, put, withRing, popped}
-use Rattle.model.proofs.OrderKept as kept
+use Rattle.demands.proofs.OrderKept as kept
 use Rattle.lane.specs.declared.lane.Lane.{Lane}
-use Rattle.yring.specs.Ring.{ringOf}
-use Rattle.lane.specs.Lane.{held}
+use Rattle.yring.specs.Ring.{newRing}
+use Rattle.lane.specs.Lane.{heldItems}
 use Rattle.lane.specs.Order.{InOrder}
 use Rattle.lane.specs.Table.{laneAt, putLane, setHead}
 use Rattle.queues.specs.Header.{budget, capacity, fastSlot, laneCount, livingCount}
-use Rattle.queues.specs.Queue.{queueOf, rotated}
+use Rattle.queues.specs.Queue.{queueOf, rotateLeft}
 use Rattle.queues.proofs.QueueLaws.{queue-putLane, shaped-putLane}
 use Rattle.store.specs.View.{view}
 use Rattle.store.specs.Order.{Stores, StoreInOrder}
-use Rattle.turns.specs.Turn.{rotatedIf}
+use Rattle.turns.specs.Turn.{rotateIf}
 use Rattle.store.proofs.ViewLaws.{view-put-holding, view-rotated, view-budget}
 use Rattle.store.proofs.StepLaws.{Step, step-start, step-put-lane, step-rotated, step-budget}
 use Rattle.store.proofs.StoreLaws.{Owes, stores-after, windows-front}
@@ -41,7 +41,7 @@ pub record Back (t : List ℕ) (x : ℕ) (m : Lane) : Type 0 where
 module _ (t r : List ℕ) (o : StoreInOrder t r) (x : ℕ) (q : List ℕ) (e : queueOf t ≡ x ∷ q) (rotate : Bool) (m : Lane) (k : Back t x m) (b : ℕ) where
   -- the items left
   abbrev left : List ℕ
-  left = held (ringOf x (capacity t)) r m
+  left = heldItems (newRing x (capacity t)) r m
 
   front : FrontLane t x q
   front = front-lane t r o x q e
@@ -64,21 +64,21 @@ module _ (t r : List ℕ) (o : StoreInOrder t r) (x : ℕ) (q : List ℕ) (e : q
   abbrev queueAfter : Bool → List ℕ
   queueAfter b = if b (q ++ (x ∷ [])) (x ∷ q)
 
-  view-turned : (b : Bool) → view (cond b (rotated (putLane t m)) (putLane t m)) r ≡ withQueue (queueAfter b) (view (putLane t m) r)
+  view-turned : (b : Bool) → view (cond b (rotateLeft (putLane t m)) (putLane t m)) r ≡ withQueue (queueAfter b) (view (putLane t m) r)
   view-turned true = view-rotated (putLane t m) r (shaped-putLane t (o .stores .shaped) m) x q queue-stored
   view-turned false = ap (λ (w : List ℕ). withQueue w (view (putLane t m) r)) queue-stored
 
-  step-turned : (b : Bool) → Step t (cond b (rotated (putLane t m)) (putLane t m)) x m (queueAfter b) (fastSlot t) (budget t) (laneCount t) (livingCount t)
+  step-turned : (b : Bool) → Step t (cond b (rotateLeft (putLane t m)) (putLane t m)) x m (queueAfter b) (fastSlot t) (budget t) (laneCount t) (livingCount t)
   step-turned b = go b (step-put-lane (step-start t r (o .stores) x) m (slot-by t x m (k .same-flags)) (front .is-issued))
     where
       go : (b : Bool) → Step t (putLane t m) x m (queueOf t) (fastSlot t) (budget t) (laneCount t) (livingCount t)
-          → Step t (cond b (rotated (putLane t m)) (putLane t m)) x m (queueAfter b) (fastSlot t) (budget t) (laneCount t) (livingCount t)
+          → Step t (cond b (rotateLeft (putLane t m)) (putLane t m)) x m (queueAfter b) (fastSlot t) (budget t) (laneCount t) (livingCount t)
       go true s = step-rotated s x q e
       go false s = subst (λ (w : List ℕ). Step t (putLane t m) x m w (fastSlot t) (budget t) (laneCount t) (livingCount t)) e s
 
   -- with b as the budget
-  pub back-view : view (setHead (rotatedIf rotate (putLane t m)) 5 b) r ≡ withBudget b (withQueue (if rotate (q ++ (x ∷ [])) (x ∷ q)) stored)
-  unfolding rotatedIf
+  pub back-view : view (setHead (rotateIf rotate (putLane t m)) 5 b) r ≡ withBudget b (withQueue (if rotate (q ++ (x ∷ [])) (x ∷ q)) stored)
+  unfolding rotateIf
   back-view =
       view-budget _ r (step-turned rotate .shaped) b ∙ ap (withBudget b) (view-turned rotate) ∙ ap (λ (s : State). withBudget b (withQueue (queueAfter rotate) s)) view-stored
 
@@ -106,6 +106,6 @@ module _ (t r : List ℕ) (o : StoreInOrder t r) (x : ℕ) (q : List ℕ) (e : q
         living-count = ap (λ (z : Flagged). livingCount t + z .3) (sym (k .same-flags));
       }
 
-  pub back-stores : Stores (setHead (rotatedIf rotate (putLane t m)) 5 b) r
-  unfolding rotatedIf
+  pub back-stores : Stores (setHead (rotateIf rotate (putLane t m)) 5 b) r
+  unfolding rotateIf
   back-stores = stores-after t r _ r (o .stores) x (front .is-issued) m _ _ _ _ _ (step-budget (step-turned rotate) b) owes-back (o .stores .rings-room)

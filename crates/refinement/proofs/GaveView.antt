@@ -12,12 +12,12 @@ use Rattle.model.specs.State.{Slot, releaseBatch}
 use Rattle.model.specs.Changes.{withQueue, withBudget, put, popped}
 use Rattle.model.specs.Order.{Ordered}
 use Rattle.model.specs.Turn as rules
-use Rattle.model.proofs.OrderKept as kept
+use Rattle.demands.proofs.OrderKept as kept
 use Rattle.lane.specs.declared.lane.Lane.{Lane}
 use Rattle.lane.specs.declared.lane.LanePoll.{LanePoll}
 use Rattle.lane.specs.declared.lane.LanePoll.the-variants as LanePoll
-use Rattle.yring.specs.Ring.{ringOf}
-use Rattle.lane.specs.Lane.{held, poll}
+use Rattle.yring.specs.Ring.{newRing}
+use Rattle.lane.specs.Lane.{heldItems, poll}
 use Rattle.lane.specs.Order.{InOrder, polledLane}
 use Rattle.lane.specs.Table.{laneAt}
 use Rattle.lane.proofs.OrderLaws.{poll-keeps}
@@ -43,20 +43,20 @@ less-one-alike (suc n) = rw (ne-eqb (suc n) 0 (λ z. omega arith))
 -- ---- the lane in slot x as the poll leaves it
 
 pub record Gives (t r : List ℕ) (x : ℕ) (fair : Bool) (item : ℕ) (rotate : Bool) (m : Lane) : Type 0 where
-  pub takes : held (ringOf x (capacity t)) r (laneAt t x) ≡ item ∷ held (ringOf x (capacity t)) r m
+  pub takes : heldItems (newRing x (capacity t)) r (laneAt t x) ≡ item ∷ heldItems (newRing x (capacity t)) r m
   pub counts : Polled (capacity t) fair (laneAt t x) rotate m
   pub same-flags : flagged m ≡ flagged (laneAt t x)
   pub order : InOrder (capacity t) m
 
 pub gives-by-poll : (t r : List ℕ) → Stores t r → (x : ℕ) → x < issued t → laneAt t x .registered ≡ 1 → (fair : Bool) (item : ℕ) (rotate gave : Bool) (m : Lane)
-    → poll (ringOf x (capacity t)) r fair (laneAt t x) ≡ LanePoll.Item item rotate gave m → Gives t r x fair item rotate m
+    → poll (newRing x (capacity t)) r fair (laneAt t x) ≡ LanePoll.Item item rotate gave m → Gives t r x fair item rotate m
 gives-by-poll t r o x h g fair item rotate gave m e =
     let i = o .lanes x h g in
     record {
-      takes = poll-takes-first (ringOf x (capacity t)) r (laneAt t x) (issued-ring-in t r o x h) i fair item rotate gave m e;
-      counts = poll-counts (ringOf x (capacity t)) r fair (laneAt t x) i item rotate gave m e;
-      same-flags = subst (PollKept (laneAt t x)) e (poll-kept (ringOf x (capacity t)) r fair (laneAt t x));
-      order = subst (λ (p : LanePoll). InOrder (capacity t) (polledLane p)) e (poll-keeps (ringOf x (capacity t)) (o .power .most) r (laneAt t x) i fair);
+      takes = poll-takes-first (newRing x (capacity t)) r (laneAt t x) (issued-ring-in t r o x h) i fair item rotate gave m e;
+      counts = poll-counts (newRing x (capacity t)) r fair (laneAt t x) i item rotate gave m e;
+      same-flags = subst (PollKept (laneAt t x)) e (poll-kept (newRing x (capacity t)) r fair (laneAt t x));
+      order = subst (λ (p : LanePoll). InOrder (capacity t) (polledLane p)) e (poll-keeps (newRing x (capacity t)) (o .power .most) r (laneAt t x) i fair);
     }
 
 -- ---- it goes back to its slot, and to the back where its turn is over
@@ -67,7 +67,7 @@ module _ (t r : List ℕ) (o : StoreInOrder t r) (x : ℕ) (q : List ℕ) (e : q
 
   -- the items left
   abbrev left : List ℕ
-  left = held (ringOf x (capacity t)) r m
+  left = heldItems (newRing x (capacity t)) r m
 
   front : FrontLane t x q
   front = front-lane t r o x q e

@@ -14,7 +14,7 @@ use Rattle.model.specs.Lists.{if, from}
 use Rattle.model.specs.State.{State, registeredLanes, livingSenders}
 use Rattle.model.specs.Outcome.{Outcome, says}
 use Rattle.model.specs.Receive as rules
-use Rattle.model.proofs.Moves.{unless-law}
+use Rattle.demands.proofs.Moves.{unless-law}
 use Rattle.refinement.specs.Hands.{handsOf}
 use Rattle.store.specs.Order.{StoreInOrder}
 use Rattle.store.specs.View.{view}

@@ -20,13 +20,13 @@ use Rattle.model.specs.Receive.{queueLaneIf, releaseAll, receiveOutcome}
 use Rattle.model.specs.Order.{Ordered}
 use Rattle.model.specs.Runs.{Tick, gives, ends, handed, ticks}
 use Rattle.model.specs.Rules.{outcome}
-use Rattle.model.proofs.Counting.{Same, equal, other, same?, self, no}
-use Rattle.model.proofs.OrderKept.{first-own}
-use Rattle.model.proofs.Quiet.{Quiet, stays, goes, poll, poll-quiet, trans, settle-empty-quiet}
-use Rattle.model.proofs.Moves.{Moves, stays-put, credits, registers-new, registers-old, sends, posts, drops-it, pauses-it, resumes, resumes-not, closes-it, polls-all, shuts-it, takes, stops, aims, aims-none, Chain, stay, move, sender-move, control-move, call-chain}
-use Rattle.model.proofs.Demand2.{queue-lane-slot, queue-lane-parts, give-item-slot}
-use Rattle.model.proofs.LedgerAgrees.{retire-lane-slot, again-put}
-use Rattle.model.proofs.Grows.{move-grows}
+use Rattle.demands.proofs.Counting.{Same, equal, other, same?, self, no}
+use Rattle.demands.proofs.OrderKept.{first-own}
+use Rattle.demands.proofs.Quiet.{Quiet, stays, goes, poll, poll-quiet, trans, settle-empty-quiet}
+use Rattle.demands.proofs.Moves.{Moves, stays-put, credits, registers-new, registers-old, sends, posts, drops-it, pauses-it, resumes, resumes-not, closes-it, polls-all, shuts-it, takes, stops, aims, aims-none, Chain, stay, move, sender-move, control-move, call-chain}
+use Rattle.demands.proofs.Demand2.{queue-lane-slot, queue-lane-parts, give-item-slot}
+use Rattle.demands.proofs.LedgerAgrees.{retire-lane-slot, again-put}
+use Rattle.demands.proofs.Grows.{move-grows}
 
 -- the end of a registration
 unfoldable registering : Tick → Bool

@@ -12,16 +12,16 @@ use lib.ListN.{length}
 use Rattle.model.specs.State.{State}
 use Rattle.model.specs.Changes.{withQueue, withBudget, put, settledEmpty}
 use Rattle.model.specs.Turn as rules
-use Rattle.model.proofs.OrderKept as kept
+use Rattle.demands.proofs.OrderKept as kept
 use Rattle.lane.specs.declared.lane.EmptyLane.{EmptyLane}
 use Rattle.lane.specs.Table.{putLane, setHead}
 use Rattle.lane.proofs.TableLaws.{frames}
 use Rattle.queues.specs.Header.{slots, queueCount, freeCount, budget, fastSlot, laneCount, livingCount}
-use Rattle.queues.specs.Queue.{queueOf, poppedFront}
+use Rattle.queues.specs.Queue.{queueOf, popFront}
 use Rattle.queues.proofs.QueueLaws.{queue-frames, length-queue, queue-putLane, shaped-putLane}
 use Rattle.store.specs.View.{view}
 use Rattle.store.specs.Order.{StoreInOrder}
-use Rattle.turns.specs.Turn.{leftFront, budgetMet}
+use Rattle.turns.specs.Turn.{settleEmptyFront, meetBudget}
 use Rattle.store.proofs.ViewLaws.{view-popped-front, view-budget}
 use Rattle.store.proofs.StepLaws.{Step, step-start, step-put-lane, step-popped-front}
 use Rattle.store.proofs.StoreLaws.{room-in-free, windows-front}
@@ -34,7 +34,7 @@ pub use Rattle.refinement.proofs.EmptyLaneLaws.{slot-path, Empties, emp
 module _ (t r : List ℕ) (o : StoreInOrder t r) (x : ℕ) (q : List ℕ) (e : queueOf t ≡ x ∷ q) (found : EmptyLane) (k : Empties t r x found) where
   -- the table before the lane may retire
   abbrev settled : List ℕ
-  settled = poppedFront (putLane t (found .lane))
+  settled = popFront (putLane t (found .lane))
 
   front : FrontLane t x q
   front = front-lane t r o x q e
@@ -54,20 +54,20 @@ module _ (t r : List ℕ) (o : StoreInOrder t r) (x : ℕ) (q : List ℕ) (e : q
   room = simp (queue-frames, frames) (room-in-free t r (o .stores) x (front .is-issued) (front .registered) (o .ordered))
 
   -- the rules' step
-  pub left-view : view (leftFront t found) r ≡ rules.settleEmpty x q (view t r)
-  unfolding leftFront view
+  pub left-view : view (settleEmptyFront t found) r ≡ rules.settleEmpty x q (view t r)
+  unfolding settleEmptyFront view
   left-view =
       settled-view t r o x (front .is-issued) (front .registered) found k settled q step-settled room view-settled (front .alone)
       (kept.front-rest (view t r) x q e) (windows-front t r (o .stores) x q e q (fastSlot t) (budget t))
 
-  pub left-in-order : StoreInOrder (leftFront t found) r
-  unfolding leftFront view
+  pub left-in-order : StoreInOrder (settleEmptyFront t found) r
+  unfolding settleEmptyFront view
   left-in-order =
       settled-in-order t r o x (front .is-issued) (front .registered) found k settled q step-settled room view-settled (front .alone)
       (kept.front-rest (view t r) x q e) (windows-front t r (o .stores) x q e q (fastSlot t) (budget t))
 
   -- the queue without its front
-  pub left-queue : queueOf (leftFront t found) ≡ q
+  pub left-queue : queueOf (settleEmptyFront t found) ≡ q
   unfolding view
   left-queue = ap (λ (s : State). s .queue) left-view ∙ kept.settle-empty-queue x q (view t r)
 
@@ -84,13 +84,13 @@ module _ (t r : List ℕ) (o : StoreInOrder t r) where
   met true e = view-budget t r (o .stores .shaped) 64 ∙ ap (λ (n : ℕ). withBudget (rules.refill n) (view t r)) (sym (eqb-true (budget t) 0 e))
   met false e = ap (λ (n : ℕ). withBudget n (view t r)) (sym (refill-some (budget t) (pos-of-ne-zero (eqb-false (budget t) 0 e))))
 
-  pub met-view : (q : List ℕ) → queueOf t ≡ q → view (budgetMet t) r ≡ rules.beforeNextTurn q (view t r)
-  unfolding view budgetMet rules.beforeNextTurn
+  pub met-view : (q : List ℕ) → queueOf t ≡ q → view (meetBudget t) r ≡ rules.beforeNextTurn q (view t r)
+  unfolding view meetBudget rules.beforeNextTurn
   met-view [] e = rw (eq-eqb (queueCount t) 0 (sym (length-queue t) ∙ ap length e))
   met-view (y ∷ q) e = rw (ne-eqb (queueCount t) 0 (λ z. omega (arith, length-queue t, ap length e))) (met (eqb (budget t) 0) refl)
 
-  pub met-in-order : StoreInOrder (budgetMet t) r
-  unfolding budgetMet
+  pub met-in-order : StoreInOrder (meetBudget t) r
+  unfolding meetBudget
   met-in-order = go (eqb (queueCount t) 0) (eqb (budget t) 0)
     where
       go : (a b : Bool) → StoreInOrder (cond a t (cond b (setHead t 5 64) t)) r

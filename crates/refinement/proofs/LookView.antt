@@ -15,9 +15,9 @@ use Rattle.lane.specs.declared.lane.Lane.{Lane}
 use Rattle.lane.specs.declared.lane.EmptyLane.{EmptyLane}
 use Rattle.lane.specs.declared.lane.Refill.{Refill}
 use Rattle.lane.specs.declared.lane.Refill.the-variants as Refill
-use Rattle.yring.specs.Ring.{ringOf, itemAt}
+use Rattle.yring.specs.Ring.{newRing, itemAt}
 use Rattle.lane.specs.Order.{Counts, Filled}
-use Rattle.lane.specs.Lane.{headOn, held, refill}
+use Rattle.lane.specs.Lane.{advance, heldItems, refill}
 use Rattle.lane.specs.Table.{laneAt}
 use Rattle.lane.proofs.OrderLaws.{refill-fills}
 use Rattle.lane.proofs.HeldLaws.{first-held, reload-holds, refill-is}
@@ -25,14 +25,14 @@ use Rattle.queues.specs.Header.{issued, queueCount, capacity}
 use Rattle.queues.specs.Queue.{queueOf, frontSlot}
 use Rattle.ready.specs.Ready.{collectReady}
 use Rattle.queues.proofs.QueueLaws.{length-queue, front-is}
-use Rattle.receive_batch.specs.declared.drain.Front.{Front}
-use Rattle.receive_batch.specs.declared.drain.Front.the-variants as Front
-use Rattle.receive_batch.specs.declared.drain.Look.{Look}
+use Rattle.receive_batch.specs.declared.batch.Front.{Front}
+use Rattle.receive_batch.specs.declared.batch.Front.the-variants as Front
+use Rattle.receive_batch.specs.declared.batch.Look.{Look}
 use Rattle.store.specs.View.{slotAt, view}
 use Rattle.store.specs.Order.{Stores, StoreInOrder}
-use Rattle.turns.specs.Turn.{leftFront, budgetMet}
-use Rattle.turns.specs.Due.{collectedIfDue}
-use Rattle.receive_batch.specs.Drain.{lookBy, lookFront, afterLook, runDownWithin, runDown, elseFront, refreshActive, Reached}
+use Rattle.turns.specs.Turn.{settleEmptyFront, meetBudget}
+use Rattle.turns.specs.Due.{collectIfDue}
+use Rattle.receive_batch.specs.Batch.{lookBy, lookFront, afterLook, runDownWithin, runDown, elseFront, refreshActive, Reached}
 use Rattle.store.proofs.ViewLaws.{slot-in}
 use Rattle.store.proofs.StoreLaws.{issued-ring-in}
 use Rattle.store.proofs.CollectedView.{view-collect-all}
@@ -55,15 +55,15 @@ module _ (t r : List ℕ) (o : Stores t r) (x : ℕ) (h : x < issued t) (g : lan
   pub ready-filled : Filled (capacity t) l
   ready-filled = refill-fills (capacity t) (o .power .most) (laneAt t x) (o .lanes x h g) l e
 
-  pub ready-holds : held (ringOf x (capacity t)) r l ≡ held (ringOf x (capacity t)) r (laneAt t x)
-  ready-holds = ap (held (ringOf x (capacity t)) r) (sym (refill-is (laneAt t x) l e)) ∙ reload-holds (ringOf x (capacity t)) r (laneAt t x)
+  pub ready-holds : heldItems (newRing x (capacity t)) r l ≡ heldItems (newRing x (capacity t)) r (laneAt t x)
+  ready-holds = ap (heldItems (newRing x (capacity t)) r) (sym (refill-is (laneAt t x) l e)) ∙ reload-holds (newRing x (capacity t)) r (laneAt t x)
 
   -- its first item
-  ready-first : view t r .slotOf x .ring ≡ itemAt (ringOf x (capacity t)) r (l .head) ∷ held (ringOf x (capacity t)) r (headOn 1 l)
+  ready-first : view t r .slotOf x .ring ≡ itemAt (newRing x (capacity t)) r (l .head) ∷ heldItems (newRing x (capacity t)) r (advance 1 l)
   unfolding slotAt
   ready-first =
       ap (λ (y : Slot). y .ring) (slot-in t r x h) ∙ sym ready-holds
-      ∙ first-held (ringOf x (capacity t)) r l (issued-ring-in t r o x h) (ready-filled .order) (known (ready-filled .order .counts) (ready-filled .some))
+      ∙ first-held (newRing x (capacity t)) r l (issued-ring-in t r o x h) (ready-filled .order) (known (ready-filled .order .counts) (ready-filled .some))
     where
       known : {B d a c u b w : ℕ} → Counts B d a c u b w → 0 < c → 0 < a
       known k s = omega arith
@@ -85,7 +85,7 @@ module _ (t r : List ℕ) (o : StoreInOrder t r) (x : ℕ) (q : List ℕ) (e : q
       ap (λ (v : List ℕ). if (nonEmpty v) (view t r) (rules.runDownFrom q (rules.beforeNextTurn q (rules.settleEmpty x q (view t r)))))
       (ready-first t r (o .stores) x (front .is-issued) (front .registered) l f)
 
-  goes : (found : EmptyLane) (k : Empties t r x found) → rules.runDownFrom (x ∷ q) (view t r) ≡ rules.runDownFrom q (view (budgetMet (leftFront t found)) r)
+  goes : (found : EmptyLane) (k : Empties t r x found) → rules.runDownFrom (x ∷ q) (view t r) ≡ rules.runDownFrom q (view (meetBudget (settleEmptyFront t found)) r)
   unfolding rules.runDownFrom
   goes found k =
       ap (λ (v : List ℕ). if (nonEmpty v) (view t r) (rules.runDownFrom q (rules.beforeNextTurn q (rules.settleEmpty x q (view t r))))) (none-held t r o true x q e found k)
@@ -106,8 +106,8 @@ run-down-within-alike (x ∷ q) t r o e =
     go ih (Refill.Ready l) f = record { alike = sym (stays t r o x q e l f); in-order = o }
     go ih (Refill.Idle found) f =
         let k = empties-by-refill t r (o .stores) x (h .is-issued) (h .registered) found f in
-        subst (ReachedAs r (runDownWithin (length q) (budgetMet (leftFront t found)))) (sym (goes t r o x q e found k))
-        (ih (budgetMet (leftFront t found)) (left-ordered t r o true x q e found k) (left-rest t r o true x q e found k))
+        subst (ReachedAs r (runDownWithin (length q) (meetBudget (settleEmptyFront t found)))) (sym (goes t r o x q e found k))
+        (ih (meetBudget (settleEmptyFront t found)) (left-ordered t r o true x q e found k) (left-rest t r o true x q e found k))
 
 pub run-down-alike : (t r : List ℕ) → StoreInOrder t r → ReachedAs r (runDown t) (rules.runDown (view t r))
 unfolding runDown rules.runDown view
@@ -127,7 +127,7 @@ module _ (t r : List ℕ) (o : StoreInOrder t r) where
   pub refresh-alike : ReachedAs r (refreshActive t) (rules.polled (view t r))
   unfolding refreshActive elseFront rules.polled rules.collectIfNoneQueued view
   refresh-alike =
-      let u = collectedIfDue t in
+      let u = collectIfDue t in
       let i = due-in-order t r o in
       go (runDown u) (subst (λ (s : State). ReachedAs r (runDown u) (rules.runDown s)) (due-view t r o) (run-down-alike u r i)) (run-down-searched u (turning-of u r i) .reached)
     where

@@ -15,11 +15,11 @@ use Rattle.model.specs.Order.{Ordered}
 use Rattle.model.specs.Outcome.{says}
 use Rattle.model.specs.Turn as turns
 use Rattle.model.specs.Receive as rules
-use Rattle.model.proofs.Moves.{nothing-taken-gives-none}
-use Rattle.model.proofs.OrderKept.{retire-empty-paused-ordered}
+use Rattle.demands.proofs.Moves.{nothing-taken-gives-none}
+use Rattle.demands.proofs.OrderKept.{retire-empty-paused-ordered}
 use Rattle.lane.specs.declared.lane.Lane.{Lane}
-use Rattle.lane.specs.Lane.{held, closeFast, prefetch, reload, reloadIsEmpty, refill, readyOrIdle}
-use Rattle.yring.specs.Ring.{ringOf}
+use Rattle.lane.specs.Lane.{heldItems, closeFast, prefetch, reload, reloadIsEmpty, refill, readyOrIdle}
+use Rattle.yring.specs.Ring.{newRing}
 use Rattle.lane.specs.Table.{laneAt}
 use Rattle.lane.proofs.OrderLaws.{cond-holds, refill-fills}
 use Rattle.lane.proofs.HeldLaws.{reload-holds, pop-targeted-takes-first}
@@ -28,8 +28,8 @@ use Rattle.queues.specs.Queue.{queueOf}
 use Rattle.store.specs.View.{flag, slotAt, view}
 use Rattle.store.specs.Order.{Stores, StoreInOrder}
 use Rattle.store.specs.Registry.{retired, retireLane}
-use Rattle.all_lanes.specs.Batch.{forSlots}
-use Rattle.turns.specs.Turn.{retiredIf}
+use Rattle.all_lanes.specs.AllLanes.{forSlots}
+use Rattle.turns.specs.Turn.{retireIf}
 use Rattle.turns.specs.Drained.{retireEmptyPaused, retireEmptyPausedLanes, emptyOrDrained, nothingTaken}
 use Rattle.store.specs.Words.{withRings}
 use Rattle.store.proofs.ViewLaws.{slot-in}
@@ -98,13 +98,13 @@ module _ (t r : List ℕ) (o : Stores t r) (x : ℕ) (h : x < issued t) where
 
 -- a look at a lane in order finds nothing exactly if its ring is empty
 abbrev itemsOf : List ℕ → List ℕ → ℕ → List ℕ
-itemsOf t r x = held (ringOf x (capacity t)) r (laneAt t x)
+itemsOf t r x = heldItems (newRing x (capacity t)) r (laneAt t x)
 
 module _ (t r : List ℕ) (o : Stores t r) (x : ℕ) (h : x < issued t) (g : laneAt t x .registered ≡ 1) where
   abbrev lane : Lane
   lane = laneAt t x
 
-  pub looked-finds : eqb (looked lane .cached) 0 ≡ not (nonEmpty (held (ringOf x (capacity t)) r (laneAt t x)))
+  pub looked-finds : eqb (looked lane .cached) 0 ≡ not (nonEmpty (heldItems (newRing x (capacity t)) r (laneAt t x)))
   unfolding refill readyOrIdle
   looked-finds = go (eqb (looked lane .cached) 0) refl
     where
@@ -112,11 +112,11 @@ module _ (t r : List ℕ) (o : Stores t r) (x : ℕ) (h : x < issued t) (g : lan
       some v vs e = rw e
 
       go : (b : Bool) → eqb (looked lane .cached) 0 ≡ b → b ≡ not (nonEmpty (itemsOf t r x))
-      go true e = rw (looked-empty (ringOf x (capacity t)) (o .power .most) r lane (o .lanes x h g) (eqb-true _ 0 e))
+      go true e = rw (looked-empty (newRing x (capacity t)) (o .power .most) r lane (o .lanes x h g) (eqb-true _ 0 e))
       go false e =
           some _ _
-          (sym (reload-holds (ringOf x (capacity t)) r lane)
-          ∙ pop-targeted-takes-first (ringOf x (capacity t)) r (looked lane) (issued-ring-in t r o x h)
+          (sym (reload-holds (newRing x (capacity t)) r lane)
+          ∙ pop-targeted-takes-first (newRing x (capacity t)) r (looked lane) (issued-ring-in t r o x h)
           (refill-fills (capacity t) (o .power .most) lane (o .lanes x h g) (looked lane) (rw e)))
 
 -- the rules' test of a slot
@@ -132,7 +132,7 @@ module _ (t r : List ℕ) (o : StoreInOrder t r) (x : ℕ) (h : x < issued t) wh
 
   -- a slot's turn retires its lane exactly if the rules' test says so
   slot-cases : (P : List ℕ → Bool → Type 0) → (lane₁ .registered ≡ 1 → P (retireLane t (looked lane₁)) true) → P t false → P (retireEmptyPaused t x) (retires (view t r) x)
-  unfolding retireEmptyPaused retiredIf reloadIsEmpty slotAt
+  unfolding retireEmptyPaused retireIf reloadIsEmpty slotAt
   slot-cases P gone stays =
       subst (P (retireEmptyPaused t x)) (sym (ap (λ (m : Slot). both (m .registered) (both (m .paused) (not (nonEmpty (m .ring))))) (slot-in t r x h)))
       (go (flag (lane₁ .registered)) refl)

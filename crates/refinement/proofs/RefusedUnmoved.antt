@@ -16,14 +16,14 @@ use Rattle.model.specs.declared.ControlCall.the-variants.{Pause, Resume, CloseL
 use Rattle.model.specs.declared.Refusal.{Refusal}
 use Rattle.model.specs.declared.Answer.{Answer}
 use Rattle.model.specs.declared.Answer.the-variants.{Items, Empty, Disconnected, Refused}
-use Rattle.model.specs.Receive.{written}
+use Rattle.model.specs.Receive.{writtenTo}
 use Rattle.model.specs.Runs.{accepted}
-use Rattle.model.proofs.Counting.{no}
+use Rattle.demands.proofs.Counting.{no}
 use Rattle.yring.specs.Cursor.{distance}
 use Rattle.lane.specs.declared.lane.Refill.{Refill}
 use Rattle.lane.specs.declared.lane.Refill.the-variants as Refill
-use Rattle.yring.specs.Ring.{push}
-use Rattle.lane.specs.Lane.{sent, pushAndFlush, refill}
+use Rattle.yring.specs.Ring.{pushItem}
+use Rattle.lane.specs.Lane.{sent, pushAndFlushItem, refill}
 use Rattle.lane.specs.Table.{laneAt}
 use Rattle.queues.specs.Header.{capacity, channel, laneCount, livingCount}
 use Rattle.store.specs.declared.refusal.Verdict.{Verdict}
@@ -32,13 +32,13 @@ use Rattle.turns.specs.declared.turn.Took.{Took}
 use Rattle.turns.specs.declared.turn.Took.the-variants as Took
 use Rattle.store.specs.Words.{Words, unlessRefused, withRings}
 use Rattle.opening.specs.Opening.{openSized, openStore}
-use Rattle.sender.specs.Sender.{pushed, sendSignaled, takenSignaled, sendUnsignaled, registerSender, trySend, trySendUnsignaled, dropSender, senderWords}
+use Rattle.sender.specs.Sender.{pushed, sendSignaled, takeSignaled, sendUnsignaled, registerSender, trySend, trySendUnsignaled, dropSender, senderWords}
 use Rattle.control.specs.Control.{pause, resume, closeLane, closeReceiver}
-use Rattle.all_lanes.specs.Batch.{releaseConsumed, pollAllLanes, countHeld}
+use Rattle.all_lanes.specs.AllLanes.{releaseConsumed, pollAllLanes, countHeld}
 use Rattle.turns.specs.Drained.{retireEmptyPausedLanes, emptyOrDrained, nothingTaken}
 use Rattle.receive.specs.Receive.{takeOne, takeFair, answerOne, tryRecv, tryRecvFair}
-use Rattle.receive_batch.specs.Drain.{drained, batchVerdict, answerItems, batchAnswer, tryRecvBatchInto, handedBy, batchHands, batchInto}
-use Rattle.receive_from.specs.Target.{targetSettled, targetTook, takeFrom, tryRecvFrom}
+use Rattle.receive_batch.specs.Batch.{drained, batchVerdict, answerItems, batchAnswer, tryRecvBatchInto, handedBy, batchHands, batchInto}
+use Rattle.receive_from.specs.Target.{settleTarget, targetTook, takeFrom, tryRecvFrom}
 use Rattle.refinement.specs.Runs.{}
 use Rattle.control.specs.Calls.{controlWords}
 use Rattle.store.proofs.RefusalLaws.{unless-refused-case}
@@ -67,7 +67,7 @@ module _ (t r : List ℕ) where
     full = eqb (distance (laneAt t (k .slot) .tail) (laneAt t (k .slot) .released)) (capacity t)
 
     send-unmoved : Unmoved t r (sendSignaled t (pushed t r k v))
-    unfolding full sendSignaled takenSignaled pushAndFlush sent push accepted
+    unfolding full sendSignaled takeSignaled pushAndFlushItem sent pushItem accepted
     send-unmoved = go full refl
       where
         go : (b : Bool) → full ≡ b → Unmoved t r (sendSignaled t (pushed t r k v))
@@ -75,7 +75,7 @@ module _ (t r : List ℕ) where
         go false e = rw e (λ why f. absurd (no refl (ap accepted f)))
 
     unsignaled-unmoved : Unmoved t r (sendUnsignaled t (pushed t r k v))
-    unfolding full sendUnsignaled pushAndFlush sent push accepted
+    unfolding full sendUnsignaled pushAndFlushItem sent pushItem accepted
     unsignaled-unmoved = go full refl
       where
         go : (b : Bool) → full ≡ b → Unmoved t r (sendUnsignaled t (pushed t r k v))
@@ -118,7 +118,7 @@ answer-one-accepted channel (Took.Item item k, t) = refl
 answer-one-accepted channel (Took.Nothing, t) = nothing-taken-accepted t
 
 pub take-from-accepted : (t r : List ℕ) (x : ℕ) → accepted ((takeFrom t r x) .0) ≡ true
-unfolding takeFrom targetTook targetSettled accepted
+unfolding takeFrom targetTook settleTarget accepted
 take-from-accepted t r x = go (refill (laneAt t x))
   where
     settled : (b : Bool) → accepted (cond b Disconnected Empty) ≡ true
@@ -163,10 +163,10 @@ module _ (t r : List ℕ) (limit : ℕ) where
   batch-unmoved room = unless-accepted t r _ _ batch-accepted
 
 pub batch-output-unmoved : (t r out : List ℕ) (limit : ℕ) (why : Refusal) → (tryRecvBatchInto t r limit (length out)) .0 ≡ Refused why → (batchInto t r out limit) .3 ≡ out
-unfolding tryRecvBatchInto batchInto batchHands unlessRefused handedBy written accepted
+unfolding tryRecvBatchInto batchInto batchHands unlessRefused handedBy writtenTo accepted
 batch-output-unmoved t r out limit why e = go (batchVerdict t limit (length out)) e
   where
-    go : (v : Verdict) → (unlessRefused v t r (withRings r (batchAnswer t r limit))) .0 ≡ Refused why → written (handedBy v (drained t r limit .0)) out ≡ out
+    go : (v : Verdict) → (unlessRefused v t r (withRings r (batchAnswer t r limit))) .0 ≡ Refused why → writtenTo (handedBy v (drained t r limit .0)) out ≡ out
     go Pass f = absurd (no (batch-accepted t r limit) (ap accepted f))
     go (Refuse n) f = refl
 

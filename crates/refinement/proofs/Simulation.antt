@@ -6,8 +6,8 @@ use lib.ListN.{length}
 use Rattle.model.specs.declared.Answer.{Answer}
 use Rattle.model.specs.State.{State}
 use Rattle.model.specs.Rules.{theRules}
-use Rattle.model.specs.Words.{Simulation}
-use Rattle.model.proofs.Demand2.{opens-as}
+use Rattle.model.specs.Simulation.{Simulation}
+use Rattle.demands.proofs.Demand2.{opens-as}
 use Rattle.store.specs.View.{view}
 use Rattle.store.specs.Order.{StoreInOrder}
 use Rattle.refinement.specs.Runs.{StoreCalls, listsOf, innerCalls, theStores}

@@ -10,7 +10,7 @@ use lib.Dec.{ltb}
 use Rattle.model.specs.declared.LaneKey.{LaneKey}
 use Rattle.model.specs.State.{Slot, vacant}
 use Rattle.model.specs.Disconnected as rules
-use Rattle.model.proofs.Counting.{no}
+use Rattle.demands.proofs.Counting.{no}
 use Rattle.lane.specs.Table.{laneAt}
 use Rattle.queues.specs.Header.{issued}
 use Rattle.store.specs.View.{flag, slotAt, view}

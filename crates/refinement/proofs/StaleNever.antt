@@ -18,7 +18,7 @@ use Rattle.model.specs.declared.Answer.{Answer}
 use Rattle.model.specs.Lists.{count}
 use Rattle.model.specs.State.{Slot, State}
 use Rattle.model.specs.Rules.{outcome}
-use Rattle.model.proofs.Counting.{same-self}
+use Rattle.demands.proofs.Counting.{same-self}
 use Rattle.lane.specs.Table.{laneAt}
 use Rattle.queues.specs.Header.{issued, queueCount}
 use Rattle.queues.specs.Queue.{queueOf, frontSlot}
@@ -26,7 +26,7 @@ use Rattle.store.specs.View.{flag, slotAt, view}
 use Rattle.store.specs.Order.{StoreInOrder}
 use Rattle.store.specs.Words.{Words}
 use Rattle.turns.specs.Turn.{Turning, pollFront}
-use Rattle.receive_batch.specs.Drain.{lookFront}
+use Rattle.receive_batch.specs.Batch.{lookFront}
 use Rattle.receive_from.specs.Target.{tryRecvFrom}
 use Rattle.store.proofs.ViewLaws.{slot-in}
 use Rattle.store.proofs.RefusalLaws.{seen}

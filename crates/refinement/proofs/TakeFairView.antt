@@ -12,26 +12,26 @@ use Rattle.model.specs.State.{State, keyOf}
 use Rattle.model.specs.Changes.{withBudget}
 use Rattle.model.specs.Ready as marks
 use Rattle.model.specs.Turn as rules
-use Rattle.model.proofs.Counting.{no}
+use Rattle.demands.proofs.Counting.{no}
 use Rattle.lane.specs.declared.lane.Lane.{Lane}
 use Rattle.lane.specs.declared.lane.Popped.{Popped}
 use Rattle.lane.specs.declared.lane.Popped.the-variants as Popped
-use Rattle.yring.specs.Ring.{ringOf}
-use Rattle.lane.specs.Lane.{held, popFair}
+use Rattle.yring.specs.Ring.{newRing}
+use Rattle.lane.specs.Lane.{heldItems, popLone}
 use Rattle.lane.specs.Order.{Counts, InOrder, poppedLane}
 use Rattle.lane.specs.Table.{laneAt, setHead}
 use Rattle.lane.proofs.OrderLaws.{cond-holds, pop-fair-keeps}
 use Rattle.lane.proofs.HeldLaws.{pop-fair-takes-first}
 use Rattle.lane.proofs.TableLaws.{frames}
 use Rattle.queues.specs.Header.{issued, queueCount, budget, capacity}
-use Rattle.queues.specs.Queue.{queueOf, frontSlot, poppedFront}
+use Rattle.queues.specs.Queue.{queueOf, frontSlot, popFront}
 use Rattle.ready.specs.Ready.{collectReady}
 use Rattle.queues.proofs.QueueLaws.{header-in, length-queue, queue-front}
 use Rattle.turns.specs.declared.turn.Took.the-variants as Took
 use Rattle.store.specs.View.{view}
 use Rattle.store.specs.Order.{Stores, StoreInOrder}
 use Rattle.turns.specs.Turn.{frontLane, turns}
-use Rattle.receive.specs.Receive.{windowTook, openTook, takeLone, takeFair}
+use Rattle.receive.specs.Receive.{takeFromWindow, takeIfPopped, takeLone, takeFair}
 use Rattle.store.proofs.ViewLaws.{view-budget, view-fast-slot}
 use Rattle.store.proofs.StoreLaws.{issued-ring-in}
 use Rattle.store.proofs.CollectedView.{view-collect-all}
@@ -49,9 +49,9 @@ use Rattle.refinement.proofs.TakeOneView.{else-took}
 
 -- with a budget of 64, above every window
 pops-fair : (t r : List ℕ) → Stores t r → (x : ℕ) → x < issued t → laneAt t x .registered ≡ 1 → budget t ≡ 64 → (item : ℕ) (m : Lane)
-    → popFair (ringOf x (capacity t)) r (budget t) (laneAt t x) ≡ Popped.Item item m → Pops t r x item 0 m
+    → popLone (newRing x (capacity t)) r (budget t) (laneAt t x) ≡ Popped.Item item m → Pops t r x item 0 m
 pops-fair t r o x h g b item m e =
-    let ring = ringOf x (capacity t) in
+    let ring = newRing x (capacity t) in
     let i = o .lanes x h g in
     let more = pop-fair-more ring (o .power .most) r (budget t) (laneAt t x) i item m e in
     let order : InOrder (capacity t) m = subst (λ (p : Popped). InOrder (capacity t) (poppedLane p)) e (pop-fair-keeps ring (o .power .most) r (laneAt t x) i (budget t)) in
@@ -76,34 +76,34 @@ module _ (t r : List ℕ) (o : StoreInOrder t r) (b : budget t ≡ 64) where
     queue-is : queueOf t ≡ x ∷ []
     queue-is =
         let e = queue-front t (o .stores .shaped) (omega (arith, one)) in
-        e ∙ ap (λ (q : List ℕ). x ∷ q) (no-length (queueOf (poppedFront t)) (omega (arith, length-queue t, one, ap length e)))
+        e ∙ ap (λ (q : List ℕ). x ∷ q) (no-length (queueOf (popFront t)) (omega (arith, length-queue t, one, ap length e)))
 
     front : FrontLane t x []
     front = front-lane t r o x [] queue-is
 
-    lone-taken : (item : ℕ) (m : Lane) → popFair (ringOf x (capacity t)) r (budget t) (frontLane t) ≡ Popped.Item item m
-        → TookAs r (windowTook (setHead t 12 (m .key .slot)) item m) (turnsFrom true (view t r .queue) (view t r))
+    lone-taken : (item : ℕ) (m : Lane) → popLone (newRing x (capacity t)) r (budget t) (frontLane t) ≡ Popped.Item item m
+        → TookAs r (takeFromWindow (setHead t 12 (m .key .slot)) item m) (turnsFrom true (view t r .queue) (view t r))
     unfolding view
     lone-taken item m e =
         let k = pops-fair t r (o .stores) x (front .is-issued) (front .registered) b item m e in
         let s = step-fast-moved t r (o .stores) x in
         let same : view (setHead t 12 x) r ≡ view t r = view-fast-slot t r (o .stores .shaped) x in
-        let left : List ℕ = held (ringOf x (capacity t)) r m in
+        let left : List ℕ = heldItems (newRing x (capacity t)) r m in
         let given : turnsFrom true (queueOf t) (view t r) ≡ ((keyOf (view t r) x, item) ∷ [], rules.giveItem (view t r) x [] left true) =
         ap (λ (q : List ℕ). turnsFrom true q (view t r)) queue-is
         ∙ turns-from-front true (view t r) x item [] left queue-is (window-first t r o x [] queue-is item 0 m k (setHead t 12 x) s same) in
-        subst (λ (z : ℕ). TookAs r (windowTook (setHead t 12 z) item m) (turnsFrom true (queueOf t) (view t r))) (sym (slot-by t x m (k .same-flags)))
-        (subst (TookAs r (windowTook (setHead t 12 x) item m)) (sym given)
+        subst (λ (z : ℕ). TookAs r (takeFromWindow (setHead t 12 z) item m) (turnsFrom true (queueOf t) (view t r))) (sym (slot-by t x m (k .same-flags)))
+        (subst (TookAs r (takeFromWindow (setHead t 12 x) item m)) (sym given)
         (window-took t r o x [] queue-is item 0 m k (setHead t 12 x) s same true refl refl (λ z. absurd (no refl z))))
 
   -- "A lone lane takes `pop_fair`."
   take-lone-takes : TakesAs r (takeLone t r) (turnsFrom true (view t r .queue) (view t r))
-  unfolding takeLone openTook windowTook
+  unfolding takeLone takeIfPopped takeFromWindow
   take-lone-takes =
       cond-holds (λ p. TakesAs r p (turnsFrom true (view t r .queue) (view t r))) (eqb (queueCount t) 1) _ (Took.Nothing, t)
-      (λ a. go (eqb-true (queueCount t) 1 a) (popFair (ringOf x (capacity t)) r (budget t) (frontLane t)) refl) (λ a. omega arith)
+      (λ a. go (eqb-true (queueCount t) 1 a) (popLone (newRing x (capacity t)) r (budget t) (frontLane t)) refl) (λ a. omega arith)
     where
-      go : queueCount t ≡ 1 → (p : Popped) → popFair (ringOf x (capacity t)) r (budget t) (frontLane t) ≡ p → TakesAs r (openTook t p) (turnsFrom true (view t r .queue) (view t r))
+      go : queueCount t ≡ 1 → (p : Popped) → popLone (newRing x (capacity t)) r (budget t) (frontLane t) ≡ p → TakesAs r (takeIfPopped t p) (turnsFrom true (view t r .queue) (view t r))
       go one (Popped.Item item m) e = lone-taken one item m e
       go one (Popped.Nothing m) e = omega arith
 

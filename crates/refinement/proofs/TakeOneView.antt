@@ -24,8 +24,8 @@ use Rattle.store.specs.View.{view}
 use Rattle.store.specs.Order.{StoreInOrder}
 use Rattle.turns.specs.Turn.{turns}
 use Rattle.turns.specs.Drained.{Rests}
-use Rattle.receive.specs.Receive.{elseTake, takeFast, takeWindow, pollLoop, refillTake, takeOne}
-use Rattle.turns.specs.Due.{collectedIfDue}
+use Rattle.receive.specs.Receive.{elseTake, takeFast, takeFrontWindow, pollLoop, tryRecvRefill, takeOne}
+use Rattle.turns.specs.Due.{collectIfDue}
 use Rattle.store.proofs.ViewLaws.{view-budget}
 use Rattle.store.proofs.CollectedView.{view-collect-all, view-collect-group}
 use Rattle.store.proofs.BetweenTurns.{full-budget-in-order, collected-in-order}
@@ -104,8 +104,8 @@ module _ (t r : List ℕ) (o : StoreInOrder t r) where
   abbrev looked : List ℕ
   looked = setHead (collectReady false t) 5 64
 
-  pub due-in-order : StoreInOrder (collectedIfDue t) r
-  unfolding collectedIfDue
+  pub due-in-order : StoreInOrder (collectIfDue t) r
+  unfolding collectIfDue
   due-in-order = go (eqb (budget t) 0) (eqb (queueCount t) 0)
     where
       go : (a b : Bool) → StoreInOrder (cond a (cond b t looked) t) r
@@ -113,8 +113,8 @@ module _ (t r : List ℕ) (o : StoreInOrder t r) where
       go true false = full-budget-in-order (collectReady false t) r (collected-in-order t r o false)
       go false b = o
 
-  pub due-view : view (collectedIfDue t) r ≡ due (view t r)
-  unfolding collectedIfDue rules.collectIfDue view
+  pub due-view : view (collectIfDue t) r ≡ due (view t r)
+  unfolding collectIfDue rules.collectIfDue view
   due-view = go (budget t) (queueOf t) refl refl
     where
       go : (b : ℕ) (q : List ℕ) → budget t ≡ b → queueOf t ≡ q → view (cond (eqb (budget t) 0) (cond (eqb (queueCount t) 0) t looked) t) r ≡ rules.collectIfDue b q (view t r)
@@ -134,7 +134,7 @@ else-took t r w (Took.Nothing, u) f a e b = subst (λ (v : List ℕ). TookAs r (
 
 module _ (t r : List ℕ) (o : StoreInOrder t r) where
   abbrev u : List ℕ
-  u = collectedIfDue t
+  u = collectIfDue t
 
   -- the rules' take after the look is their take
   take-after : rules.takeOne (view u r) ≡ rules.takeOne (view t r)
@@ -144,14 +144,14 @@ module _ (t r : List ℕ) (o : StoreInOrder t r) where
   loop-after : TookAs r (pollLoop u r) (rules.takeOne (view t r))
   loop-after = subst (TookAs r (pollLoop u r)) (ap afterDue (due-view t r o) ∙ sym (take-one-is (view t r))) (loop-alike u r (due-in-order t r o))
 
-  pub refill-take-alike : TookAs r (refillTake t r) (rules.takeOne (view t r))
-  unfolding refillTake
+  pub refill-take-alike : TookAs r (tryRecvRefill t r) (rules.takeOne (view t r))
+  unfolding tryRecvRefill
   refill-take-alike =
-      else-took u r (rules.takeOne (view t r)) (takeWindow u r) (λ v. pollLoop v r)
-      (subst (TakesAs r (takeWindow u r)) take-after (take-window-takes u r (due-in-order t r o))) (take-window-unmoved u r) loop-after
+      else-took u r (rules.takeOne (view t r)) (takeFrontWindow u r) (λ v. pollLoop v r)
+      (subst (TakesAs r (takeFrontWindow u r)) take-after (take-window-takes u r (due-in-order t r o))) (take-window-unmoved u r) loop-after
 
   -- "Plain: first the open fast window at `fast_slot`; else [..]": one item, as the rules take it
   pub take-one-alike : TookAs r (takeOne t r) (rules.takeOne (view t r))
   unfolding takeOne
   take-one-alike =
-      else-took t r (rules.takeOne (view t r)) (takeFast t r) (λ v. refillTake v r) (take-fast-takes t r o) (take-fast-unmoved t r) refill-take-alike
+      else-took t r (rules.takeOne (view t r)) (takeFast t r) (λ v. tryRecvRefill v r) (take-fast-takes t r o) (take-fast-unmoved t r) refill-take-alike

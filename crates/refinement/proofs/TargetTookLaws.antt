@@ -15,23 +15,23 @@ use Rattle.model.specs.Turn as turns
 use Rattle.model.specs.Receive as rules
 use Rattle.lane.specs.declared.lane.Lane.{Lane}
 use Rattle.lane.specs.declared.lane.Refill.the-variants as Refill
-use Rattle.yring.specs.Ring.{ringOf}
-use Rattle.lane.specs.Lane.{held, refill, readyOrIdle, targeted, popTargeted}
+use Rattle.yring.specs.Ring.{newRing}
+use Rattle.lane.specs.Lane.{heldItems, refill, readyOrIdle, targeted, popTargeted}
 use Rattle.lane.specs.Order.{InOrder, Filled}
 use Rattle.lane.specs.Table.{laneAt, putLane}
 use Rattle.lane.proofs.OrderLaws.{pop-targeted-keeps}
 use Rattle.lane.proofs.HeldLaws.{reload-holds, pop-targeted-takes-first}
 use Rattle.lane.proofs.TableLaws.{frames}
 use Rattle.queues.specs.Header.{Shaped, issued, slots, queueCount, budget, capacity, fastSlot, laneCount, livingCount}
-use Rattle.queues.specs.Queue.{queueOf, pushedBack}
+use Rattle.queues.specs.Queue.{queueOf, pushBack}
 use Rattle.ready.specs.Ready.{pageBit}
 use Rattle.queues.proofs.QueueLaws.{shaped-putLane, length-queue}
 use Rattle.store.specs.View.{flag, slotOf, slotAt, view}
 use Rattle.store.specs.Order.{Flags, Stores, StoreInOrder}
-use Rattle.store.specs.Signal.{markedIfIdle}
+use Rattle.store.specs.Signal.{markIfIdle}
 use Rattle.control.specs.Control.{withTurn}
-use Rattle.all_lanes.specs.Batch.{mayQueue}
-use Rattle.receive_from.specs.Target.{targetQueued, targetKept}
+use Rattle.all_lanes.specs.AllLanes.{mayQueue}
+use Rattle.receive_from.specs.Target.{queueTarget, keepTarget}
 use Rattle.store.proofs.ViewLaws.{slot-in, view-put-lane, view-pushed-back, put-put, put-own}
 use Rattle.store.proofs.StepLaws.{Step, step-start, step-put-lane, step-pushed-back}
 use Rattle.store.proofs.StoreLaws.{stores-after, windows-kept, windows-pushed-back, issued-ring-in, room-in-queue}
@@ -47,11 +47,11 @@ use Rattle.refinement.proofs.EmptyLaneLaws.{slot-path}
 
 -- the lane that was looked at, one item later
 abbrev pub targetLane : List ℕ → List ℕ → ℕ → Lane
-targetLane t r x = popTargeted (ringOf x (capacity t)) r (looked (laneAt t x)) .lane
+targetLane t r x = popTargeted (newRing x (capacity t)) r (looked (laneAt t x)) .lane
 
 -- the items left in its ring
 abbrev pub targetRest : List ℕ → List ℕ → ℕ → List ℕ
-targetRest t r x = held (ringOf x (capacity t)) r (targetLane t r x)
+targetRest t r x = heldItems (newRing x (capacity t)) r (targetLane t r x)
 
 -- ---- the lane
 
@@ -79,22 +79,22 @@ module _ (t r : List ℕ) (o : StoreInOrder t r) (x : ℕ) (h : x < issued t) (g
   filled = target-filled t r o x h g (looked old) target-ready
 
   same-flags : flagged new ≡ flagged old
-  same-flags = flagged-targeted (ringOf x (capacity t)) r (looked old) ∙ flagged-reload _
+  same-flags = flagged-targeted (newRing x (capacity t)) r (looked old) ∙ flagged-reload _
 
   own-slot : new .key .slot ≡ x
   own-slot = slot-by t x new same-flags
 
   -- the item is the oldest that the lane holds
-  pub target-takes : view t r .slotOf x .ring ≡ popTargeted (ringOf x (capacity t)) r (looked (laneAt t x)) .item ∷ targetRest t r x
+  pub target-takes : view t r .slotOf x .ring ≡ popTargeted (newRing x (capacity t)) r (looked (laneAt t x)) .item ∷ targetRest t r x
   unfolding slotAt popTargeted targeted
   target-takes =
-      ap (λ (m : Slot). m .ring) sees ∙ sym (reload-holds (ringOf x (capacity t)) r old)
-      ∙ pop-targeted-takes-first (ringOf x (capacity t)) r (looked old) (issued-ring-in t r (o .stores) x h) filled
+      ap (λ (m : Slot). m .ring) sees ∙ sym (reload-holds (newRing x (capacity t)) r old)
+      ∙ pop-targeted-takes-first (newRing x (capacity t)) r (looked old) (issued-ring-in t r (o .stores) x h) filled
 
   counts : (new .unreleased ≡ unreleasedAfter (capacity t) (unreleasedSeen old)) × (new .burst ≡ burstSeen old) × (new .window ≡ 0)
   counts =
       let c = looked-counts old in
-      let d = pop-targeted-counts (ringOf x (capacity t)) r (looked old) (c .2) in
+      let d = pop-targeted-counts (newRing x (capacity t)) r (looked old) (c .2) in
       (d .0 ∙ ap (unreleasedAfter (capacity t)) (c .0), d .1 ∙ c .1, d .2)
 
   -- the slot one item later
@@ -128,7 +128,7 @@ module _ (t r : List ℕ) (o : StoreInOrder t r) (x : ℕ) (h : x < issued t) (g
   view-stored = view-put-lane t (o .stores .shaped) new x own-slot h r ∙ ap (λ (m : Slot). put x m (view t r)) slot-taken
 
   keeps : InOrder (capacity t) new
-  keeps = pop-targeted-keeps (ringOf x (capacity t)) (o .stores .power .most) r (looked old) filled
+  keeps = pop-targeted-keeps (newRing x (capacity t)) (o .stores .power .most) r (looked old) filled
 
   flags-stored : Flags new
   flags-stored = flags-by old new same-flags (o .stores .flags x h)
@@ -158,7 +158,7 @@ module _ (t r : List ℕ) (o : StoreInOrder t r) (x : ℕ) (h : x < issued t) (g
     turned = withTurn 1 1 0 new
 
     abbrev marked : List ℕ
-    marked = markedIfIdle (putLane t turned) new
+    marked = markIfIdle (putLane t turned) new
 
     unnamed : count x (queueOf t) ≡ 0
     unnamed = sym (o .stores .named .flagged x h g) ∙ q
@@ -169,8 +169,8 @@ module _ (t r : List ℕ) (o : StoreInOrder t r) (x : ℕ) (h : x < issued t) (g
     shaped-turned : Shaped (putLane t turned)
     shaped-turned = shaped-putLane t (o .stores .shaped) turned
 
-    slot-turned : slotOf turned (pageBit t x) (held (ringOf x (capacity t)) r turned) ≡ withSignal true (slot .marked) taken
-    unfolding held slotAt
+    slot-turned : slotOf turned (pageBit t x) (heldItems (newRing x (capacity t)) r turned) ≡ withSignal true (slot .marked) taken
+    unfolding heldItems slotAt
     slot-turned =
         slot-path _ _
         (ap (λ (m : Slot). m .registered) slot-taken) (ap (λ (m : Slot). m .living) slot-taken) (sym (ap (λ (m : Slot). m .paused) sees ∙ ap flag p))
@@ -187,11 +187,11 @@ module _ (t r : List ℕ) (o : StoreInOrder t r) (x : ℕ) (h : x < issued t) (g
         (view-put-lane t (o .stores .shaped) turned x own-slot h r ∙ ap (λ (m : Slot). put x m (view t r)) slot-turned)
         ∙ ap (λ (b : Bool). put x (markedIf b (withSignal true (slot .marked) taken)) (view t r)) was-idle
 
-    queued-is : targetQueued t new ≡ pushedBack marked x
-    unfolding targetQueued
-    queued-is = ap (pushedBack marked) own-slot
+    queued-is : queueTarget t new ≡ pushBack marked x
+    unfolding queueTarget
+    queued-is = ap (pushBack marked) own-slot
 
-    view-queued : view (targetQueued t new) r ≡ rules.queueLaneIf true x (put x taken (view t r))
+    view-queued : view (queueTarget t new) r ≡ rules.queueLaneIf true x (put x taken (view t r))
     unfolding rules.queueLaneIf
     view-queued =
         ap (λ (u : List ℕ). view u r) queued-is
@@ -200,15 +200,15 @@ module _ (t r : List ℕ) (o : StoreInOrder t r) (x : ℕ) (h : x < issued t) (g
         ∙ ap (withQueue (view t r .queue ++ (x ∷ [])))
         (sym (ap (λ (m : Slot). put x (signalled m) (put x taken (view t r))) (put-own x taken (view t r)) ∙ put-put x (signalled taken) taken (view t r)))
 
-    step-queued : Step t (targetQueued t new) x turned (queueOf t ++ (x ∷ [])) (fastSlot t) (budget t) (laneCount t) (livingCount t)
+    step-queued : Step t (queueTarget t new) x turned (queueOf t ++ (x ∷ [])) (fastSlot t) (budget t) (laneCount t) (livingCount t)
     step-queued =
         let start = step-start t r (o .stores) x in
         subst (λ (u : List ℕ). Step t u x turned (queueOf t ++ (x ∷ [])) (fastSlot t) (budget t) (laneCount t) (livingCount t)) (sym queued-is)
         (step-pushed-back (step-marked-if-idle (step-put-lane start turned own-slot h) new (rw own-slot h)) x (rw (length-queue t) room))
 
-    stores-queued : Stores (targetQueued t new) r
+    stores-queued : Stores (queueTarget t new) r
     stores-queued =
-        stores-after t r (targetQueued t new) r (o .stores) x h turned _ _ _ _ _ step-queued
+        stores-after t r (queueTarget t new) r (o .stores) x h turned _ _ _ _ _ step-queued
         (record {
           flags = record {
             pending-flag = omega arith;
@@ -231,27 +231,27 @@ module _ (t r : List ℕ) (o : StoreInOrder t r) (x : ℕ) (h : x < issued t) (g
 
   -- ---- "works on a paused lane, queues an unpaused one"
 
-  kept-cases : (P : List ℕ → Bool → Type 0) → (old .paused ≡ 0 → old .queued ≡ 0 → P (targetQueued t new) true) → P (putLane t new) false
-      → P (targetKept t new) (states.mayQueue (view t r) x)
-  unfolding targetKept mayQueue
+  kept-cases : (P : List ℕ → Bool → Type 0) → (old .paused ≡ 0 → old .queued ≡ 0 → P (queueTarget t new) true) → P (putLane t new) false
+      → P (keepTarget t new) (states.mayQueue (view t r) x)
+  unfolding keepTarget mayQueue
   kept-cases P back stays =
-      subst (P (targetKept t new)) (may-queue-alike t r (o .stores) x h)
+      subst (P (keepTarget t new)) (may-queue-alike t r (o .stores) x h)
       (rw (eq-eqb (old .registered) 1 g)
-      (subst (λ (n : ℕ). P (cond (eqb n 0) (cond (eqb (new .queued) 0) (targetQueued t new) (putLane t new)) (putLane t new)) (eqb (old .paused) 0 && eqb (old .queued) 0))
+      (subst (λ (n : ℕ). P (cond (eqb n 0) (cond (eqb (new .queued) 0) (queueTarget t new) (putLane t new)) (putLane t new)) (eqb (old .paused) 0 && eqb (old .queued) 0))
       (sym (ap (λ (z : Flagged). z .2) same-flags))
-      (subst (λ (n : ℕ). P (cond (eqb (old .paused) 0) (cond (eqb n 0) (targetQueued t new) (putLane t new)) (putLane t new)) (eqb (old .paused) 0 && eqb (old .queued) 0))
+      (subst (λ (n : ℕ). P (cond (eqb (old .paused) 0) (cond (eqb n 0) (queueTarget t new) (putLane t new)) (putLane t new)) (eqb (old .paused) 0 && eqb (old .queued) 0))
       (sym (ap (λ (z : Flagged). z .4) same-flags))
       (go (eqb (old .paused) 0) refl (eqb (old .queued) 0) refl))))
     where
-      go : (b : Bool) → eqb (old .paused) 0 ≡ b → (c : Bool) → eqb (old .queued) 0 ≡ c → P (cond b (cond c (targetQueued t new) (putLane t new)) (putLane t new)) (b && c)
+      go : (b : Bool) → eqb (old .paused) 0 ≡ b → (c : Bool) → eqb (old .queued) 0 ≡ c → P (cond b (cond c (queueTarget t new) (putLane t new)) (putLane t new)) (b && c)
       go true e true f = back (eqb-true _ 0 e) (eqb-true _ 0 f)
       go true e false f = stays
       go false e c f = stays
 
-  pub target-view : view (targetKept t (targetLane t r x)) r
+  pub target-view : view (keepTarget t (targetLane t r x)) r
       ≡ rules.queueLaneIf (states.mayQueue (view t r) x) x (put x (popped (targetRest t r x) (turns.unreleasedAfterOne (view t r) x) (view t r .slotOf x .burst) (view t r .slotOf x)) (view t r))
   unfolding rules.queueLaneIf
   target-view = kept-cases (λ u b. view u r ≡ rules.queueLaneIf b x (put x taken (view t r))) (λ p q. view-queued p q) view-stored
 
-  pub target-stores : Stores (targetKept t (targetLane t r x)) r
+  pub target-stores : Stores (keepTarget t (targetLane t r x)) r
   target-stores = kept-cases (λ u b. Stores u r) (λ p q. stores-queued p q) stores-stored

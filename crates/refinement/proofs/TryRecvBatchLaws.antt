@@ -19,8 +19,8 @@ use Rattle.model.specs.Order.{Ordered}
 use Rattle.model.specs.Outcome.{Outcome, unless}
 use Rattle.model.specs.Turn.{Took}
 use Rattle.model.specs.Receive as rules
-use Rattle.model.proofs.Moves.{nothing-taken-gives-none}
-use Rattle.model.proofs.OrderKept.{release-all-ordered}
+use Rattle.demands.proofs.Moves.{nothing-taken-gives-none}
+use Rattle.demands.proofs.OrderKept.{release-all-ordered}
 use Rattle.store.specs.declared.refusal.Verdict.{Verdict}
 use Rattle.store.specs.declared.refusal.Verdict.the-variants.{Pass, Refuse}
 use Rattle.store.specs.View.{view}
@@ -28,8 +28,8 @@ use Rattle.store.specs.Order.{StoreInOrder}
 use Rattle.store.specs.Refusal.{andThen}
 use Rattle.store.specs.Words.{Words, withRings}
 use Rattle.turns.specs.Drained.{nothingTaken}
-use Rattle.all_lanes.specs.Batch.{releaseAll}
-use Rattle.receive_batch.specs.Drain.{Drained, drained, roomVerdict, batchVerdict, answerItems, batchAnswer, tryRecvBatchInto, handedBy, batchHands}
+use Rattle.all_lanes.specs.AllLanes.{releaseAll}
+use Rattle.receive_batch.specs.Batch.{HandsAndTable, drained, roomVerdict, batchVerdict, answerItems, batchAnswer, tryRecvBatchInto, handedBy, batchHands}
 use Rattle.store.proofs.RefusalLaws.{seen, firstOf, first-of-append, receiver-verdict, refused-alike, unless-refused-case}
 use Rattle.all_lanes.proofs.ReleaseConsumedLaws.{view-release-all, stores-release-all}
 use Rattle.refinement.proofs.NothingTakenLaws.{nothing-taken-alike, nothing-taken-keeps}
@@ -101,7 +101,7 @@ module _ (t r : List ℕ) (limit room : ℕ) where
 -- ---- the call
 
 module _ (t r : List ℕ) (o : StoreInOrder t r) (limit room : ℕ) where
-  abbrev d : Drained
+  abbrev d : HandsAndTable
   d = drained t r limit
 
   abbrev w : Took
@@ -144,6 +144,6 @@ module _ (t r : List ℕ) (o : StoreInOrder t r) (limit room : ℕ) where
           ∙ ap (λ (z : Took). (rules.answerItems limit (z .0) (rules.releaseAll (z .1))) .0) (taken .alike)
 
 -- "A batch hands out its output in order": the output's words
-pub try-recv-batch-output : (t r out : List ℕ) → StoreInOrder t r → (limit room : ℕ) → rules.written (batchHands t r limit room) out ≡ rules.outputAfter (view t r) (TryRecvBatchInto limit room) out
+pub try-recv-batch-output : (t r out : List ℕ) → StoreInOrder t r → (limit room : ℕ) → rules.writtenTo (batchHands t r limit room) out ≡ rules.outputAfter (view t r) (TryRecvBatchInto limit room) out
 unfolding rules.outputAfter
-try-recv-batch-output t r out o limit room = ap (λ (l : List (LaneKey × ℕ)). rules.written l out) (try-recv-batch-hands t r o limit room)
+try-recv-batch-output t r out o limit room = ap (λ (l : List (LaneKey × ℕ)). rules.writtenTo l out) (try-recv-batch-hands t r o limit room)

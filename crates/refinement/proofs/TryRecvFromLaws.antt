@@ -17,23 +17,23 @@ use Rattle.model.specs.State.{Slot, State, keyOf}
 use Rattle.model.specs.Changes.{withQueue, put, settledEmpty}
 use Rattle.model.specs.Receive as rules
 use Rattle.model.specs.Rules.{outcome}
-use Rattle.model.proofs.Counting.{without-own, without-other}
+use Rattle.demands.proofs.Counting.{without-own, without-other}
 use Rattle.lane.specs.declared.lane.Lane.{Lane}
 use Rattle.lane.specs.declared.lane.EmptyLane.{EmptyLane}
 use Rattle.lane.specs.declared.lane.Refill.the-variants as Refill
 use Rattle.lane.specs.Lane.{settleEmpty, refill, readyOrIdle, popTargeted}
-use Rattle.yring.specs.Ring.{ringOf}
+use Rattle.yring.specs.Ring.{newRing}
 use Rattle.lane.specs.Table.{laneAt, putLane}
 use Rattle.lane.proofs.TableLaws.{frames}
 use Rattle.queues.specs.Header.{issued, slots, freeCount, budget, capacity, channel, fastSlot, laneCount, livingCount}
-use Rattle.queues.specs.Queue.{queueOf, removed}
+use Rattle.queues.specs.Queue.{queueOf, remove}
 use Rattle.queues.proofs.QueueLaws.{queue-frames, shaped-putLane}
 use Rattle.store.specs.View.{slotAt, view}
 use Rattle.store.specs.Order.{Stores, StoreInOrder}
 use Rattle.store.specs.Refusal.{idVerdict}
-use Rattle.turns.specs.Turn.{retiredIf}
+use Rattle.turns.specs.Turn.{retireIf}
 use Rattle.store.specs.Words.{withRings}
-use Rattle.receive_from.specs.Target.{targetSettled, targetTook, takeFrom, tryRecvFrom}
+use Rattle.receive_from.specs.Target.{settleTarget, targetTook, takeFrom, tryRecvFrom}
 use Rattle.store.proofs.ViewLaws.{slot-in, view-removed}
 use Rattle.store.proofs.RefusalLaws.{seen, id-verdict, id-passes, refused-alike, unless-refused-case}
 use Rattle.store.proofs.StepLaws.{Step, step-start, step-put-lane, step-removed}
@@ -52,7 +52,7 @@ module _ (t r : List ℕ) (o : StoreInOrder t r) (x : ℕ) (h : x < issued t) (g
 
   -- the table before the lane may retire, and the queue
   abbrev left : List ℕ
-  left = removed (putLane t l) x
+  left = remove (putLane t l) x
 
   abbrev rest : List ℕ
   rest = lists.without x (queueOf t)
@@ -69,10 +69,10 @@ module _ (t r : List ℕ) (o : StoreInOrder t r) (x : ℕ) (h : x < issued t) (g
       view-removed (putLane t l) r (shaped-putLane t (o .stores .shaped) l) x
       ∙ ap (λ (s : State). withQueue (lists.without x (s .queue)) s) (found-view t r o x h g found k)
 
-  settled-is : targetSettled t found ≡ (cond (found .disconnected) Disconnected Empty, retiredIf (found .disconnected) left l)
-  unfolding targetSettled
+  settled-is : settleTarget t found ≡ (cond (found .disconnected) Disconnected Empty, retireIf (found .disconnected) left l)
+  unfolding settleTarget
   settled-is =
-      ap (λ (y : ℕ). (cond (found .disconnected) Disconnected Empty, retiredIf (found .disconnected) (removed (putLane t l) y) l)) (found-slot t r o x h g found k)
+      ap (λ (y : ℕ). (cond (found .disconnected) Disconnected Empty, retireIf (found .disconnected) (remove (putLane t l) y) l)) (found-slot t r o x h g found k)
 
   answer-settled : cond (found .disconnected) Disconnected Empty ≡ if (view t r .slotOf x .living) Empty Disconnected
   answer-settled = ap (λ (b : Bool). cond b Disconnected Empty) (found-dropped t r o x h g found k) ∙ go (view t r .slotOf x .living)
@@ -85,7 +85,7 @@ module _ (t r : List ℕ) (o : StoreInOrder t r) (x : ℕ) (h : x < issued t) (g
   unfolding slotAt
   holds-none = ap (λ (m : Slot). m .ring) (slot-in t r x h) ∙ k .idle .holds-none
 
-  settled-alike : seen (withRings r (targetSettled t found)) ≡ (rules.takeFrom (view t r .slotOf x .ring) x (view t r)) .1
+  settled-alike : seen (withRings r (settleTarget t found)) ≡ (rules.takeFrom (view t r .slotOf x .ring) x (view t r)) .1
   unfolding rules.takeFrom view
   settled-alike =
       ap (λ (w : Answer × List ℕ). seen (withRings r w)) settled-is
@@ -93,7 +93,7 @@ module _ (t r : List ℕ) (o : StoreInOrder t r) (x : ℕ) (h : x < issued t) (g
       (settled-view t r o x h g found k left rest step-left room view-left (without-own x (queueOf t)) (λ y. without-other x y (queueOf t)) (windows-without t r (o .stores) x))
       ∙ ap (λ (vs : List ℕ). (rules.takeFrom vs x (view t r)) .1) (sym holds-none)
 
-  settled-kept : Stores ((targetSettled t found) .1) r
+  settled-kept : Stores ((settleTarget t found) .1) r
   settled-kept =
       subst (λ (w : Answer × List ℕ). Stores (w .1) r) (sym settled-is)
       (settled-in-order t r o x h g found k left rest step-left room view-left (without-own x (queueOf t)) (λ y. without-other x y (queueOf t)) (windows-without t r (o .stores) x) .stores)
@@ -119,7 +119,7 @@ module _ (t r : List ℕ) (o : StoreInOrder t r) (x : ℕ) (h : x < issued t) (g
       → seen (withRings r (targetTook t r x (Refill.Ready (looked old)))) ≡ (rules.takeFrom (view t r .slotOf x .ring) x (view t r)) .1
   unfolding targetTook rules.takeFrom view
   took-alike e =
-      ap₂ (λ (k : LaneKey) (s : State). (Item (popTargeted (ringOf x (capacity t)) r (looked old) .item) (record { channel = channel t; key = k }), s)) same-key (target-view t r o x h g e)
+      ap₂ (λ (k : LaneKey) (s : State). (Item (popTargeted (newRing x (capacity t)) r (looked old) .item) (record { channel = channel t; key = k }), s)) same-key (target-view t r o x h g e)
       ∙ ap (λ (vs : List ℕ). (rules.takeFrom vs x (view t r)) .1) (sym (target-takes t r o x h g e))
 
   take-from-alike : seen (withRings r (takeFrom t r x)) ≡ (rules.takeFrom (view t r .slotOf x .ring) x (view t r)) .1

@@ -12,13 +12,13 @@ use Rattle.model.specs.declared.LaneKey.{LaneKey}
 use Rattle.model.specs.Lists.{if, either, nonEmpty}
 use Rattle.model.specs.State.{Slot, State, keyOf}
 use Rattle.model.specs.Turn as rules
-use Rattle.model.proofs.OrderKept.{settle-empty-queue, before-next-turn-queue}
+use Rattle.demands.proofs.OrderKept.{settle-empty-queue, before-next-turn-queue}
 use Rattle.lane.specs.declared.lane.Lane.{Lane}
 use Rattle.lane.specs.declared.lane.EmptyLane.{EmptyLane}
 use Rattle.lane.specs.declared.lane.LanePoll.{LanePoll}
 use Rattle.lane.specs.declared.lane.LanePoll.the-variants as LanePoll
-use Rattle.yring.specs.Ring.{ringOf}
-use Rattle.lane.specs.Lane.{held, poll}
+use Rattle.yring.specs.Ring.{newRing}
+use Rattle.lane.specs.Lane.{heldItems, poll}
 use Rattle.lane.specs.Table.{laneAt}
 use Rattle.queues.specs.Header.{queueCount, capacity}
 use Rattle.queues.specs.Queue.{queueOf}
@@ -28,7 +28,7 @@ use Rattle.turns.specs.declared.turn.Took.the-variants as Took
 use Rattle.turns.specs.declared.turn.Turn.{Turn}
 use Rattle.store.specs.View.{slotAt, view}
 use Rattle.store.specs.Order.{StoreInOrder}
-use Rattle.turns.specs.Turn.{leftFront, budgetMet, gaveFront, turnBy, pollFront, after, turnsWithin, turns}
+use Rattle.turns.specs.Turn.{settleEmptyFront, meetBudget, gaveFront, turnBy, pollFront, afterTurn, turnsWithin, turns}
 use Rattle.turns.specs.Drained.{Rests}
 use Rattle.store.proofs.ViewLaws.{slot-in}
 use Rattle.refinement.proofs.SameFlags.{key-by}
@@ -77,16 +77,16 @@ module _ (t r : List ℕ) (o : StoreInOrder t r) (fair : Bool) (x : ℕ) (q : Li
   unfolding view
   queue-seen = e
 
-  front-polled : pollFront t r fair ≡ turnBy t (poll (ringOf x (capacity t)) r fair (laneAt t x))
+  front-polled : pollFront t r fair ≡ turnBy t (poll (newRing x (capacity t)) r fair (laneAt t x))
   unfolding pollFront
   front-polled =
       rw (ne-eqb (queueCount t) 0 (λ z. omega (arith, length-queue t, ap length e)))
-      (ap (λ (y : ℕ). turnBy t (poll (ringOf y (capacity t)) r fair (laneAt t y))) (front-is t (o .stores .shaped) x q e))
+      (ap (λ (y : ℕ). turnBy t (poll (newRing y (capacity t)) r fair (laneAt t y))) (front-is t (o .stores .shaped) x q e))
 
   -- it has an item
   module _ (item : ℕ) (rotate : Bool) (m : Lane) (k : Gives t r x fair item rotate m) where
-    turns-given : turnsFrom fair (x ∷ q) s ≡ ((keyOf s x, item) ∷ [], rules.giveItem s x q (held (ringOf x (capacity t)) r m) (either fair (leb 63 (s .slotOf x .burst))))
-    turns-given = turns-from-front fair s x item q (held (ringOf x (capacity t)) r m) queue-seen (gave-first t r o x q e fair item rotate m k)
+    turns-given : turnsFrom fair (x ∷ q) s ≡ ((keyOf s x, item) ∷ [], rules.giveItem s x q (heldItems (newRing x (capacity t)) r m) (either fair (leb 63 (s .slotOf x .burst))))
+    turns-given = turns-from-front fair s x item q (heldItems (newRing x (capacity t)) r m) queue-seen (gave-first t r o x q e fair item rotate m k)
 
     took-given : TookAs r (Took.Item item (m .key), gaveFront t rotate m) (turnsFrom fair (x ∷ q) s)
     took-given =
@@ -102,14 +102,14 @@ module _ (t r : List ℕ) (o : StoreInOrder t r) (fair : Bool) (x : ℕ) (q : Li
     none-held = ap (λ (y : Slot). y .ring) (slot-in t r x (front .is-issued)) ∙ k .idle .holds-none
 
     abbrev left : List ℕ
-    left = budgetMet (leftFront t found)
+    left = meetBudget (settleEmptyFront t found)
 
     pub left-ordered : StoreInOrder left r
-    left-ordered = met-in-order (leftFront t found) r (left-in-order t r o x q e found k)
+    left-ordered = met-in-order (settleEmptyFront t found) r (left-in-order t r o x q e found k)
 
     pub view-left : view left r ≡ rules.beforeNextTurn q (rules.settleEmpty x q s)
     view-left =
-        met-view (leftFront t found) r (left-in-order t r o x q e found k) q (left-queue t r o x q e found k)
+        met-view (settleEmptyFront t found) r (left-in-order t r o x q e found k) q (left-queue t r o x q e found k)
         ∙ ap (rules.beforeNextTurn q) (left-view t r o x q e found k)
 
     turns-left : turnsFrom fair (x ∷ q) s ≡ turnsFrom fair q (view left r)
@@ -125,24 +125,24 @@ module _ (t r : List ℕ) (o : StoreInOrder t r) (fair : Bool) (x : ℕ) (q : Li
 -- ---- turn after turn
 
 turns-within-alike : (q t r : List ℕ) (fair : Bool) → StoreInOrder t r → queueOf t ≡ q → TookAs r (turnsWithin (length q) t r fair) (turnsFrom fair q (view t r))
-unfolding turnsWithin after turnBy turnsFrom rules.runDownFrom rules.giveFront view
+unfolding turnsWithin afterTurn turnBy turnsFrom rules.runDownFrom rules.giveFront view
 turns-within-alike [] t r fair o e = record { alike = sym (ap (rules.giveFront fair (view t r)) e); in-order = o }
 turns-within-alike (x ∷ q) t r fair o e =
-    subst (λ (u : Turn × List ℕ). TookAs r (after u (turnsWithin (length q) (u .1) r fair)) (turnsFrom fair (x ∷ q) (view t r))) (sym (front-polled t r o fair x q e))
-    (go (λ u p f. turns-within-alike q u r fair p f) (poll (ringOf x (capacity t)) r fair (laneAt t x)) refl)
+    subst (λ (u : Turn × List ℕ). TookAs r (afterTurn u (turnsWithin (length q) (u .1) r fair)) (turnsFrom fair (x ∷ q) (view t r))) (sym (front-polled t r o fair x q e))
+    (go (λ u p f. turns-within-alike q u r fair p f) (poll (newRing x (capacity t)) r fair (laneAt t x)) refl)
   where
     h : FrontLane t x q
     h = front-lane t r o x q e
 
     go : ((u : List ℕ) → StoreInOrder u r → queueOf u ≡ q → TookAs r (turnsWithin (length q) u r fair) (turnsFrom fair q (view u r)))
-        → (p : LanePoll) → poll (ringOf x (capacity t)) r fair (laneAt t x) ≡ p
-        → TookAs r (after (turnBy t p) (turnsWithin (length q) ((turnBy t p) .1) r fair)) (turnsFrom fair (x ∷ q) (view t r))
+        → (p : LanePoll) → poll (newRing x (capacity t)) r fair (laneAt t x) ≡ p
+        → TookAs r (afterTurn (turnBy t p) (turnsWithin (length q) ((turnBy t p) .1) r fair)) (turnsFrom fair (x ∷ q) (view t r))
     go ih (LanePoll.Item item rotate gave m) f =
         took-given t r o fair x q e item rotate m (gives-by-poll t r (o .stores) x (h .is-issued) (h .registered) fair item rotate gave m f)
     go ih (LanePoll.Idle found) f =
         let k = empties-by-poll t r (o .stores) x (h .is-issued) (h .registered) found fair f in
-        subst (TookAs r (turnsWithin (length q) (budgetMet (leftFront t found)) r fair)) (sym (turns-left t r o fair x q e found k))
-        (ih (budgetMet (leftFront t found)) (left-ordered t r o fair x q e found k) (left-rest t r o fair x q e found k))
+        subst (TookAs r (turnsWithin (length q) (meetBudget (settleEmptyFront t found)) r fair)) (sym (turns-left t r o fair x q e found k))
+        (ih (meetBudget (settleEmptyFront t found)) (left-ordered t r o fair x q e found k) (left-rest t r o fair x q e found k))
 
 -- the rules' run down and their front lane's item
 pub turns-from-is : (fair : Bool) (s : State) → turnsFrom fair (s .queue) s ≡ (let u = rules.runDown s in rules.giveFront fair u (u .queue))

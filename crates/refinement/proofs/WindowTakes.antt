@@ -10,26 +10,26 @@ use lib.Dec.{eqb, ltb}
 use lib.ListN.{length, take, drop}
 use Rattle.model.specs.State.{Slot, keyOf}
 use Rattle.model.specs.Turn as rules
-use Rattle.model.proofs.FrontItem.{take-one-front}
+use Rattle.demands.proofs.FrontItem.{take-one-front}
 use Rattle.yring.specs.declared.ring.Ring.{Ring}
 use Rattle.lane.specs.declared.lane.Lane.{Lane}
 use Rattle.lane.specs.declared.lane.Popped.{Popped}
 use Rattle.lane.specs.declared.lane.Popped.the-variants as Popped
-use Rattle.yring.specs.Ring.{ringOf, itemAt}
-use Rattle.lane.specs.Lane.{held, windowPop, popFast, grantFast}
+use Rattle.yring.specs.Ring.{newRing, itemAt}
+use Rattle.lane.specs.Lane.{heldItems, windowPop, popFast, grantFast}
 use Rattle.lane.specs.Order.{InOrder, poppedLane}
 use Rattle.lane.specs.Table.{laneAt, setHead}
 use Rattle.lane.proofs.OrderLaws.{cond-holds, pop-fast-keeps, grant-fast-keeps}
 use Rattle.lane.proofs.HeldLaws.{pop-fast-takes-first}
 use Rattle.queues.specs.Header.{issued, queueCount, budget, capacity, fastSlot, laneCount, livingCount}
-use Rattle.queues.specs.Queue.{queueOf, frontSlot, poppedFront}
+use Rattle.queues.specs.Queue.{queueOf, frontSlot, popFront}
 use Rattle.queues.proofs.QueueLaws.{queue-front}
 use Rattle.turns.specs.declared.turn.Took.{Took}
 use Rattle.turns.specs.declared.turn.Took.the-variants as Took
 use Rattle.store.specs.View.{slotAt, view}
 use Rattle.store.specs.Order.{Stores, StoreInOrder}
 use Rattle.turns.specs.Turn.{frontLane}
-use Rattle.receive.specs.Receive.{windowTook, fastTook, takeFast, openTook, takeWindow}
+use Rattle.receive.specs.Receive.{takeFromWindow, fastTook, takeFast, takeIfPopped, takeFrontWindow}
 use Rattle.store.proofs.ViewLaws.{slot-in, view-fast-slot}
 use Rattle.store.proofs.StepLaws.{Step}
 use Rattle.store.proofs.StoreLaws.{issued-ring-in}
@@ -56,13 +56,13 @@ pop-window ring store l item m e = go (eqb (l .window) 0) refl e
 
 module _ (t r : List ℕ) (o : Stores t r) (x : ℕ) (h : x < issued t) (g : laneAt t x .registered ≡ 1) where
   abbrev ring : Ring
-  ring = ringOf x (capacity t)
+  ring = newRing x (capacity t)
 
   abbrev l : Lane
   l = laneAt t x
 
   -- of a lane j that shows what lane l shows, with a window within the budget
-  module _ (j : Lane) (order : InOrder (capacity t) j) (same-held : held ring r j ≡ held ring r l) (same-flags : flagged j ≡ flagged l)
+  module _ (j : Lane) (order : InOrder (capacity t) j) (same-held : heldItems ring r j ≡ heldItems ring r l) (same-flags : flagged j ≡ flagged l)
       (same-unreleased : unreleasedSeen j ≡ unreleasedSeen l) (same-burst : burstSeen j ≡ burstSeen l) (within : j .window ≤ budget t)
       (item : ℕ) (m : Lane) (e : popFast ring r j ≡ Popped.Item item m) where
     -- and the turn is not over
@@ -100,7 +100,7 @@ module _ (t r : List ℕ) (o : StoreInOrder t r) (x : ℕ) (q : List ℕ) (e : q
   module _ (item : ℕ) (m : Lane) (k : Pops t r x item (burstSeen (laneAt t x) + 1) m) (below : burstSeen (laneAt t x) < 63)
       (u : List ℕ) (s : Step t u x (laneAt t x) (queueOf t) x (budget t) (laneCount t) (livingCount t)) (same : view u r ≡ view t r) where
     abbrev left : List ℕ
-    left = held (ringOf x (capacity t)) r m
+    left = heldItems (newRing x (capacity t)) r m
 
     rules-take : rules.takeOne (view t r) ≡ ((keyOf (view t r) x, item) ∷ [], rules.giveItem (view t r) x q left false)
     unfolding view
@@ -108,9 +108,9 @@ module _ (t r : List ℕ) (o : StoreInOrder t r) (x : ℕ) (q : List ℕ) (e : q
         take-one-front (view t r) x item q left e (window-first t r o x q e item _ m k u s same) (omega (arith, k .within))
         ∙ ap (λ (b : Bool). ((keyOf (view t r) x, item) ∷ [], rules.giveItem (view t r) x q left b)) (lt-leb 63 (view t r .slotOf x .burst) (omega (arith, burst-seen, below)))
 
-    pub window-taken : TookAs r (windowTook u item m) (rules.takeOne (view t r))
+    pub window-taken : TookAs r (takeFromWindow u item m) (rules.takeOne (view t r))
     window-taken =
-        subst (TookAs r (windowTook u item m)) (sym rules-take)
+        subst (TookAs r (takeFromWindow u item m)) (sym rules-take)
         (window-took t r o x q e item _ m k u s same false refl (ap (λ (n : ℕ). n + 1) (sym burst-seen)) (λ z. omega (arith, burst-seen, below)))
 
 -- "first the open fast window at `fast_slot`"
@@ -122,24 +122,24 @@ module _ (t r : List ℕ) (o : StoreInOrder t r) where
   abbrev x : ℕ
   x = fastSlot t
 
-  fast-taken : x < issued t → laneAt t x .registered ≡ 1 → (item : ℕ) (m : Lane) → popFast (ringOf x (capacity t)) r (laneAt t x) ≡ Popped.Item item m
-      → TookAs r (windowTook t item m) (rules.takeOne (view t r))
+  fast-taken : x < issued t → laneAt t x .registered ≡ 1 → (item : ℕ) (m : Lane) → popFast (newRing x (capacity t)) r (laneAt t x) ≡ Popped.Item item m
+      → TookAs r (takeFromWindow t item m) (rules.takeOne (view t r))
   fast-taken h g item m e =
-      let some : 0 < laneAt t x .window = omega (arith, pop-open (ringOf x (capacity t)) r (laneAt t x) item m e) in
+      let some : 0 < laneAt t x .window = omega (arith, pop-open (newRing x (capacity t)) r (laneAt t x) item m e) in
       let f = o .stores .windows x h g some in
       let k = pops-shown t r (o .stores) x h g (laneAt t x) (o .stores .lanes x h g) refl refl refl refl (f .within) item m e in
       window-taken t r o x (drop 1 (queueOf t)) (first-of x (queueOf t) (f .in-front)) item m (k .0) (k .1) t (step-fast-same t r (o .stores) x refl) refl
 
   pub take-fast-takes : TakesAs r (takeFast t r) (rules.takeOne (view t r))
-  unfolding takeFast fastTook windowTook
+  unfolding takeFast fastTook takeFromWindow
   take-fast-takes =
       cond-holds (λ p. TakesAs r p (rules.takeOne (view t r))) (ltb x (issued t)) _ (Took.Nothing, t)
       (λ a.
       cond-holds (λ p. TakesAs r p (rules.takeOne (view t r))) (eqb (laneAt t x .registered) 1) _ (Took.Nothing, t)
-      (λ b. go (ltb-true x (issued t) a) (eqb-true (laneAt t x .registered) 1 b) (popFast (ringOf x (capacity t)) r (laneAt t x)) refl) (λ b. omega arith))
+      (λ b. go (ltb-true x (issued t) a) (eqb-true (laneAt t x .registered) 1 b) (popFast (newRing x (capacity t)) r (laneAt t x)) refl) (λ b. omega arith))
       (λ a. omega arith)
     where
-      go : x < issued t → laneAt t x .registered ≡ 1 → (p : Popped) → popFast (ringOf x (capacity t)) r (laneAt t x) ≡ p → TakesAs r (fastTook t p) (rules.takeOne (view t r))
+      go : x < issued t → laneAt t x .registered ≡ 1 → (p : Popped) → popFast (newRing x (capacity t)) r (laneAt t x) ≡ p → TakesAs r (fastTook t p) (rules.takeOne (view t r))
       go h g (Popped.Item item m) e = fast-taken h g item m e
       go h g (Popped.Nothing m) e = omega arith
 
@@ -152,14 +152,14 @@ module _ (t r : List ℕ) (o : StoreInOrder t r) where
   granted = grantFast (capacity t) (budget t) (frontLane t)
 
   module _ (some : queueCount t ≡ 0 → ⊥) where
-    queue-is : queueOf t ≡ y ∷ queueOf (poppedFront t)
+    queue-is : queueOf t ≡ y ∷ queueOf (popFront t)
     queue-is = queue-front t (o .stores .shaped) (omega (arith, some))
 
-    h : FrontLane t y (queueOf (poppedFront t))
-    h = front-lane t r o y (queueOf (poppedFront t)) queue-is
+    h : FrontLane t y (queueOf (popFront t))
+    h = front-lane t r o y (queueOf (popFront t)) queue-is
 
-    opened-taken : (item : ℕ) (m : Lane) → popFast (ringOf y (capacity t)) r granted ≡ Popped.Item item m
-        → TookAs r (windowTook (setHead t 12 (m .key .slot)) item m) (rules.takeOne (view t r))
+    opened-taken : (item : ℕ) (m : Lane) → popFast (newRing y (capacity t)) r granted ≡ Popped.Item item m
+        → TookAs r (takeFromWindow (setHead t 12 (m .key .slot)) item m) (rules.takeOne (view t r))
     opened-taken item m e =
         let small = o .stores .power .most in
         let i = o .stores .lanes y (h .is-issued) (h .registered) in
@@ -167,18 +167,18 @@ module _ (t r : List ℕ) (o : StoreInOrder t r) where
         let seen = grant-seen (capacity t) (budget t) (frontLane t) in
         let k =
         pops-shown t r (o .stores) y (h .is-issued) (h .registered) granted (grant-fast-keeps (capacity t) small (frontLane t) i (budget t))
-        (grant-holds (ringOf y (capacity t)) r (capacity t) (budget t) (frontLane t)) f (seen .0) (seen .1)
+        (grant-holds (newRing y (capacity t)) r (capacity t) (budget t) (frontLane t)) f (seen .0) (seen .1)
         (granted-within (capacity t) (budget t) (frontLane t) small i) item m e in
-        subst (λ (z : ℕ). TookAs r (windowTook (setHead t 12 z) item m) (rules.takeOne (view t r))) (sym (slot-by t y m (k .0 .same-flags)))
-        (window-taken t r o y (queueOf (poppedFront t)) queue-is item m (k .0) (k .1) (setHead t 12 y) (step-fast-moved t r (o .stores) y)
+        subst (λ (z : ℕ). TookAs r (takeFromWindow (setHead t 12 z) item m) (rules.takeOne (view t r))) (sym (slot-by t y m (k .0 .same-flags)))
+        (window-taken t r o y (queueOf (popFront t)) queue-is item m (k .0) (k .1) (setHead t 12 y) (step-fast-moved t r (o .stores) y)
         (view-fast-slot t r (o .stores .shaped) y))
 
-  pub take-window-takes : TakesAs r (takeWindow t r) (rules.takeOne (view t r))
-  unfolding takeWindow openTook windowTook
+  pub take-window-takes : TakesAs r (takeFrontWindow t r) (rules.takeOne (view t r))
+  unfolding takeFrontWindow takeIfPopped takeFromWindow
   take-window-takes =
       cond-holds (λ p. TakesAs r p (rules.takeOne (view t r))) (eqb (queueCount t) 0) (Took.Nothing, t) _
-      (λ a. omega arith) (λ a. go (eqb-false (queueCount t) 0 a) (popFast (ringOf y (capacity t)) r granted) refl)
+      (λ a. omega arith) (λ a. go (eqb-false (queueCount t) 0 a) (popFast (newRing y (capacity t)) r granted) refl)
     where
-      go : (queueCount t ≡ 0 → ⊥) → (p : Popped) → popFast (ringOf y (capacity t)) r granted ≡ p → TakesAs r (openTook t p) (rules.takeOne (view t r))
+      go : (queueCount t ≡ 0 → ⊥) → (p : Popped) → popFast (newRing y (capacity t)) r granted ≡ p → TakesAs r (takeIfPopped t p) (rules.takeOne (view t r))
       go some (Popped.Item item m) e = opened-taken some item m e
       go some (Popped.Nothing m) e = omega arith

@@ -14,10 +14,10 @@ use Rattle.model.specs.State.{Slot, State, keyOf, releaseBatch}
 use Rattle.model.specs.Changes.{withQueue, withBudget, put, withRing, popped}
 use Rattle.model.specs.Order.{Ordered}
 use Rattle.model.specs.Turn as rules
-use Rattle.model.proofs.OrderKept as kept
+use Rattle.demands.proofs.OrderKept as kept
 use Rattle.lane.specs.declared.lane.Lane.{Lane}
-use Rattle.yring.specs.Ring.{ringOf}
-use Rattle.lane.specs.Lane.{held}
+use Rattle.yring.specs.Ring.{newRing}
+use Rattle.lane.specs.Lane.{heldItems}
 use Rattle.lane.specs.Order.{InOrder}
 use Rattle.lane.specs.Table.{laneAt, putLane, setHead}
 use Rattle.queues.specs.Header.{budget, capacity, fastSlot, laneCount, livingCount}
@@ -25,7 +25,7 @@ use Rattle.queues.specs.Queue.{queueOf}
 use Rattle.queues.proofs.QueueLaws.{shaped-putLane}
 use Rattle.store.specs.View.{slotAt, view}
 use Rattle.store.specs.Order.{Stores, StoreInOrder}
-use Rattle.receive.specs.Receive.{windowTook}
+use Rattle.receive.specs.Receive.{takeFromWindow}
 use Rattle.store.proofs.ViewLaws.{slot-in, view-put-holding, view-budget}
 use Rattle.store.proofs.StepLaws.{Step, step-start, step-put-lane, step-budget, step-fast-slot}
 use Rattle.store.proofs.StoreLaws.{below-slots, Owes, stores-after, windows-front}
@@ -38,7 +38,7 @@ use Rattle.refinement.proofs.TurnView.{TookAs}
 
 -- the lane in slot x with an item of its window less, its burst then n
 pub record Pops (t r : List ℕ) (x item n : ℕ) (m : Lane) : Type 0 where
-  pub takes : held (ringOf x (capacity t)) r (laneAt t x) ≡ item ∷ held (ringOf x (capacity t)) r m
+  pub takes : heldItems (newRing x (capacity t)) r (laneAt t x) ≡ item ∷ heldItems (newRing x (capacity t)) r m
   pub unreleased-more : unreleasedSeen m ≡ unreleasedSeen (laneAt t x) + 1
   pub below-batch : unreleasedSeen (laneAt t x) + 1 < releaseBatch (capacity t)
   pub burst-is : burstSeen m ≡ n
@@ -54,7 +54,7 @@ module _ (t r : List ℕ) (o : StoreInOrder t r) (x : ℕ) (q : List ℕ) (e : q
   slot = view t r .slotOf x
 
   abbrev left : List ℕ
-  left = held (ringOf x (capacity t)) r m
+  left = heldItems (newRing x (capacity t)) r m
 
   -- the table after
   abbrev taken : List ℕ
@@ -72,7 +72,7 @@ module _ (t r : List ℕ) (o : StoreInOrder t r) (x : ℕ) (q : List ℕ) (e : q
   view-stored : view (putLane u m) r ≡ put x (withRing left (unreleasedSeen m) (burstSeen m) slot) (view t r)
   view-stored =
       view-put-holding u r (s .shaped) x (rw (s .same-issued) (front .is-issued)) m (ap (λ (z : Flagged). z .0) flags-now) left
-      (ap (λ (C : ℕ). held (ringOf x C) r m) (s .same-capacity))
+      (ap (λ (C : ℕ). heldItems (newRing x C) r m) (s .same-capacity))
       (ap (λ (z : Flagged). z .1) flags-now) (ap (λ (z : Flagged). z .3) flags-now) (ap (λ (z : Flagged). z .2) flags-now) (ap (λ (z : Flagged). z .5) flags-now)
       ∙ ap (λ (v : State). put x (withRing left (unreleasedSeen m) (burstSeen m) (v .slotOf x)) v) same
 
@@ -122,8 +122,8 @@ module _ (t r : List ℕ) (o : StoreInOrder t r) (x : ℕ) (q : List ℕ) (e : q
 
   -- what the take comes to
   pub window-took : (back : Bool) → if back (q ++ (x ∷ [])) (x ∷ q) ≡ x ∷ q → n ≡ if back 0 (slot .burst + 1) → (back ≡ false → slot .burst < 63)
-      → TookAs r (windowTook u item m) ((keyOf (view t r) x, item) ∷ [], rules.giveItem (view t r) x q left back)
-  unfolding windowTook
+      → TookAs r (takeFromWindow u item m) ((keyOf (view t r) x, item) ∷ [], rules.giveItem (view t r) x q left back)
+  unfolding takeFromWindow
   window-took back turned burst below =
       record {
         alike = ap₂ (λ (a : LaneKey) (b : State). ((a, item) ∷ [], b)) (key-by t x m (k .same-flags) r (front .is-issued)) (window-view back turned burst);

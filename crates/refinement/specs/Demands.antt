@@ -13,14 +13,14 @@ use Rattle.model.specs.declared.Call.the-variants.{Receive}
 use Rattle.model.specs.declared.Refusal.{Refusal}
 use Rattle.model.specs.declared.Answer.the-variants.{Refused}
 use Rattle.model.specs.Runs.{RunsOf}
-use Rattle.model.specs.Words.{runsThatFit}
+use Rattle.model.specs.Simulation.{runsThatFit}
 use Rattle.model.specs.Demand1.{RefusalChangesNothing}
 use Rattle.model.specs.Demand2.{Demand2In, HasRoom, HandsAsAnsweredIn}
 use Rattle.model.specs.Demand3.{Demand3In}
 use Rattle.model.specs.Closed.{NoneAfterCloseIn}
 use Rattle.model.specs.Held.{HeldAsCountedIn}
-use Rattle.yring.specs.Ring.{ringOf}
-use Rattle.lane.specs.Lane.{held}
+use Rattle.yring.specs.Ring.{newRing}
+use Rattle.lane.specs.Lane.{heldItems}
 use Rattle.lane.specs.Table.{laneAt}
 use Rattle.queues.specs.Header.{issued, capacity}
 use Rattle.refinement.specs.Runs.{theStores}
@@ -30,7 +30,7 @@ unfoldable pub itemsIn : List ℕ → List ℕ → LaneKey → List ℕ
 itemsIn t r k =
     cond (ltb (k .slot) (issued t))
     (cond (eqb (laneAt t (k .slot) .registered) 1)
-    (cond (eqb (laneAt t (k .slot) .key .generation) (k .generation)) (held (ringOf (k .slot) (capacity t)) r (laneAt t (k .slot))) [])
+    (cond (eqb (laneAt t (k .slot) .key .generation) (k .generation)) (heldItems (newRing (k .slot) (capacity t)) r (laneAt t (k .slot))) [])
     [])
     []
 

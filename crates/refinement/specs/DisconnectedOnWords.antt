@@ -13,8 +13,8 @@ use Rattle.model.specs.declared.Call.the-variants.{Receive}
 use Rattle.model.specs.declared.Answer.the-variants.{Empty, Disconnected}
 use Rattle.model.specs.Runs.{accepted}
 use Rattle.model.specs.Stretch.{looks}
-use Rattle.yring.specs.Ring.{ringOf}
-use Rattle.lane.specs.Lane.{held}
+use Rattle.yring.specs.Ring.{newRing}
+use Rattle.lane.specs.Lane.{heldItems}
 use Rattle.lane.specs.Table.{laneAt}
 use Rattle.queues.specs.Header.{issued, alive, capacity, channel}
 use Rattle.store.specs.Order.{StoreInOrder}
@@ -24,7 +24,7 @@ use Rattle.refinement.specs.Runs.{StoreCalls, Run, storesAfter}
 
 -- the items in the ring of slot x, oldest first
 unfoldable pub ringAt : List ℕ → List ℕ → ℕ → List ℕ
-ringAt t r x = held (ringOf x (capacity t)) r (laneAt t x)
+ringAt t r x = heldItems (newRing x (capacity t)) r (laneAt t x)
 
 -- "no living sender"
 unfoldable pub NoSenderLives : List ℕ → Type 0

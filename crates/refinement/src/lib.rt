@@ -1,1 +1,1 @@
-// The receiver's calls on a store in order.
+// No code: every inner call does what the rules say, and lists of calls on the stores meet the demands.

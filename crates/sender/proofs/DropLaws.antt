@@ -25,8 +25,8 @@ use Rattle.queues.proofs.QueueLaws.{shaped-putLane}
 use Rattle.store.specs.View.{slotAt, view}
 use Rattle.store.specs.Order.{Stores, StoreInOrder}
 use Rattle.store.specs.Refusal.{senderVerdict}
-use Rattle.store.specs.Signal.{markedIfIdle}
-use Rattle.sender.specs.Sender.{withSender, dropped, dropSender}
+use Rattle.store.specs.Signal.{markIfIdle}
+use Rattle.sender.specs.Sender.{withSender, dropLane, dropSender}
 use Rattle.store.proofs.ViewLaws.{slot-in, view-put-flags, view-living-count}
 use Rattle.store.proofs.RefusalLaws.{seen, unless-refused-case, refused-alike, sender-verdict, Lives, sender-passes}
 use Rattle.store.proofs.StepLaws.{Step, step-start, step-put-lane, step-living-count}
@@ -57,21 +57,21 @@ module _ (t r : List ℕ) (k : LaneKey) (o : Stores t r) (p : Lives t k) where
 
   -- the table before the count
   abbrev u : List ℕ
-  u = markedIfIdle (putLane t left) l
+  u = markIfIdle (putLane t left) l
 
   run : Step t u x left (queueOf t) (fastSlot t) (budget t) (laneCount t) (livingCount t)
   run = step-marked-if-idle (step-put-lane (step-start t r o x) left at is-issued) l (rw at is-issued)
 
-  dropped-view : view (dropped t l) r ≡ put x (rules.signalled (rules.senderDropped (s .slotOf x))) s
-  unfolding dropped slotAt
+  dropped-view : view (dropLane t l) r ≡ put x (rules.signalled (rules.senderDropped (s .slotOf x))) s
+  unfolding dropLane slotAt
   dropped-view =
       view-living-count u r (run .shaped) (livingCount t - 1)
       ∙ view-put-marked-if-idle (putLane t left) r (shaped-putLane t (o .shaped) left) l x at (simp frames is-issued) _ s
       (view-put-flags t r (o .shaped) x is-issued left refl refl refl refl refl)
       ∙ rw (slot-in t r x is-issued, idle-flag (l .pending) (o .flags x is-issued .pending-flag))
 
-  dropped-stores : Stores (dropped t l) r
-  unfolding dropped
+  dropped-stores : Stores (dropLane t l) r
+  unfolding dropLane
   dropped-stores =
       let f = o .flags x is-issued in
       stores-after t r _ r o x is-issued left (queueOf t) (fastSlot t) (budget t) (laneCount t) (livingCount t - 1) (step-living-count run (livingCount t - 1))
@@ -99,7 +99,7 @@ module _ (t r : List ℕ) (k : LaneKey) (o : StoreInOrder t r) where
   pub drop-sender-alike : seen (dropSender t r k) ≡ (rules-sender.dropSender (view t r) k) .1
   unfolding dropSender rules-sender.dropSender
   drop-sender-alike =
-      refused-alike (senderVerdict t k) ((not (senderLives (view t r) k), NoSuchSender) ∷ []) t r (Done, dropped t (laneAt t (k .slot)), r)
+      refused-alike (senderVerdict t k) ((not (senderLives (view t r) k), NoSuchSender) ∷ []) t r (Done, dropLane t (laneAt t (k .slot)), r)
       (says Done (put (k .slot) (rules.signalled (rules.senderDropped (view t r .slotOf (k .slot)))) (view t r)))
       (sender-verdict t r k) (λ e. ap (λ (z : State). (Done, z)) (dropped-view t r k (o .stores) (sender-passes t k e)))
 
@@ -107,7 +107,7 @@ module _ (t r : List ℕ) (k : LaneKey) (o : StoreInOrder t r) where
   pub drop-sender-keeps : Stores ((dropSender t r k) .1) ((dropSender t r k) .2)
   unfolding dropSender
   drop-sender-keeps =
-      unless-refused-case (λ z. Stores (z .1) (z .2)) (senderVerdict t k) t r (Done, dropped t (laneAt t (k .slot)), r) (λ why e. o .stores)
+      unless-refused-case (λ z. Stores (z .1) (z .2)) (senderVerdict t k) t r (Done, dropLane t (laneAt t (k .slot)), r) (λ why e. o .stores)
       (λ e. dropped-stores t r k (o .stores) (sender-passes t k e))
 
   pub drop-sender-in-order : StoreInOrder ((dropSender t r k) .1) ((dropSender t r k) .2)

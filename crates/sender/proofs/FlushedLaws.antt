@@ -12,37 +12,37 @@ use Rattle.lane.specs.declared.lane.Lane.{Lane}
 use Rattle.yring.specs.declared.ring.Push.{Push}
 use Rattle.yring.specs.declared.ring.Push.the-variants.{Pushed, Full}
 use Rattle.yring.specs.declared.ring.Ring.{Ring}
-use Rattle.lane.specs.declared.consumer.Sent.{Sent}
-use Rattle.lane.specs.declared.consumer.Sent.the-variants as Sent
-use Rattle.yring.specs.Ring.{ringOf, pushCursor, putItem}
-use Rattle.lane.specs.Lane.{pushAndFlush, sentBy, flushed}
+use Rattle.lane.specs.declared.producer.Sent.{Sent}
+use Rattle.lane.specs.declared.producer.Sent.the-variants as Sent
+use Rattle.yring.specs.Ring.{newRing, push, put}
+use Rattle.lane.specs.Lane.{pushAndFlushItem, sentBy, pushAndFlush}
 use Rattle.lane.specs.Order.{sentLane}
 use Rattle.lane.specs.Table.{laneAt, putLane}
 use Rattle.lane.proofs.FlushLaws.{flush-taken, flush-full}
 use Rattle.queues.specs.Header.{capacity}
-use Rattle.sender.specs.Sender.{takenSignaled, sendSignaled, sendUnsignaled, pushed}
+use Rattle.sender.specs.Sender.{takeSignaled, sendSignaled, sendUnsignaled, pushed}
 
-module _ (ring : Ring) (l m : Lane) (s : Sent) (e : s ≡ flushed ring l) where
+module _ (ring : Ring) (l m : Lane) (s : Sent) (e : s ≡ pushAndFlush ring l) where
   -- the lane that a push hands back has the lane's key
   pub flushed-key : s ≡ Sent.Taken m → m .key ≡ l .key
-  unfolding flushed sentBy
-  flushed-key f = ap (λ (z : Sent). sentLane z .key) (sym f ∙ e) ∙ go (pushCursor ring (l .tail) (l .released))
+  unfolding pushAndFlush sentBy
+  flushed-key f = ap (λ (z : Sent). sentLane z .key) (sym f ∙ e) ∙ go (push ring (l .tail) (l .released))
     where
       go : (p : Push) → sentLane (sentBy l p) .key ≡ l .key
       go (Pushed c) = refl
       go Full = refl
 
-  module _ (t r : List ℕ) (k : LaneKey) (v : ℕ) (a : ring ≡ ringOf (k .slot) (capacity t)) (b : l ≡ laneAt t (k .slot)) where
-    here : pushed t r k v ≡ pushAndFlush ring r v l
-    here = ap₂ (λ (g : Ring) (x : Lane). pushAndFlush g r v x) (sym a) (sym b)
+  module _ (t r : List ℕ) (k : LaneKey) (v : ℕ) (a : ring ≡ newRing (k .slot) (capacity t)) (b : l ≡ laneAt t (k .slot)) where
+    here : pushed t r k v ≡ pushAndFlushItem ring r v l
+    here = ap₂ (λ (g : Ring) (x : Lane). pushAndFlushItem g r v x) (sym a) (sym b)
 
-    pushed-taken : s ≡ Sent.Taken m → pushed t r k v ≡ (Sent.Taken m, putItem ring r (l .tail) v)
+    pushed-taken : s ≡ Sent.Taken m → pushed t r k v ≡ (Sent.Taken m, put ring r (l .tail) v)
     pushed-taken f = here ∙ flush-taken ring r v l m (sym f ∙ e)
 
     pushed-full : s ≡ Sent.Full m → pushed t r k v ≡ (Sent.Full m, r)
     pushed-full f = here ∙ flush-full ring r v l m (sym f ∙ e)
 
-    pub signaled-taken : s ≡ Sent.Taken m → (x : Answer) (u q : List ℕ) → (x, u) ≡ takenSignaled t m → q ≡ putItem ring r (l .tail) v
+    pub signaled-taken : s ≡ Sent.Taken m → (x : Answer) (u q : List ℕ) → (x, u) ≡ takeSignaled t m → q ≡ put ring r (l .tail) v
         → (x, u, q) ≡ sendSignaled t (pushed t r k v)
     unfolding sendSignaled
     signaled-taken f x u q g h = ap₂ (λ (o : Answer × List ℕ) (y : List ℕ). (o .0, o .1, y)) g h ∙ sym (ap (sendSignaled t) (pushed-taken f))
@@ -51,7 +51,7 @@ module _ (ring : Ring) (l m : Lane) (s : Sent) (e : s ≡ flushed ring l) where
     unfolding sendSignaled
     signaled-full f = sym (ap (sendSignaled t) (pushed-full f))
 
-    pub unsignaled-taken : s ≡ Sent.Taken m → (u q : List ℕ) → u ≡ putLane t m → q ≡ putItem ring r (l .tail) v
+    pub unsignaled-taken : s ≡ Sent.Taken m → (u q : List ℕ) → u ≡ putLane t m → q ≡ put ring r (l .tail) v
         → (Taken false, u, q) ≡ sendUnsignaled t (pushed t r k v)
     unfolding sendUnsignaled
     unsignaled-taken f u q g h = ap₂ (λ (o y : List ℕ). (Taken false, o, y)) g h ∙ sym (ap (sendUnsignaled t) (pushed-taken f))

@@ -15,11 +15,11 @@ use lib.ListN.{length}
 use Rattle.model.specs.Lists.{if, count}
 use Rattle.model.specs.State.{vacant, registeredLanes, livingSenders}
 use Rattle.model.specs.Changes.{withIssued, put}
-use Rattle.model.proofs.Counting.{Same, equal, other, same?}
-use Rattle.model.proofs.Words.{state-path}
+use Rattle.demands.proofs.Counting.{Same, equal, other, same?}
+use Rattle.demands.proofs.Simulation.{state-path}
 use Rattle.lane.specs.declared.lane.Lane.{Lane}
-use Rattle.yring.specs.Ring.{ringOf}
-use Rattle.lane.specs.Lane.{held}
+use Rattle.yring.specs.Ring.{newRing}
+use Rattle.lane.specs.Lane.{heldItems}
 use Rattle.lane.specs.Order.{InOrder}
 use Rattle.lane.specs.Table.{HasRow, headerWords, head, setHead, setCell, laneAt, putLane}
 use Rattle.lane.proofs.TableLaws.{frames, has-row, lane-own, other-lane-kept}
@@ -27,7 +27,7 @@ use Rattle.queues.specs.Header.{Shaped, issued, slots, budget, capacity, fastSl
 use Rattle.queues.specs.Queue.{queueOf}
 use Rattle.queues.specs.Registry.{freeOf}
 use Rattle.ready.specs.Bits.{bit}
-use Rattle.ready.specs.Ready.{pageColumn, groupColumn, pageWord, groupWord, pageBit, groupBit, nonZero, Linked, openedGroup, openedPage}
+use Rattle.ready.specs.Ready.{pageColumn, groupColumn, pageWord, groupWord, pageBit, groupBit, nonZero, Linked, openGroup, openPage}
 use Rattle.ready.proofs.BitLaws.{bit-zero}
 use Rattle.queues.proofs.QueueLaws.{queue-frames, header-in}
 use Rattle.queues.proofs.RegistryLaws.{registry-frames}
@@ -44,8 +44,8 @@ module _ (t : List ℕ) (n : ℕ) where
   -- its group is opened too, its page alone, or neither
   opened-case : (P : List ℕ → Type 0)
       → (n % 64 ≡ 0 → n / 64 % 64 ≡ 0 → P (setCell (setCell t pageColumn (n / 64) 0) groupColumn (n / 64 / 64) 0))
-      → (n % 64 ≡ 0 → n / 64 % 64 ≢ 0 → P (setCell t pageColumn (n / 64) 0)) → (n % 64 ≢ 0 → P t) → P (openedPage t n)
-  unfolding openedPage openedGroup
+      → (n % 64 ≡ 0 → n / 64 % 64 ≢ 0 → P (setCell t pageColumn (n / 64) 0)) → (n % 64 ≢ 0 → P t) → P (openPage t n)
+  unfolding openPage openGroup
   opened-case P f g h = go (eqb (n % 64) 0) refl (eqb (n / 64 % 64) 0) refl
     where
       go : (a : Bool) → eqb (n % 64) 0 ≡ a → (b : Bool) → eqb (n / 64 % 64) 0 ≡ b
@@ -54,38 +54,38 @@ module _ (t : List ℕ) (n : ℕ) where
       go true p false q = g (eqb-true _ _ p) (eqb-false _ _ q)
       go false p b q = h (eqb-false _ _ p)
 
-  pub length-opened-page : length (openedPage t n) ≡ length t
+  pub length-opened-page : length (openPage t n) ≡ length t
   length-opened-page = opened-case (λ u. length u ≡ length t) (λ a b. simp frames) (λ a b. simp frames) (λ a. refl)
 
-  pub head-opened-page : (k : ℕ) → ltb k headerWords ≡ true → head (openedPage t n) k ≡ head t k
+  pub head-opened-page : (k : ℕ) → ltb k headerWords ≡ true → head (openPage t n) k ≡ head t k
   head-opened-page k p = opened-case (λ u. head u k ≡ head t k) (λ a b. simp (frames, p)) (λ a b. simp (frames, p)) (λ a. refl)
 
-  pub lane-opened-page : (y : ℕ) → laneAt (openedPage t n) y ≡ laneAt t y
+  pub lane-opened-page : (y : ℕ) → laneAt (openPage t n) y ≡ laneAt t y
   lane-opened-page y = opened-case (λ u. laneAt u y ≡ laneAt t y) (λ a b. simp frames) (λ a b. simp frames) (λ a. refl)
 
-  pub queue-opened-page : queueOf (openedPage t n) ≡ queueOf t
+  pub queue-opened-page : queueOf (openPage t n) ≡ queueOf t
   queue-opened-page = opened-case (λ u. queueOf u ≡ queueOf t) (λ a b. simp queue-frames) (λ a b. simp queue-frames) (λ a. refl)
 
-  pub free-opened-page : freeOf (openedPage t n) ≡ freeOf t
+  pub free-opened-page : freeOf (openPage t n) ≡ freeOf t
   free-opened-page = opened-case (λ u. freeOf u ≡ freeOf t) (λ a b. simp registry-frames) (λ a b. simp registry-frames) (λ a. refl)
 
   -- the words of other pages and groups
-  page-left : (p : ℕ) → (n % 64 ≡ 0 → p ≢ n / 64) → pageWord (openedPage t n) p ≡ pageWord t p
+  page-left : (p : ℕ) → (n % 64 ≡ 0 → p ≢ n / 64) → pageWord (openPage t n) p ≡ pageWord t p
   page-left p d =
       opened-case (λ u. pageWord u p ≡ pageWord t p) (λ a b. simp (frames, ne-eqb p (n / 64) (d a))) (λ a b. simp (frames, ne-eqb p (n / 64) (d a))) (λ a. refl)
 
-  group-left : (g : ℕ) → (n % 4096 ≡ 0 → g ≢ n / 64 / 64) → groupWord (openedPage t n) g ≡ groupWord t g
+  group-left : (g : ℕ) → (n % 4096 ≡ 0 → g ≢ n / 64 / 64) → groupWord (openPage t n) g ≡ groupWord t g
   group-left g d =
       opened-case (λ u. groupWord u g ≡ groupWord t g) (λ a b. simp (frames, ne-eqb g (n / 64 / 64) (d (omega arith)))) (λ a b. simp frames) (λ a. refl)
 
   module _ (r : HasRow n (length t)) where
     -- the first slot of a page finds it 0, the first page of a group finds that 0
-    page-opened : n % 64 ≡ 0 → pageWord (openedPage t n) (n / 64) ≡ 0
+    page-opened : n % 64 ≡ 0 → pageWord (openPage t n) (n / 64) ≡ 0
     page-opened z =
         let row = has-row t (n / 64) (omega arith) in
         opened-case (λ u. pageWord u (n / 64) ≡ 0) (λ a b. simp (frames, row)) (λ a b. simp (frames, row)) (λ a. absurd (a z))
 
-    group-opened : n % 4096 ≡ 0 → groupWord (openedPage t n) (n / 64 / 64) ≡ 0
+    group-opened : n % 4096 ≡ 0 → groupWord (openPage t n) (n / 64 / 64) ≡ 0
     group-opened z =
         let row = has-row t (n / 64 / 64) (omega arith) in
         let e : n / 64 ≡ n / 4096 * 64 = omega arith in
@@ -101,7 +101,7 @@ no-bit b z e = let o : _≡_ {A = ℕ} 1 0 = sym e ∙ ap (λ (x : ℕ). bit x b
 
 -- the next slot issued, its page and group opened
 abbrev pub issuedNext : List ℕ → List ℕ
-issuedNext t = setHead (openedPage t (issued t)) 0 (issued t + 1)
+issuedNext t = setHead (openPage t (issued t)) 0 (issued t + 1)
 
 module _ (t : List ℕ) (s : Shaped t) (k : Linked t) (below : issued t < slots t) where
   abbrev n : ℕ
@@ -113,7 +113,7 @@ module _ (t : List ℕ) (s : Shaped t) (k : Linked t) (below : issued t < slots 
   row : HasRow n (length t)
   row = omega (arith, s .room)
 
-  header-opened : leb headerWords (length (openedPage t n)) ≡ true
+  header-opened : leb headerWords (length (openPage t n)) ≡ true
   header-opened = rw (length-opened-page t n) (header-in t s)
 
   pub issued-next : issued u ≡ n + 1
@@ -134,10 +134,10 @@ module _ (t : List ℕ) (s : Shaped t) (k : Linked t) (below : issued t < slots 
   pub free-issued-next : freeOf u ≡ freeOf t
   free-issued-next = simp registry-frames (free-opened-page t n)
 
-  page-same : (p : ℕ) → pageWord u p ≡ pageWord (openedPage t n) p
+  page-same : (p : ℕ) → pageWord u p ≡ pageWord (openPage t n) p
   page-same p = simp frames
 
-  group-same : (g : ℕ) → groupWord u g ≡ groupWord (openedPage t n) g
+  group-same : (g : ℕ) → groupWord u g ≡ groupWord (openPage t n) g
   group-same g = simp frames
 
   pub shaped-issued-next : Shaped u
@@ -183,7 +183,7 @@ module _ (t : List ℕ) (s : Shaped t) (k : Linked t) (below : issued t < slots 
         | equal z p i ↦
             let m : n % 64 ≡ 0 = omega arith in
             let at : y / 64 ≡ n / 64 = omega arith in
-            absurd (no-bit (y % 64) (page-same (y / 64) ∙ ap (pageWord (openedPage t n)) at ∙ page-opened t n row m) e)
+            absurd (no-bit (y % 64) (page-same (y / 64) ∙ ap (pageWord (openPage t n)) at ∙ page-opened t n row m) e)
         | other d p i ↦
             let same : pageWord u (y / 64) ≡ pageWord t (y / 64) = page-same (y / 64) ∙ page-left t n (y / 64) (λ z f. d (omega arith)) in
             let b : y < n = k .of-issued y (omega arith) (ap (λ (w : ℕ). bit w (y % 64)) (sym same) ∙ e) in
@@ -195,7 +195,7 @@ module _ (t : List ℕ) (s : Shaped t) (k : Linked t) (below : issued t < slots 
         | equal z q i ↦
             let m : n % 64 ≡ 0 = omega arith in
             let at : p ≡ n / 64 = omega arith in
-            let empty : pageWord u p ≡ 0 = page-same p ∙ ap (pageWord (openedPage t n)) at ∙ page-opened t n row m in
+            let empty : pageWord u p ≡ 0 = page-same p ∙ ap (pageWord (openPage t n)) at ∙ page-opened t n row m in
             rw empty (not-one (groupWord u (p / 64)) (p % 64) (λ e. unset p z e (same? (p % 64) 0)))
         | other d q i ↦
             let below-n : 64 * p < n = omega arith in
@@ -207,7 +207,7 @@ module _ (t : List ℕ) (s : Shaped t) (k : Linked t) (below : issued t < slots 
           unset : (p : ℕ) → 64 * p ≡ n → groupBit u p ≡ 1 → Same (p % 64) 0 → ⊥
           unset p z e (equal m q i) =
               let at : p / 64 ≡ n / 64 / 64 = omega arith in
-              no-bit (p % 64) (group-same (p / 64) ∙ ap (groupWord (openedPage t n)) at ∙ group-opened t n row (omega arith)) e
+              no-bit (p % 64) (group-same (p / 64) ∙ ap (groupWord (openPage t n)) at ∙ group-opened t n row (omega arith)) e
           unset p z e (other m q i) =
               let same : groupWord u (p / 64) ≡ groupWord t (p / 64) = group-same (p / 64) ∙ group-left t n (p / 64) (λ c f. m (omega arith)) in
               let b : 64 * p < n = k .of-pages p (omega arith) (ap (λ (w : ℕ). bit w (p % 64)) (sym same) ∙ e) in
@@ -217,7 +217,7 @@ module _ (t : List ℕ) (s : Shaped t) (k : Linked t) (below : issued t < slots 
       group p h e = elim (same? (4096 * (p / 64)) n) [
         | equal z q i ↦
             let at : p / 64 ≡ n / 64 / 64 = omega arith in
-            absurd (no-bit (p % 64) (group-same (p / 64) ∙ ap (groupWord (openedPage t n)) at ∙ group-opened t n row (omega arith)) e)
+            absurd (no-bit (p % 64) (group-same (p / 64) ∙ ap (groupWord (openPage t n)) at ∙ group-opened t n row (omega arith)) e)
         | other d q i ↦
             let same : groupWord u (p / 64) ≡ groupWord t (p / 64) = group-same (p / 64) ∙ group-left t n (p / 64) (λ z f. d (omega arith)) in
             let b : 64 * p < n = k .of-pages p (omega arith) (ap (λ (w : ℕ). bit w (p % 64)) (sym same) ∙ e) in
@@ -236,7 +236,7 @@ module _ (t : List ℕ) (s : Shaped t) (k : Linked t) (below : issued t < slots 
       page p h = elim (same? (64 * p) n) [
         | equal z q i ↦
             let at : p ≡ n / 64 = omega arith in
-            rw (page-same p ∙ ap (pageWord (openedPage t n)) at ∙ page-opened t n row (omega arith)) (omega arith)
+            rw (page-same p ∙ ap (pageWord (openPage t n)) at ∙ page-opened t n row (omega arith)) (omega arith)
         | other d q i ↦ rw (page-same p ∙ page-left t n p (λ z f. d (omega arith))) (m .pages-fit p (omega arith))
       ]
 
@@ -244,7 +244,7 @@ module _ (t : List ℕ) (s : Shaped t) (k : Linked t) (below : issued t < slots 
       group g h = elim (same? (4096 * g) n) [
         | equal z q i ↦
             let at : g ≡ n / 64 / 64 = omega arith in
-            rw (group-same g ∙ ap (groupWord (openedPage t n)) at ∙ group-opened t n row (omega arith)) (omega arith)
+            rw (group-same g ∙ ap (groupWord (openPage t n)) at ∙ group-opened t n row (omega arith)) (omega arith)
         | other d q i ↦ rw (group-same g ∙ group-left t n g (λ z f. d (omega arith))) (m .groups-fit g (omega arith))
       ]
 
@@ -268,12 +268,12 @@ module _ (t : List ℕ) (s : Shaped t) (k : Linked t) (below : issued t < slots 
 
   -- a lane stored in the next slot
   pub view-issued : (r : List ℕ) (l : Lane) → l .key .slot ≡ n
-      → view (putLane u l) r ≡ withIssued (suc n) (put n (slotOf l 0 (held (ringOf n (capacity t)) r l)) (view t r))
+      → view (putLane u l) r ≡ withIssued (suc n) (put n (slotOf l 0 (heldItems (newRing n (capacity t)) r l)) (view t r))
   view-issued r l e =
       view-put-lane u shaped-issued-next l n e (rw issued-next (omega arith)) r
-      ∙ ap₂ (λ (b c : ℕ). put n (slotOf l b (held (ringOf n c) r l)) (view u r)) page-bit-next (head-issued-next 8 refl refl)
-      ∙ ap (put n (slotOf l 0 (held (ringOf n (capacity t)) r l))) (view-issued-next r)
-      ∙ ap (withIssued (suc n)) (put-put n (slotOf l 0 (held (ringOf n (capacity t)) r l)) (slotAt u r n) (view t r))
+      ∙ ap₂ (λ (b c : ℕ). put n (slotOf l b (heldItems (newRing n c) r l)) (view u r)) page-bit-next (head-issued-next 8 refl refl)
+      ∙ ap (put n (slotOf l 0 (heldItems (newRing n (capacity t)) r l))) (view-issued-next r)
+      ∙ ap (withIssued (suc n)) (put-put n (slotOf l 0 (heldItems (newRing n (capacity t)) r l)) (slotAt u r n) (view t r))
 
 -- ---- the store in order that it leaves
 

@@ -23,19 +23,19 @@ use Rattle.model.specs.Changes.{put, withFree, withIssued}
 use Rattle.model.specs.Sender as rules-sender
 use Rattle.model.specs.Sender.{issueSlot, olderLives}
 use Rattle.model.specs.Rules.{outcome}
-use Rattle.model.proofs.Counting.{no as clash}
-use Rattle.model.proofs.OrderKept.{first-own}
+use Rattle.demands.proofs.Counting.{no as clash}
+use Rattle.demands.proofs.OrderKept.{first-own}
 use Rattle.lane.specs.declared.lane.Lane.{Lane}
 use Rattle.yring.specs.declared.ring.Ring.{Ring}
-use Rattle.yring.specs.Ring.{ringOf, items}
-use Rattle.lane.specs.Lane.{newLane, held}
+use Rattle.yring.specs.Ring.{newRing, items}
+use Rattle.lane.specs.Lane.{newLane, heldItems}
 use Rattle.lane.specs.Table.{setHead, laneAt, putLane}
 use Rattle.lane.proofs.TableLaws.{frames}
 use Rattle.yring.proofs.CursorLaws.{distance-self}
 use Rattle.lane.proofs.OrderLaws.{new-lane-in-order}
 use Rattle.queues.specs.Header.{Shaped, issued, slots, budget, capacity, firstCursor, firstGeneration, fastSlot, freeCount, laneCount, livingCount}
 use Rattle.queues.specs.Queue.{queueOf}
-use Rattle.queues.specs.Registry.{freeOf, lastFreed, reissued}
+use Rattle.queues.specs.Registry.{freeOf, lastFreed, reissue}
 use Rattle.ready.specs.Ready.{pageBit}
 use Rattle.queues.proofs.QueueLaws.{shaped-putLane}
 use Rattle.queues.proofs.RegistryLaws.{registry-frames, length-free, free-reissued, shaped-reissued}
@@ -43,7 +43,7 @@ use Rattle.store.specs.declared.refusal.Verdict.the-variants.{Pass, Refuse}
 use Rattle.store.specs.View.{flag, slotOf, slotAt, view}
 use Rattle.store.specs.Order.{Flags, Stores, StoreInOrder}
 use Rattle.store.specs.Refusal.{receiverVerdict, andThen}
-use Rattle.sender.specs.Sender.{unusedVerdict, olderVerdict, slotVerdict, registerVerdict, dueKey, slotTaken, registeredWith, registerSender}
+use Rattle.sender.specs.Sender.{unusedVerdict, olderVerdict, slotVerdict, registerVerdict, dueKey, takeSlot, registerLane, registerSender}
 use Rattle.store.proofs.ViewLaws.{slot-in, slot-out, view-put-lane, free-view, view-reissued, view-lane-count, view-living-count}
 use Rattle.store.proofs.RefusalLaws.{seen, firstOf, first-of-append, unless-refused-case, refused-alike, receiver-verdict, and-then-passes}
 use Rattle.store.proofs.StepLaws.{step-start, step-put-lane, step-reissued, step-lane-count, step-living-count}
@@ -55,7 +55,7 @@ use Rattle.sender.proofs.SenderBounds.{some, not-below, pass-unless, re
 
 data FreeCase (t : List ℕ) : Type 0 where
   none : freeCount t ≡ 0 → freeOf t ≡ [] → FreeCase t
-  one : 0 < freeCount t → freeOf t ≡ lastFreed t ∷ freeOf (reissued t) → FreeCase t
+  one : 0 < freeCount t → freeOf t ≡ lastFreed t ∷ freeOf (reissue t) → FreeCase t
 
 free-case : (t : List ℕ) → Shaped t → FreeCase t
 free-case t s = elim (ℕ-discrete (freeCount t) 0) [
@@ -117,8 +117,8 @@ module _ (t r : List ℕ) (o : StoreInOrder t r) (most : ℕ) where
 -- ---- a new lane
 
 -- it holds nothing
-new-holds : (ring : Ring) (r : List ℕ) (k : LaneKey) (c : ℕ) → c < 2 ^ 64 → held ring r (newLane k c) ≡ []
-unfolding held items
+new-holds : (ring : Ring) (r : List ℕ) (k : LaneKey) (c : ℕ) → c < 2 ^ 64 → heldItems ring r (newLane k c) ≡ []
+unfolding heldItems items
 new-holds ring r k c h = rw (distance-self c h)
 
 new-flags : (k : LaneKey) (c : ℕ) → Flags (newLane k c)
@@ -142,29 +142,29 @@ module _ (t r : List ℕ) (o : StoreInOrder t r) where
     unfolding dueKey
     due-next = rw (eq-eqb _ _ e)
 
-    taken-next : slotTaken t ≡ issuedNext t
-    unfolding slotTaken
+    taken-next : takeSlot t ≡ issuedNext t
+    unfolding takeSlot
     taken-next = rw (eq-eqb _ _ e)
 
     shaped-next : Shaped (issuedNext t)
     shaped-next = shaped-issued-next t (o .stores .shaped) (o .stores .linked) below
 
-    next-view : view (registeredWith t next) r ≡ withIssued (suc (issued t)) (put (issued t) (rules.newLane (firstGeneration t) (view t r .slotOf (issued t))) (view t r))
-    unfolding registeredWith vacant
+    next-view : view (registerLane t next) r ≡ withIssued (suc (issued t)) (put (issued t) (rules.newLane (firstGeneration t) (view t r .slotOf (issued t))) (view t r))
+    unfolding registerLane vacant
     next-view =
         rw taken-next
         (view-counted (putLane (issuedNext t) (newLane next c)) (laneCount t + 1) (livingCount t + 1) (shaped-putLane (issuedNext t) shaped-next (newLane next c))
         ∙ view-issued t (o .stores .shaped) (o .stores .linked) below r (newLane next c) refl
-        ∙ rw (new-holds (ringOf (issued t) (capacity t)) r next c (o .stores .first-cursor), slot-out t r (issued t) (le-ltb (issued t) (issued t) (omega arith))))
+        ∙ rw (new-holds (newRing (issued t) (capacity t)) r next c (o .stores .first-cursor), slot-out t r (issued t) (le-ltb (issued t) (issued t) (omega arith))))
 
-    next-stores : Stores (registeredWith t next) r
-    unfolding registeredWith
+    next-stores : Stores (registerLane t next) r
+    unfolding registerLane
     next-stores =
         rw taken-next
         (stores-registered-next t r (o .stores) below (newLane next c) refl (new-flags next c)
         (new-lane-in-order (capacity t) (o .stores .power) next c (o .stores .first-cursor)) refl refl refl refl)
 
-  module _ (h : 0 < freeCount t) (l : freeOf t ≡ lastFreed t ∷ freeOf (reissued t)) where
+  module _ (h : 0 < freeCount t) (l : freeOf t ≡ lastFreed t ∷ freeOf (reissue t)) where
     abbrev x : ℕ
     x = lastFreed t
 
@@ -181,27 +181,27 @@ module _ (t r : List ℕ) (o : StoreInOrder t r) where
     unfolding dueKey
     due-again = rw (ne-eqb _ _ not-none)
 
-    taken-again : slotTaken t ≡ reissued t
-    unfolding slotTaken
+    taken-again : takeSlot t ≡ reissue t
+    unfolding takeSlot
     taken-again = rw (ne-eqb _ _ not-none)
 
     seen-generation : view t r .slotOf x .generation ≡ laneAt t x .key .generation
     unfolding slotAt
     seen-generation = rw (slot-in t r x (free .is-issued))
 
-    again-view : view (registeredWith t again) r
-        ≡ withFree (freeOf (reissued t)) (put x (rules.newLane (view t r .slotOf x .generation + 1) (view t r .slotOf x)) (view t r))
-    unfolding registeredWith slotAt
+    again-view : view (registerLane t again) r
+        ≡ withFree (freeOf (reissue t)) (put x (rules.newLane (view t r .slotOf x .generation + 1) (view t r .slotOf x)) (view t r))
+    unfolding registerLane slotAt
     again-view =
-        let u : List ℕ = reissued t in
+        let u : List ℕ = reissue t in
         let m : Lane = newLane again c in
         let same : pageBit u x ≡ pageBit t x = simp registry-frames in
         rw taken-again
         (view-counted (putLane u m) (laneCount t + 1) (livingCount t + 1) (shaped-putLane u (shaped-reissued t (o .stores .shaped)) m)
         ∙ view-put-lane u (shaped-reissued t (o .stores .shaped)) m x refl (simp registry-frames (free .is-issued)) r
-        ∙ ap₂ (λ (b : ℕ) (z : State). put x (slotOf m b (held (ringOf x (capacity u)) r m)) z) same
+        ∙ ap₂ (λ (b : ℕ) (z : State). put x (slotOf m b (heldItems (newRing x (capacity u)) r m)) z) same
         (view-reissued t r (o .stores .shaped) x (freeOf u) (free-view t r (o .stores .shaped) h))
-        ∙ rw (new-holds (ringOf x (capacity u)) r again c (o .stores .first-cursor), slot-in t r x (free .is-issued)))
+        ∙ rw (new-holds (newRing x (capacity u)) r again c (o .stores .first-cursor), slot-in t r x (free .is-issued)))
 
     -- a free slot is not queued
     unqueued : count x (queueOf t) ≡ 0
@@ -209,7 +209,7 @@ module _ (t r : List ℕ) (o : StoreInOrder t r) where
     unqueued = go (count x (queueOf t)) (o .ordered .each-slot x .queued-registered)
       where
         named : 1 ≤ count x (freeOf t)
-        named = omega (arith, ap (count x) l, first-own x (freeOf (reissued t)))
+        named = omega (arith, ap (count x) l, first-own x (freeOf (reissue t)))
 
         go : (n : ℕ) → (1 ≤ n → view t r .slotOf x .registered ≡ true) → n ≡ 0
         go zero f = refl
@@ -218,8 +218,8 @@ module _ (t r : List ℕ) (o : StoreInOrder t r) where
     zero-flag : (w : ℕ) → w ≤ 1 → w ≢ 1 → w ≡ 0
     zero-flag w a b = omega arith
 
-    again-stores : laneAt t x .living ≢ 1 → Stores (registeredWith t again) r
-    unfolding registeredWith
+    again-stores : laneAt t x .living ≢ 1 → Stores (registerLane t again) r
+    unfolding registerLane
     again-stores dropped =
         let m : Lane = newLane again c in
         let f = o .stores .flags x (free .is-issued) in
@@ -255,20 +255,20 @@ module _ (t r : List ℕ) (o : StoreInOrder t r) (most : ℕ) where
       let d = pass-unless (eqb (laneAt t (lastFreed t) .living) 1) Pass OlderSenderLives (rw (ne-eqb _ _ n) at (b .1)) in
       eqb-false _ _ (d .0) z
 
-  registered-alike : registerVerdict t most ≡ Pass → FreeCase t → seen (Registered (dueKey t), registeredWith t (dueKey t), r) ≡ (issueSlot (view t r .free) (view t r)) .1
+  registered-alike : registerVerdict t most ≡ Pass → FreeCase t → seen (Registered (dueKey t), registerLane t (dueKey t), r) ≡ (issueSlot (view t r .free) (view t r)) .1
   unfolding issueSlot view
   registered-alike e (none z l) =
       let below : issued t < slots t = register-room t r o most e .due z in
-      let here : seen (Registered (dueKey t), registeredWith t (dueKey t), r) ≡ (issueSlot [] (view t r)) .1 =
+      let here : seen (Registered (dueKey t), registerLane t (dueKey t), r) ≡ (issueSlot [] (view t r)) .1 =
       rw (due-next t r o z l below) (ap (λ (u : State). (Registered (next t r o z l below), u)) (next-view t r o z l below)) in
       here ∙ sym (ap (λ (f : List ℕ). (issueSlot f (view t r)) .1) l)
   registered-alike e (one h l) =
-      let here : seen (Registered (dueKey t), registeredWith t (dueKey t), r) ≡ (issueSlot (lastFreed t ∷ freeOf (reissued t)) (view t r)) .1 =
+      let here : seen (Registered (dueKey t), registerLane t (dueKey t), r) ≡ (issueSlot (lastFreed t ∷ freeOf (reissue t)) (view t r)) .1 =
       rw (due-again t r o h l)
       (ap₂ (λ (g : ℕ) (u : State). (Registered (record { slot = lastFreed t; generation = g + 1 }), u)) (sym (seen-generation t r o h l)) (again-view t r o h l)) in
       here ∙ sym (ap (λ (f : List ℕ). (issueSlot f (view t r)) .1) l)
 
-  registered-stores : registerVerdict t most ≡ Pass → FreeCase t → Stores (registeredWith t (dueKey t)) r
+  registered-stores : registerVerdict t most ≡ Pass → FreeCase t → Stores (registerLane t (dueKey t)) r
   registered-stores e (none z l) =
       let below : issued t < slots t = register-room t r o most e .due z in
       rw (due-next t r o z l below) (next-stores t r o z l below)
@@ -278,14 +278,14 @@ module _ (t r : List ℕ) (o : StoreInOrder t r) (most : ℕ) where
   pub register-sender-alike : seen (registerSender t r most) ≡ (rules-sender.registerSender (view t r) most) .1
   unfolding registerSender rules-sender.registerSender
   register-sender-alike =
-      refused-alike (registerVerdict t most) (tests t r o most) t r (Registered (dueKey t), registeredWith t (dueKey t), r) (issueSlot (view t r .free) (view t r))
+      refused-alike (registerVerdict t most) (tests t r o most) t r (Registered (dueKey t), registerLane t (dueKey t), r) (issueSlot (view t r .free) (view t r))
       (register-verdict t r o most) (λ e. registered-alike e (free-case t (o .stores .shaped)))
 
   -- and leaves a store in order
   pub register-sender-keeps : Stores ((registerSender t r most) .1) ((registerSender t r most) .2)
   unfolding registerSender
   register-sender-keeps =
-      unless-refused-case (λ z. Stores (z .1) (z .2)) (registerVerdict t most) t r (Registered (dueKey t), registeredWith t (dueKey t), r) (λ why e. o .stores)
+      unless-refused-case (λ z. Stores (z .1) (z .2)) (registerVerdict t most) t r (Registered (dueKey t), registerLane t (dueKey t), r) (λ why e. o .stores)
       (λ e. registered-stores e (free-case t (o .stores .shaped)))
 
   pub register-sender-in-order : StoreInOrder ((registerSender t r most) .1) ((registerSender t r most) .2)

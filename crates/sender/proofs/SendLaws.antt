@@ -25,11 +25,11 @@ use Rattle.model.specs.Sender as rules-sender
 use Rattle.model.specs.Rules.{outcome}
 use Rattle.lane.specs.declared.lane.Lane.{Lane}
 use Rattle.yring.specs.declared.ring.Ring.{Ring}
-use Rattle.lane.specs.declared.consumer.Sent.{Sent}
-use Rattle.lane.specs.declared.consumer.Sent.the-variants as Sent
+use Rattle.lane.specs.declared.producer.Sent.{Sent}
+use Rattle.lane.specs.declared.producer.Sent.the-variants as Sent
 use Rattle.yring.specs.Cursor.{after, distance}
-use Rattle.yring.specs.Ring.{Within, ringOf, place, push}
-use Rattle.lane.specs.Lane.{withCursors, held, sent, pushAndFlush}
+use Rattle.yring.specs.Ring.{Within, newRing, index, pushItem}
+use Rattle.lane.specs.Lane.{withCursors, heldItems, sent, pushAndFlushItem}
 use Rattle.lane.specs.Order.{InOrder, sentLane}
 use Rattle.lane.specs.Table.{laneAt, putLane}
 use Rattle.lane.proofs.TableLaws.{frames, slot-of-lane}
@@ -43,8 +43,8 @@ use Rattle.store.specs.View.{slotOf, slotAt, view}
 use Rattle.store.specs.Order.{Stores, StoreInOrder}
 use Rattle.store.specs.Refusal.{sendVerdict}
 use Rattle.store.specs.Words.{Words, unlessRefused}
-use Rattle.store.specs.Signal.{markedIfIdle}
-use Rattle.sender.specs.Sender.{withSender, takenSignaled, sendSignaled, sendUnsignaled, pushed, trySend, trySendUnsignaled}
+use Rattle.store.specs.Signal.{markIfIdle}
+use Rattle.sender.specs.Sender.{withSender, takeSignaled, sendSignaled, sendUnsignaled, pushed, trySend, trySendUnsignaled}
 use Rattle.store.proofs.ViewLaws.{slot-in, view-sent}
 use Rattle.store.proofs.RefusalLaws.{seen, unless-append, unless-refused-case, refused-alike, send-verdict, Sends, send-passes}
 use Rattle.store.proofs.StepLaws.{Step, step-start, step-put-lane}
@@ -58,12 +58,12 @@ abbrev grown : Lane → Lane
 grown l = withCursors (after (l .tail) 1) (l .released) (l .head) (l .known) l
 
 module _ (ring : Ring) (r : List ℕ) (v : ℕ) (l : Lane) where
-  push-full : distance (l .tail) (l .released) ≡ ring .capacity → pushAndFlush ring r v l ≡ (Sent.Full l, r)
-  unfolding pushAndFlush sent push
+  push-full : distance (l .tail) (l .released) ≡ ring .capacity → pushAndFlushItem ring r v l ≡ (Sent.Full l, r)
+  unfolding pushAndFlushItem sent pushItem
   push-full e = rw (eq-eqb _ _ e)
 
-  push-taken : distance (l .tail) (l .released) ≢ ring .capacity → pushAndFlush ring r v l ≡ (Sent.Taken (grown l), set r (place ring (l .tail)) v)
-  unfolding pushAndFlush sent push
+  push-taken : distance (l .tail) (l .released) ≢ ring .capacity → pushAndFlushItem ring r v l ≡ (Sent.Taken (grown l), set r (index ring (l .tail)) v)
+  unfolding pushAndFlushItem sent pushItem
   push-taken n = rw (ne-eqb _ _ n)
 
 -- a number within a bound has reached it exactly if it is the bound
@@ -95,41 +95,41 @@ module _ (t r : List ℕ) (k : LaneKey) (v : ℕ) (o : Stores t r) (p : Sends t 
   order : InOrder C l
   order = o .lanes x is-issued (p .registered)
 
-  ring-in : Within (ringOf x C) (length r)
+  ring-in : Within (newRing x C) (length r)
   ring-in = issued-ring-in t r o x is-issued
 
   -- the rules' test of a full ring is the ring's
   full-alike : isFull s x ≡ eqb (distance (l .tail) (l .released)) C
-  unfolding isFull view slotAt held
+  unfolding isFull view slotAt heldItems
   full-alike =
-      rw (slot-in t r x is-issued, length-items (ringOf x C) r (l .head) (distance (l .tail) (l .head)), ← span-is C (o .power .most) l order)
+      rw (slot-in t r x is-issued, length-items (newRing x C) r (l .head) (distance (l .tail) (l .head)), ← span-is C (o .power .most) l order)
       (reached (distance (l .tail) (l .released)) C (order .cursors .tail-within))
 
   -- an item refused as full, or taken
   sent-case : (P : Sent × List ℕ → Bool → Type 0) → P (Sent.Full l, r) true
-      → (distance (l .tail) (l .released) ≢ C → P (Sent.Taken (grown l), set r (place (ringOf x C) (l .tail)) v) false) → P (pushed t r k v) (isFull s x)
+      → (distance (l .tail) (l .released) ≢ C → P (Sent.Taken (grown l), set r (index (newRing x C) (l .tail)) v) false) → P (pushed t r k v) (isFull s x)
   sent-case P f g = rw full-alike (go (eqb (distance (l .tail) (l .released)) C) refl)
     where
       go : (b : Bool) → eqb (distance (l .tail) (l .released)) C ≡ b → P (pushed t r k v) b
-      go true e = rw (push-full (ringOf x C) r v l (eqb-true _ _ e)) f
-      go false e = rw (push-taken (ringOf x C) r v l (eqb-false _ _ e)) (g (eqb-false _ _ e))
+      go true e = rw (push-full (newRing x C) r v l (eqb-true _ _ e)) f
+      go false e = rw (push-taken (newRing x C) r v l (eqb-false _ _ e)) (g (eqb-false _ _ e))
 
   module _ (n : distance (l .tail) (l .released) ≢ C) where
     abbrev q : List ℕ
-    q = set r (place (ringOf x C) (l .tail)) v
+    q = set r (index (newRing x C) (l .tail)) v
 
     -- the lane with its item, whatever its signal
     view-taken : (m : Lane) → m .key .slot ≡ x → m .head ≡ l .head → m .tail ≡ after (l .tail) 1
-        → view (putLane t m) q ≡ put x (slotOf m (pageBit t x) (held (ringOf x C) r l ++ (v ∷ []))) s
+        → view (putLane t m) q ≡ put x (slotOf m (pageBit t x) (heldItems (newRing x C) r l ++ (v ∷ []))) s
     view-taken m e a b =
-        let w : pushAndFlush (ringOf x C) r v l ≡ (Sent.Taken (grown l), q) = push-taken (ringOf x C) r v l n in
+        let w : pushAndFlushItem (newRing x C) r v l ≡ (Sent.Taken (grown l), q) = push-taken (newRing x C) r v l n in
         ap (λ (z : Sent × List ℕ). view (putLane t m) (z .1)) (sym w)
         ∙ view-sent t r (o .shaped) x is-issued ring-in v order n m e
         (a ∙ ap (λ (z : Sent × List ℕ). sentLane (z .0) .head) (sym w)) (b ∙ ap (λ (z : Sent × List ℕ). sentLane (z .0) .tail) (sym w))
 
     order-taken : InOrder C (grown l)
     order-taken =
-        subst (λ (z : Sent × List ℕ). InOrder C (sentLane (z .0))) (push-taken (ringOf x C) r v l n) (push-and-flush-keeps (ringOf x C) (o .power .most) r v l order)
+        subst (λ (z : Sent × List ℕ). InOrder C (sentLane (z .0))) (push-taken (newRing x C) r v l n) (push-and-flush-keeps (newRing x C) (o .power .most) r v l order)
 
     -- what a send owes for the lane, whatever its signal
     owes-taken : (pending : ℕ) → pending ≤ 1 → Owes t x (withSender pending (l .living) (grown l)) (queueOf t) (fastSlot t) (budget t) (laneCount t) (livingCount t)
@@ -149,12 +149,12 @@ module _ (t r : List ℕ) (k : LaneKey) (v : ℕ) (o : Stores t r) (p : Sends t 
         }
 
     long-enough : slots t * C ≤ length q
-    long-enough = rw (length-set r (place (ringOf x C) (l .tail)) v) (o .rings-room)
+    long-enough = rw (length-set r (index (newRing x C) (l .tail)) v) (o .rings-room)
 
     -- ---- the two kinds
 
     signaled-view : seen (sendSignaled t (Sent.Taken (grown l), q)) ≡ (Taken (not (s .slotOf x .pending)), put x (rules.signalled (rules.pushed v (s .slotOf x))) s)
-    unfolding sendSignaled takenSignaled slotAt
+    unfolding sendSignaled takeSignaled slotAt
     signaled-view =
         let m : Lane = withSender 1 (l .living) (grown l) in
         let at : l .key .slot ≡ x = slot-of-lane t x in
@@ -171,7 +171,7 @@ module _ (t r : List ℕ) (k : LaneKey) (v : ℕ) (o : Stores t r) (p : Sends t 
     start : Step t t x l (queueOf t) (fastSlot t) (budget t) (laneCount t) (livingCount t)
     start = step-start t r o x
 
-    signaled-stores : Stores (markedIfIdle (putLane t (withSender 1 (l .living) (grown l))) (grown l)) q
+    signaled-stores : Stores (markIfIdle (putLane t (withSender 1 (l .living) (grown l))) (grown l)) q
     signaled-stores =
         let m : Lane = withSender 1 (l .living) (grown l) in
         let at : l .key .slot ≡ x = slot-of-lane t x in
@@ -202,7 +202,7 @@ module _ (t r : List ℕ) (k : LaneKey) (v : ℕ) (o : Stores t r) (p : Sends t 
       sent-case (λ z b. seen (sendUnsignaled t z) ≡ (unless ((b, Full) ∷ []) s (says (Taken false) (put x (rules.pushed v (s .slotOf x)) s))) .1) refl unsignaled-view
 
   signaled-keeps : Stores ((sendSignaled t (pushed t r k v)) .1) ((sendSignaled t (pushed t r k v)) .2)
-  unfolding sendSignaled takenSignaled
+  unfolding sendSignaled takeSignaled
   signaled-keeps = sent-case (λ z b. Stores ((sendSignaled t z) .1) ((sendSignaled t z) .2)) o signaled-stores
 
   unsignaled-keeps : Stores ((sendUnsignaled t (pushed t r k v)) .1) ((sendUnsignaled t (pushed t r k v)) .2)

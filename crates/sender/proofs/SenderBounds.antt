@@ -17,14 +17,14 @@ use Rattle.lane.specs.Table.{setHead}
 use Rattle.lane.proofs.OrderLaws.{cond-holds}
 use Rattle.lane.proofs.TableLaws.{frames}
 use Rattle.queues.specs.Header.{Shaped, issued, slots, freeCount, laneCount, livingCount}
-use Rattle.queues.specs.Registry.{lastFreed, reissued}
-use Rattle.ready.specs.Ready.{openedPage}
+use Rattle.queues.specs.Registry.{lastFreed, reissue}
+use Rattle.ready.specs.Ready.{openPage}
 use Rattle.store.specs.declared.refusal.Verdict.{Verdict}
 use Rattle.store.specs.declared.refusal.Verdict.the-variants.{Pass, Refuse}
 use Rattle.store.specs.View.{view}
 use Rattle.store.specs.Order.{Stores, StoreInOrder}
 use Rattle.store.specs.Refusal.{sendVerdict, receiverVerdict}
-use Rattle.sender.specs.Sender.{SendRoom, unusedVerdict, slotVerdict, registerVerdict, FreeIssued, SlotDue, RegisterRoom, dueKey, slotTaken}
+use Rattle.sender.specs.Sender.{SendRoom, unusedVerdict, slotVerdict, registerVerdict, FreeIssued, SlotDue, RegisterRoom, dueKey, takeSlot}
 use Rattle.store.proofs.RefusalLaws.{passes, and-then-passes, send-passes}
 use Rattle.store.proofs.StoreLaws.{below-slots, issued-ring-in, last-freed-slot}
 use Rattle.sender.proofs.IssueLaws.{length-opened-page}
@@ -107,8 +107,8 @@ due-in t s f d = go (eqb (freeCount t) 0) refl _ _
 
 -- ---- lengths
 
-pub length-taken : (t : List ℕ) → length (slotTaken t) ≡ length t
-unfolding slotTaken reissued
+pub length-taken : (t : List ℕ) → length (takeSlot t) ≡ length t
+unfolding takeSlot reissue
 length-taken t =
-    cond-holds (λ u. length u ≡ length t) (eqb (freeCount t) 0) (setHead (openedPage t (issued t)) 0 (issued t + 1)) (reissued t)
+    cond-holds (λ u. length u ≡ length t) (eqb (freeCount t) 0) (setHead (openPage t (issued t)) 0 (issued t + 1)) (reissue t)
     (λ e. simp (frames, length-opened-page)) (λ e. simp frames)

@@ -13,18 +13,18 @@ use Rattle.model.specs.declared.SenderCall.the-variants.{RegisterSender, TrySen
 use Rattle.model.specs.declared.Answer.{Answer}
 use Rattle.model.specs.declared.Answer.the-variants.{Done, Registered, Taken, Refused}
 use Rattle.lane.specs.declared.lane.Lane.{Lane}
-use Rattle.lane.specs.declared.consumer.Sent.{Sent}
-use Rattle.lane.specs.declared.consumer.Sent.the-variants as Sent
-use Rattle.lane.specs.Lane.{withFlags, newLane, pushAndFlush}
-use Rattle.yring.specs.Ring.{Within, ringOf}
+use Rattle.lane.specs.declared.producer.Sent.{Sent}
+use Rattle.lane.specs.declared.producer.Sent.the-variants as Sent
+use Rattle.lane.specs.Lane.{withFlags, newLane, pushAndFlushItem}
+use Rattle.yring.specs.Ring.{Within, newRing}
 use Rattle.lane.specs.Table.{laneAt, putLane}
 use Rattle.queues.specs.Header.{setIssued, setLaneCount, setLivingCount, Shaped, issued, freeCount, slots, alive, capacity, firstCursor, firstGeneration, laneCount, livingCount}
-use Rattle.queues.specs.Registry.{lastFreed, reissued}
-use Rattle.ready.specs.Ready.{openedPage}
+use Rattle.queues.specs.Registry.{lastFreed, reissue}
+use Rattle.ready.specs.Ready.{openPage}
 use Rattle.store.specs.declared.refusal.Verdict.{Verdict}
 use Rattle.store.specs.declared.refusal.Verdict.the-variants.{Pass, Refuse}
 use Rattle.store.specs.Refusal.{senderVerdict, sendVerdict, receiverVerdict, andThen}
-use Rattle.store.specs.Signal.{markedIfIdle}
+use Rattle.store.specs.Signal.{markIfIdle}
 use Rattle.store.specs.Words.{Words, unlessRefused}
 
 -- a lane with another signal and another sender
@@ -32,11 +32,11 @@ abbrev pub withSender : ℕ → ℕ → Lane → Lane
 withSender pending living l = withFlags pending (l .queued) (l .paused) (l .registered) living l
 
 -- "answers whether the signal went from idle to pending"
-unfoldable pub takenSignaled : List ℕ → Lane → Answer × List ℕ
-takenSignaled t l = (Taken (eqb (l .pending) 0), markedIfIdle (putLane t (withSender 1 (l .living) l)) l)
+unfoldable pub takeSignaled : List ℕ → Lane → Answer × List ℕ
+takeSignaled t l = (Taken (eqb (l .pending) 0), markIfIdle (putLane t (withSender 1 (l .living) l)) l)
 
 unfoldable pub sendSignaled : List ℕ → Sent × List ℕ → Words
-sendSignaled t (Sent.Taken l, r) = let a = takenSignaled t l in (a .0, a .1, r)
+sendSignaled t (Sent.Taken l, r) = let a = takeSignaled t l in (a .0, a .1, r)
 sendSignaled t (Sent.Full l, r) = (Refused Refusal.Full, t, r)
 
 -- "unsignalled always 0"
@@ -46,13 +46,13 @@ sendUnsignaled t (Sent.Full l, r) = (Refused Refusal.Full, t, r)
 
 -- what the ring of a key's slot answers to an item
 abbrev pub pushed : List ℕ → List ℕ → LaneKey → ℕ → Sent × List ℕ
-pushed t r k v = pushAndFlush (ringOf (k .slot) (capacity t)) r v (laneAt t (k .slot))
+pushed t r k v = pushAndFlushItem (newRing (k .slot) (capacity t)) r v (laneAt t (k .slot))
 
 -- what a push needs of the words: a slot of the table, and its ring within the ring store of so many words
 pub record SendRoom (t : List ℕ) (words slot : ℕ) : Type 0 where
   pub shaped : Shaped t
   pub slot-in : slot < slots t
-  pub ring-in : Within (ringOf slot (capacity t)) words
+  pub ring-in : Within (newRing slot (capacity t)) words
 
 unfoldable pub trySend : List ℕ → List ℕ → LaneKey → ℕ → Words
 trySend t r k v = unlessRefused (sendVerdict t k) t r (sendSignaled t (pushed t r k v))
@@ -61,11 +61,11 @@ unfoldable pub trySendUnsignaled : List ℕ → List ℕ → LaneKey → ℕ →
 trySendUnsignaled t r k v = unlessRefused (sendVerdict t k) t r (sendUnsignaled t (pushed t r k v))
 
 -- "Dropping a sender marks its lane [..] and lowers the living count"
-unfoldable pub dropped : List ℕ → Lane → List ℕ
-dropped t l = setLivingCount (markedIfIdle (putLane t (withSender 1 0 l)) l) (livingCount t - 1)
+unfoldable pub dropLane : List ℕ → Lane → List ℕ
+dropLane t l = setLivingCount (markIfIdle (putLane t (withSender 1 0 l)) l) (livingCount t - 1)
 
 unfoldable pub dropSender : List ℕ → List ℕ → LaneKey → Words
-dropSender t r k = unlessRefused (senderVerdict t k) t r (Done, dropped t (laneAt t (k .slot)), r)
+dropSender t r k = unlessRefused (senderVerdict t k) t r (Done, dropLane t (laneAt t (k .slot)), r)
 
 -- "free list empty and slot S - 1 issued"
 unfoldable pub unusedVerdict : ℕ → ℕ → Verdict
@@ -105,19 +105,19 @@ dueKey t =
     (record { slot = lastFreed t; generation = laneAt t (lastFreed t) .key .generation + 1 })
 
 -- its slot is taken off the free list, or is one more issued, with a page and group of its own where it is their first
-unfoldable pub slotTaken : List ℕ → List ℕ
-slotTaken t = cond (eqb (freeCount t) 0) (setIssued (openedPage t (issued t)) (issued t + 1)) (reissued t)
+unfoldable pub takeSlot : List ℕ → List ℕ
+takeSlot t = cond (eqb (freeCount t) 0) (setIssued (openPage t (issued t)) (issued t + 1)) (reissue t)
 
-unfoldable pub registeredWith : List ℕ → LaneKey → List ℕ
-registeredWith t k =
-    setLivingCount (setLaneCount (putLane (slotTaken t) (newLane k (firstCursor t))) (laneCount t + 1)) (livingCount t + 1)
+unfoldable pub registerLane : List ℕ → LaneKey → List ℕ
+registerLane t k =
+    setLivingCount (setLaneCount (putLane (takeSlot t) (newLane k (firstCursor t))) (laneCount t + 1)) (livingCount t + 1)
 
 unfoldable pub registerVerdict : List ℕ → ℕ → Verdict
 registerVerdict t most = andThen (receiverVerdict t) (slotVerdict t most)
 
 unfoldable pub registerSender : List ℕ → List ℕ → ℕ → Words
 registerSender t r most =
-    unlessRefused (registerVerdict t most) t r (Registered (dueKey t), registeredWith t (dueKey t), r)
+    unlessRefused (registerVerdict t most) t r (Registered (dueKey t), registerLane t (dueKey t), r)
 
 -- every sender call
 unfoldable pub senderWords : List ℕ → List ℕ → SenderCall → Words

@@ -1,2 +1,2 @@
-// Opening, and the sender calls on a store in order.
+// The sender calls on a store in order.
 pub mod sender;

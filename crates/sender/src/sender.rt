@@ -4,10 +4,10 @@ ghost use Prim.Native.Nat.{_<_};
 ghost use lib.ListN.{length};
 ghost use Rattle.queues.specs.Header.{Shaped, slots, livingCount};
 ghost use Rattle.store.specs.Order.{StoreInOrder};
-ghost use Rattle.store.specs.Signal.{markedIfIdle};
-ghost use Rattle.sender.specs.Sender.{withSender, takenSignaled, SendRoom, pushed, sendSignaled, sendUnsignaled, trySend, trySendUnsignaled, dropped, dropSender, unusedVerdict, olderVerdict, slotVerdict, registerVerdict, FreeIssued, SlotDue, RegisterRoom, dueKey, slotTaken, registeredWith, registerSender};
-use lane::consumer::Sent;
+ghost use Rattle.store.specs.Signal.{markIfIdle};
+ghost use Rattle.sender.specs.Sender.{withSender, takeSignaled, SendRoom, pushed, sendSignaled, sendUnsignaled, trySend, trySendUnsignaled, dropLane, dropSender, unusedVerdict, olderVerdict, slotVerdict, registerVerdict, FreeIssued, SlotDue, RegisterRoom, dueKey, takeSlot, registerLane, registerSender};
 use lane::lane::Lane;
+use lane::producer::Sent;
 use model::Answer;
 use model::LaneKey;
 use model::Refusal;
@@ -31,7 +31,7 @@ fn with_sender(mut l: Lane, pending: u64, living: u64) -> Lane
 // The lane that a send left is stored and marked; answers whether its signal went from idle to pending.
 fn take_signaled(t: &mut [u64], lane: Lane) -> Answer
     requires { ⌜ Shaped (now t) × (lane .key .slot < slots (now t)) ⌝ }
-    ensures { λ a. ⌜ (a, now (t .exit)) ≡ takenSignaled (now (t .entry)) lane ⌝ }
+    ensures { λ a. ⌜ (a, now (t .exit)) ≡ takeSignaled (now (t .entry)) lane ⌝ }
 {
     let woken = lane.pending == 0;
     let marked = with_sender(lane, 1, lane.living);
@@ -98,7 +98,7 @@ pub fn try_send_unsignaled(t: &mut [u64], r: &mut [u64], key: LaneKey, item: u64
 
 fn drop_lane(t: &mut [u64], l: Lane)
     requires { ⌜ Shaped (now t) × (l .key .slot < slots (now t)) × (0 < livingCount (now t)) ⌝ }
-    ensures { λ _. ⌜ now (t .exit) ≡ dropped (now (t .entry)) l ⌝ }
+    ensures { λ _. ⌜ now (t .exit) ≡ dropLane (now (t .entry)) l ⌝ }
 {
     let living = t[Header::LIVING] - 1;
     let marked = with_sender(l, 1, 0);
@@ -193,7 +193,7 @@ fn due_key(t: &[u64]) -> LaneKey
 // Takes the slot that is due.
 fn take_slot(t: &mut [u64])
     requires { ⌜ Shaped (now t) × SlotDue (now t) ⌝ }
-    ensures { λ _. ⌜ now (t .exit) ≡ slotTaken (now (t .entry)) ⌝ }
+    ensures { λ _. ⌜ now (t .exit) ≡ takeSlot (now (t .entry)) ⌝ }
 {
     if t[Header::FREE] == 0 {
         let slot = t[Header::ISSUED];
@@ -207,7 +207,7 @@ fn take_slot(t: &mut [u64])
 // The lane of the slot that is due, registered.
 fn register_lane(t: &mut [u64], key: LaneKey)
     requires { ⌜ RegisterRoom (now t) × (key .slot < slots (now t)) ⌝ }
-    ensures { λ _. ⌜ now (t .exit) ≡ registeredWith (now (t .entry)) key ⌝ }
+    ensures { λ _. ⌜ now (t .exit) ≡ registerLane (now (t .entry)) key ⌝ }
 {
     let lanes = t[Header::LANES] + 1;
     let living = t[Header::LIVING] + 1;

@@ -6,8 +6,8 @@ use mathlib.Core.List.{List, [], _∷_, _++_}
 use Prim.Native.Nat.{ℕ}
 use native.Mathlib.Omega.{arith}
 use Rattle.model.specs.Lists.{count}
-use Rattle.model.proofs.Counting.{count-append}
-use Rattle.model.proofs.OrderKept.{first-own, first-other}
+use Rattle.demands.proofs.Counting.{count-append}
+use Rattle.demands.proofs.OrderKept.{first-own, first-other}
 
 pub back-own : (x : ℕ) (q : List ℕ) → count x q ≡ 0 → count x (q ++ (x ∷ [])) ≡ 1
 unfolding count

@@ -10,7 +10,7 @@ use Rattle.model.specs.Lists.{count}
 use Rattle.model.specs.State.{Slot, registeredLanes, livingSenders}
 use Rattle.model.specs.Order.{Ordered}
 use Rattle.model.specs.Ready.{groupsRound}
-use Rattle.model.proofs.OrderKept.{first-own, front-registered, front-alone, budget-ordered, groups-round-exist, collect-each-ordered, collect-first-ordered}
+use Rattle.demands.proofs.OrderKept.{first-own, front-registered, front-alone, budget-ordered, groups-round-exist, collect-each-ordered, collect-first-ordered}
 use Rattle.lane.specs.Table.{setHead, laneAt}
 use Rattle.lane.proofs.TableLaws.{frames}
 use Rattle.queues.specs.Header.{issued}

@@ -18,12 +18,12 @@ use Rattle.model.specs.Lists.{if, both, nonEmpty, count, keep, from}
 use Rattle.model.specs.State.{State, vacant, queued, mayQueue}
 use Rattle.model.specs.Changes.{withSlots, withQueue, withCursor, unmarked}
 use Rattle.model.specs.Ready as rules
-use Rattle.model.specs.Ready.{groupOf, groupsIn, marks, isReady, collectMarks, collectGroup, startGroup, groupsRound, collectFirst, collectEach, collectReadyGroup}
-use Rattle.model.proofs.Counting.{Same, equal, other, same?}
-use Rattle.model.proofs.Words.{state-path}
+use Rattle.model.specs.Ready.{groupOf, groupsIn, marks, isReady, collectMarks, startGroup, groupsRound, collectFirst, collectEach, collectReadyGroup}
+use Rattle.demands.proofs.Counting.{Same, equal, other, same?}
+use Rattle.demands.proofs.Simulation.{state-path}
 use Rattle.lane.specs.declared.lane.Lane.{Lane}
-use Rattle.yring.specs.Ring.{ringOf}
-use Rattle.lane.specs.Lane.{held}
+use Rattle.yring.specs.Ring.{newRing}
+use Rattle.lane.specs.Lane.{heldItems}
 use Rattle.lane.specs.Table.{headerWords, rowWords, head, cellAt, cell, setCell, laneAt}
 use Rattle.yring.proofs.ListLaws.{tab-ext}
 use Rattle.lane.proofs.TableLaws.{frames, has-row}
@@ -31,7 +31,7 @@ use Rattle.queues.specs.Header.{Shaped, issued, slots, groupCursor, capacity, f
 use Rattle.queues.specs.Queue.{QueueNames, queueOf}
 use Rattle.queues.specs.Registry.{freeColumn, freeOf}
 use Rattle.ready.specs.Bits.{bit, bitsFrom}
-use Rattle.ready.specs.Ready.{pageColumn, groupColumn, pageWord, groupWord, pageBit, groupBit, nonZero, Linked, wantedLane, wanted, queuedLane, enqueued, offered, collectedPage, collectedGroup, groupsOf, groupAt, collectedFrom, collectReady}
+use Rattle.ready.specs.Ready.{pageColumn, groupColumn, pageWord, groupWord, pageBit, groupBit, nonZero, Linked, wantedLane, wanted, queuedLane, enqueue, offer, collectPage, collectGroup, groupCount, groupAt, collectedFrom, collectReady}
 use Rattle.ready.proofs.BitLaws.{bits-next, bits-zero, bit-zero, tz-lt, tz-set}
 use Rattle.queues.proofs.QueueLaws.{queue-frames, header-in}
 use Rattle.ready.proofs.OfferLaws.{Wants, wants, offered-case, shaped-offered, names-offered, other-enqueued}
@@ -70,20 +70,20 @@ left-group-word t group v = record { heads = λ k p q r. simp (frames, p); frees
 left-cursor : (t : List ℕ) (v : ℕ) → Left t (setGroupCursor t v)
 left-cursor t v = record { heads = λ k p q r. simp (frames, r); frees = λ row. simp frames; lanes = λ y. simp frames }
 
-left-page : (t : List ℕ) (page : ℕ) → Shaped t → QueueNames t → Left t (collectedPage t page)
+left-page : (t : List ℕ) (page : ℕ) → Shaped t → QueueNames t → Left t (collectPage t page)
 left-page t page s q =
     let a = rest-page t page s q in
     left-then (left-page-word t page 0)
     (record { heads = λ k p n m. a .heads k p n; frees = λ row. a .cells freeColumn row refl refl refl; lanes = a .lanes })
 
-left-pages : (l t : List ℕ) → Shaped t → QueueNames t → Left t (foldl collectedPage t l)
+left-pages : (l t : List ℕ) → Shaped t → QueueNames t → Left t (foldl collectPage t l)
 left-pages [] t s q = left-self t
 left-pages (page ∷ l) t s q =
     let k = kept-page t page s q in
-    left-then (left-page t page s q) (left-pages l (collectedPage t page) (k .shaped) (k .names))
+    left-then (left-page t page s q) (left-pages l (collectPage t page) (k .shaped) (k .names))
 
-pub left-group : (t : List ℕ) (group : ℕ) → Shaped t → QueueNames t → Left t (collectedGroup t group)
-unfolding collectedGroup
+pub left-group : (t : List ℕ) (group : ℕ) → Shaped t → QueueNames t → Left t (collectGroup t group)
+unfolding collectGroup
 left-group t group s q =
     let k = kept-setCell t groupColumn group 0 refl refl refl s q in
     left-then (left-group-word t group 0) (left-pages (bitsFrom 64 (64 * group) (groupWord t group)) (setCell t groupColumn group 0) (k .shaped) (k .names))
@@ -95,10 +95,10 @@ module _ (t u r : List ℕ) (k : Left t u) where
       rw (k .heads 3 refl refl refl) (tab-ext (freeCount t) _ _ (λ i h. k .frees (freeCount t - suc i)))
 
   -- a slot is as it was but for its page bit
-  slot-left : (y : ℕ) → slotAt u r y ≡ slotOf (laneAt t y) (pageBit u y) (held (ringOf y (capacity t)) r (laneAt t y))
-  unfolding slotAt held
+  slot-left : (y : ℕ) → slotAt u r y ≡ slotOf (laneAt t y) (pageBit u y) (heldItems (newRing y (capacity t)) r (laneAt t y))
+  unfolding slotAt heldItems
   slot-left y =
-      ap₂ (λ (l : Lane) (c : ℕ). slotOf l (pageBit u y) (held (ringOf y c) r l)) (k .lanes y) (k .heads 8 refl refl refl)
+      ap₂ (λ (l : Lane) (c : ℕ). slotOf l (pageBit u y) (heldItems (newRing y c) r l)) (k .lanes y) (k .heads 8 refl refl refl)
 
 -- ---- what collecting needs, and keeps
 
@@ -186,7 +186,7 @@ module _ (t r : List ℕ) (c : Collects t) where
         clash e = omega arith
 
     -- the page bits after: none in the group, the others as they were
-    bits-after : (y : ℕ) → y < issued t → pageBit (collectedGroup t g) y ≡ if (eqb (groupOf y) g) 0 (pageBit t y)
+    bits-after : (y : ℕ) → y < issued t → pageBit (collectGroup t g) y ≡ if (eqb (groupOf y) g) 0 (pageBit t y)
     unfolding groupOf
     bits-after y l = elim (same? (y / 4096) g) [
       | equal e p i ↦
@@ -194,15 +194,15 @@ module _ (t r : List ℕ) (c : Collects t) where
       | other d p i ↦ rw (p, other-pages-left t g (c .shaped) (c .names) (y / 64) (λ e. d (omega arith)))
     ]
 
-    left : Left t (collectedGroup t g)
+    left : Left t (collectGroup t g)
     left = left-group t g (c .shaped) (c .names)
 
     -- the table after, with the cursor just past the group
     abbrev u : List ℕ
-    u = setGroupCursor (collectedGroup t g) (g + 1)
+    u = setGroupCursor (collectGroup t g) (g + 1)
 
     left-now : Left t u
-    left-now = left-then left (left-cursor (collectedGroup t g) (g + 1))
+    left-now = left-then left (left-cursor (collectGroup t g) (g + 1))
 
     issued-now : issued u ≡ issued t
     issued-now = left-now .heads 0 refl refl refl
@@ -210,12 +210,12 @@ module _ (t r : List ℕ) (c : Collects t) where
     issued-slot : (y : ℕ) → y < issued t → view u r .slotOf y ≡ if (eqb (groupOf y) g) (unmarked (view t r .slotOf y)) (view t r .slotOf y)
     unfolding slotAt
     issued-slot y l =
-        let same : pageBit u y ≡ pageBit (collectedGroup t g) y = simp frames in
+        let same : pageBit u y ≡ pageBit (collectGroup t g) y = simp frames in
         slot-in u r y (rw issued-now l)
         ∙ slot-left t u r left-now y
         ∙ rw (same, bits-after y l, slot-in t r y l) (go (eqb (groupOf y) g))
       where
-        go : (b : Bool) → slotOf (laneAt t y) (if b 0 (pageBit t y)) (held (ringOf y (capacity t)) r (laneAt t y)) ≡ if b (unmarked (slotAt t r y)) (slotAt t r y)
+        go : (b : Bool) → slotOf (laneAt t y) (if b 0 (pageBit t y)) (heldItems (newRing y (capacity t)) r (laneAt t y)) ≡ if b (unmarked (slotAt t r y)) (slotAt t r y)
         go true = refl
         go false = refl
 
@@ -240,8 +240,8 @@ module _ (t r : List ℕ) (c : Collects t) where
         (queue-collected t (view t r) (c .linked) (same-marks t r) (c .shaped) (c .names) g h
         ∙ ap (λ (l : List ℕ). queueOf t ++ l) (keep-ready (marks (view t r) g)))
 
-    long-after : leb headerWords (length (collectedGroup t g)) ≡ true
-    long-after = header-in (collectedGroup t g) (kept-group t g (c .shaped) (c .names) .shaped)
+    long-after : leb headerWords (length (collectGroup t g)) ≡ true
+    long-after = header-in (collectGroup t g) (kept-group t g (c .shaped) (c .names) .shaped)
 
     view-now : view u r ≡ withCursor (suc g) (withQueue (view t r .queue ++ keep (isReady (view t r)) (marks (view t r) g))
         (withSlots (λ y. if (eqb (groupOf y) g) (unmarked (view t r .slotOf y)) (view t r .slotOf y)) (view t r)))
@@ -251,8 +251,8 @@ module _ (t r : List ℕ) (c : Collects t) where
         (ap flag (left-now .heads 7 refl refl refl)) (left-now .heads 8 refl refl refl) (left-now .heads 4 refl refl refl) (left-now .heads 9 refl refl refl) (left-now .heads 11 refl refl refl)
 
     -- a group that has bits is collected as the rules collect it
-    view-group : groupWord t g ≢ 0 → view u r ≡ collectGroup (view t r) g
-    unfolding collectGroup collectMarks
+    view-group : groupWord t g ≢ 0 → view u r ≡ rules.collectGroup (view t r) g
+    unfolding rules.collectGroup collectMarks
     view-group n = view-now ∙ go (marks (view t r) g) (some-marked n)
       where
         go : (l : List ℕ) → nonEmpty l ≡ true
@@ -262,8 +262,8 @@ module _ (t r : List ℕ) (c : Collects t) where
         go (m ∷ ms) e = refl
 
     -- one that has none is passed over
-    view-none : groupWord t g ≡ 0 → collectGroup (view t r) g ≡ view t r
-    unfolding collectGroup collectMarks
+    view-none : groupWord t g ≡ 0 → rules.collectGroup (view t r) g ≡ view t r
+    unfolding rules.collectGroup collectMarks
     view-none z = ap (λ (l : List ℕ). collectMarks l (view t r) g) (none-marked z)
 
     mark-words-now : MarkWords u
@@ -274,7 +274,7 @@ module _ (t r : List ℕ) (c : Collects t) where
             | other d q i ↦ rw (other-pages-left t g (c .shaped) (c .names) p d) (c .mark-words .pages-fit p (rw issued-now at l))
           ]);
           groups-fit = λ x l. simp frames (elim (same? x g) [
-            | equal e q i ↦ rw (ap (groupWord (collectedGroup t g)) e ∙ group-taken t g (c .shaped) (c .names) (omega (arith, c .shaped .issued-most, c .shaped .room))) (omega arith)
+            | equal e q i ↦ rw (ap (groupWord (collectGroup t g)) e ∙ group-taken t g (c .shaped) (c .names) (omega (arith, c .shaped .issued-most, c .shaped .room))) (omega arith)
             | other d q i ↦ rw (other-group-left t g (c .shaped) (c .names) x q) (c .mark-words .groups-fit x (rw issued-now at l))
           ]);
         }
@@ -283,47 +283,47 @@ module _ (t r : List ℕ) (c : Collects t) where
     collects-now : g + 1 ≤ 2 → Collects u
     collects-now most =
         let k = kept-group t g (c .shaped) (c .names) in
-        let k′ = kept-cursor (collectedGroup t g) (g + 1) most (k .shaped) (k .names) in
+        let k′ = kept-cursor (collectGroup t g) (g + 1) most (k .shaped) (k .names) in
         record {
           shaped = k′ .shaped;
           names = k′ .names;
-          linked = linked-cursor (collectedGroup t g) (g + 1) (linked-group t g (c .shaped) (c .names) (c .linked) h);
+          linked = linked-cursor (collectGroup t g) (g + 1) (linked-group t g (c .shaped) (c .names) (c .linked) h);
           mark-words = mark-words-now;
           paused-flags = λ y l. subst (λ (m : Lane). m .paused ≤ 1) (sym (left-now .lanes y)) (c .paused-flags y (rw issued-now at l));
         }
 
 -- ---- a queued word stays a flag
 
-own-enqueued : (t : List ℕ) (x : ℕ) → leb (cellAt rowWords x) (length t) ≡ true → laneAt (enqueued t x) x ≡ queuedLane (laneAt t x)
-unfolding enqueued
+own-enqueued : (t : List ℕ) (x : ℕ) → leb (cellAt rowWords x) (length t) ≡ true → laneAt (enqueue t x) x ≡ queuedLane (laneAt t x)
+unfolding enqueue
 own-enqueued t x r = simp (queue-frames, frames, r)
 
 module _ (y : ℕ) where
-  queued-offered : (t : List ℕ) (x : ℕ) → Shaped t → laneAt t y .queued ≤ 1 → laneAt (offered t x) y .queued ≤ 1
+  queued-offered : (t : List ℕ) (x : ℕ) → Shaped t → laneAt t y .queued ≤ 1 → laneAt (offer t x) y .queued ≤ 1
   queued-offered t x s h = offered-case (λ u. laneAt u y .queued ≤ 1) t x (λ e. now (wants t x e) (same? y x)) (λ e. h)
     where
-      now : Wants t x → Same y x → laneAt (enqueued t x) y .queued ≤ 1
+      now : Wants t x → Same y x → laneAt (enqueue t x) y .queued ≤ 1
       now w (equal e p i) = rw (e, own-enqueued t x (has-row t x (row-in t s x (w .is-issued)))) (omega arith)
       now w (other d p i) = rw (other-enqueued t x y p) h
 
-  queued-offers : (l t : List ℕ) → Shaped t → QueueNames t → laneAt t y .queued ≤ 1 → laneAt (foldl offered t l) y .queued ≤ 1
+  queued-offers : (l t : List ℕ) → Shaped t → QueueNames t → laneAt t y .queued ≤ 1 → laneAt (foldl offer t l) y .queued ≤ 1
   queued-offers [] t s q h = h
-  queued-offers (x ∷ l) t s q h = queued-offers l (offered t x) (shaped-offered t x s q) (names-offered t x s q) (queued-offered t x s h)
+  queued-offers (x ∷ l) t s q h = queued-offers l (offer t x) (shaped-offered t x s q) (names-offered t x s q) (queued-offered t x s h)
 
-  queued-page : (t : List ℕ) (page : ℕ) → Shaped t → QueueNames t → laneAt t y .queued ≤ 1 → laneAt (collectedPage t page) y .queued ≤ 1
-  unfolding collectedPage
+  queued-page : (t : List ℕ) (page : ℕ) → Shaped t → QueueNames t → laneAt t y .queued ≤ 1 → laneAt (collectPage t page) y .queued ≤ 1
+  unfolding collectPage
   queued-page t page s q h =
       let k = kept-setCell t pageColumn page 0 refl refl refl s q in
       queued-offers (slotsOfPage t page) (setCell t pageColumn page 0) (k .shaped) (k .names) (simp frames h)
 
-  queued-pages : (l t : List ℕ) → Shaped t → QueueNames t → laneAt t y .queued ≤ 1 → laneAt (foldl collectedPage t l) y .queued ≤ 1
+  queued-pages : (l t : List ℕ) → Shaped t → QueueNames t → laneAt t y .queued ≤ 1 → laneAt (foldl collectPage t l) y .queued ≤ 1
   queued-pages [] t s q h = h
   queued-pages (page ∷ l) t s q h =
       let k = kept-page t page s q in
-      queued-pages l (collectedPage t page) (k .shaped) (k .names) (queued-page t page s q h)
+      queued-pages l (collectPage t page) (k .shaped) (k .names) (queued-page t page s q h)
 
-  queued-group : (t : List ℕ) (g : ℕ) → Shaped t → QueueNames t → laneAt t y .queued ≤ 1 → laneAt (collectedGroup t g) y .queued ≤ 1
-  unfolding collectedGroup
+  queued-group : (t : List ℕ) (g : ℕ) → Shaped t → QueueNames t → laneAt t y .queued ≤ 1 → laneAt (collectGroup t g) y .queued ≤ 1
+  unfolding collectGroup
   queued-group t g s q h =
       let k = kept-setCell t groupColumn g 0 refl refl refl s q in
       queued-pages (bitsFrom 64 (64 * g) (groupWord t g)) (setCell t groupColumn g 0) (k .shaped) (k .names) (simp frames h)
@@ -363,18 +363,18 @@ round-on n (suc a) b next h l =
     let e : suc a + b ≡ suc (a + b) = omega arith in
     rw (e, at-below n next (omega arith), add-one next) (ap (λ (m : List ℕ). next ∷ m) (round-on n a b (suc next) (omega arith) l))
 
-round-alike : (t r : List ℕ) → roundFrom (groupsOf (issued t)) (groupsOf (issued t)) (groupCursor t) ≡ groupsRound (view t r)
+round-alike : (t r : List ℕ) → roundFrom (groupCount (issued t)) (groupCount (issued t)) (groupCursor t) ≡ groupsRound (view t r)
 unfolding groupsRound startGroup groupsIn view from
-round-alike t r = go (ltb (groupCursor t) (groupsOf (issued t))) refl
+round-alike t r = go (ltb (groupCursor t) (groupCount (issued t))) refl
   where
-    go : (b : Bool) → ltb (groupCursor t) (groupsOf (issued t)) ≡ b → roundFrom (groupsOf (issued t)) (groupsOf (issued t)) (groupCursor t) ≡ groupsRound (view t r)
+    go : (b : Bool) → ltb (groupCursor t) (groupCount (issued t)) ≡ b → roundFrom (groupCount (issued t)) (groupCount (issued t)) (groupCursor t) ≡ groupsRound (view t r)
     go true e =
-        let n = groupsOf (issued t) in
+        let n = groupCount (issued t) in
         let h : groupCursor t < n = ltb-true (groupCursor t) n e in
         let parts : n - groupCursor t + groupCursor t ≡ n = omega arith in
         rw e (sym (ap (λ (k : ℕ). roundFrom n k (groupCursor t)) parts) ∙ round-on n (n - groupCursor t) (groupCursor t) (groupCursor t) (omega arith) (omega arith))
     go false e =
-        let n = groupsOf (issued t) in
+        let n = groupCount (issued t) in
         let z : n - 0 ≡ n = omega arith in
         rw (e, z) (round-past n n (groupCursor t) (omega (arith, ltb-false (groupCursor t) n e)) (omega arith) ∙ sym (append-nil (from 0 n)))
 
@@ -408,7 +408,7 @@ still-first : (y : ℕ) (q w : List ℕ) → take 1 q ≡ y ∷ [] → take 1 (q
 still-first y [] w e = let z : _≡_ {A = ℕ} 0 1 = ap length e in absurd (omega arith)
 still-first y (a ∷ q) w e = e
 
-collected-group : (t : List ℕ) (c : Collects t) (g : ℕ) → 4096 * g < issued t → g + 1 ≤ 2 → Collected t (setGroupCursor (collectedGroup t g) (g + 1))
+collected-group : (t : List ℕ) (c : Collects t) (g : ℕ) → 4096 * g < issued t → g + 1 ≤ 2 → Collected t (setGroupCursor (collectGroup t g) (g + 1))
 collected-group t c g h most =
     record {
       left = left-now t [] c g h;
@@ -419,7 +419,7 @@ collected-group t c g h most =
 
 module _ (r : List ℕ) (n : ℕ) (most : n ≤ 2) where
   -- a group that the round comes to exists
-  exists : (t : List ℕ) (next : ℕ) → n ≡ groupsOf (issued t) → 0 < n → (groupAt n next < n) × (4096 * groupAt n next < issued t)
+  exists : (t : List ℕ) (next : ℕ) → n ≡ groupCount (issued t) → 0 < n → (groupAt n next < n) × (4096 * groupAt n next < issued t)
   exists t next e h = let b : groupAt n next < n = below in (b, omega arith)
     where
       below : groupAt n next < n
@@ -429,7 +429,7 @@ module _ (r : List ℕ) (n : ℕ) (most : n ≤ 2) where
           go (yes l) = rw (at-below n next l) l
           go (no l) = rw (at-past n next (omega arith)) h
 
-  from-alike : (all : Bool) (k : ℕ) (t : List ℕ) (next : ℕ) → Collects t → n ≡ groupsOf (issued t) → k ≤ n
+  from-alike : (all : Bool) (k : ℕ) (t : List ℕ) (next : ℕ) → Collects t → n ≡ groupCount (issued t) → k ≤ n
       → (view (collectedFrom n k all t next) r ≡ along all (roundFrom n k next) (view t r)) × Collected t (collectedFrom n k all t next)
   unfolding collectedFrom roundFrom collectEach collectFirst
   from-alike true zero t next c e l = (refl, collected-self t c)
@@ -439,13 +439,13 @@ module _ (r : List ℕ) (n : ℕ) (most : n ≤ 2) where
       let x = exists t next e (omega arith) in
       go all (eqb (groupWord t g) 0) refl
       (from-alike all k t (g + 1) c e (omega arith))
-      (from-alike all k (setGroupCursor (collectedGroup t g) (g + 1)) (g + 1) (collects-now t r c g (x .1) (omega (arith, x .0))) (e ∙ ap groupsOf (sym (issued-now t r c g (x .1)))) (omega arith))
+      (from-alike all k (setGroupCursor (collectGroup t g) (g + 1)) (g + 1) (collects-now t r c g (x .1) (omega (arith, x .0))) (e ∙ ap groupCount (sym (issued-now t r c g (x .1)))) (omega arith))
     where
       go : (all b : Bool) → eqb (groupWord t (groupAt n next)) 0 ≡ b
           → (view (collectedFrom n k all t (groupAt n next + 1)) r ≡ along all (roundFrom n k (groupAt n next + 1)) (view t r)) × Collected t (collectedFrom n k all t (groupAt n next + 1))
-          → (view (collectedFrom n k all (setGroupCursor (collectedGroup t (groupAt n next)) (groupAt n next + 1)) (groupAt n next + 1)) r
-          ≡ along all (roundFrom n k (groupAt n next + 1)) (view (setGroupCursor (collectedGroup t (groupAt n next)) (groupAt n next + 1)) r))
-          × Collected (setGroupCursor (collectedGroup t (groupAt n next)) (groupAt n next + 1)) (collectedFrom n k all (setGroupCursor (collectedGroup t (groupAt n next)) (groupAt n next + 1)) (groupAt n next + 1))
+          → (view (collectedFrom n k all (setGroupCursor (collectGroup t (groupAt n next)) (groupAt n next + 1)) (groupAt n next + 1)) r
+          ≡ along all (roundFrom n k (groupAt n next + 1)) (view (setGroupCursor (collectGroup t (groupAt n next)) (groupAt n next + 1)) r))
+          × Collected (setGroupCursor (collectGroup t (groupAt n next)) (groupAt n next + 1)) (collectedFrom n k all (setGroupCursor (collectGroup t (groupAt n next)) (groupAt n next + 1)) (groupAt n next + 1))
           → (view (collectedFrom n (suc k) all t next) r ≡ along all (roundFrom n (suc k) next) (view t r)) × Collected t (collectedFrom n (suc k) all t next)
       go true true z passed taken =
           let g = groupAt n next in
@@ -475,7 +475,7 @@ collects-of t r o =
     record { shaped = o .shaped; names = o .named; linked = o .linked; mark-words = o .mark-words; paused-flags = λ y h. o .flags y h .paused-flag }
 
 module _ (t r : List ℕ) (o : Stores t r) where
-  groups-most : groupsOf (issued t) ≤ 2
+  groups-most : groupCount (issued t) ≤ 2
   groups-most = omega (arith, o .shaped .issued-most, o .shaped .slots-most)
 
   -- what is left of the table, too
@@ -483,7 +483,7 @@ module _ (t r : List ℕ) (o : Stores t r) where
       → (view (collectReady all t) r ≡ along all (groupsRound (view t r)) (view t r)) × Collected t (collectReady all t)
   unfolding collectReady
   collected all =
-      let a = from-alike r (groupsOf (issued t)) groups-most all (groupsOf (issued t)) t (groupCursor t) (collects-of t r o) refl (omega arith) in
+      let a = from-alike r (groupCount (issued t)) groups-most all (groupCount (issued t)) t (groupCursor t) (collects-of t r o) refl (omega arith) in
       (a .0 ∙ ap (λ (l : List ℕ). along all l (view t r)) (round-alike t r), a .1)
 
   -- all groups are collected as the rules collect them

@@ -9,7 +9,7 @@ use native.Mathlib.Omega.{arith}
 use lib.ListN.{length}
 use Rattle.model.specs.Lists.{if, keep, from}
 use Rattle.model.specs.State.{State, registeredLanes, livingSenders}
-use Rattle.model.proofs.Counting.{equal, other, same?}
+use Rattle.demands.proofs.Counting.{equal, other, same?}
 
 -- 1 of a test that holds
 abbrev pub one : Bool → ℕ

@@ -8,10 +8,10 @@ use lib.Dec.{eqb}
 use Rattle.model.specs.Lists.{if}
 use Rattle.model.specs.State.{Slot}
 use Rattle.model.specs.Changes.{withFlags, withSignal, withRing, withPaused, credited}
-use Rattle.model.proofs.Counting.{no}
+use Rattle.demands.proofs.Counting.{no}
 use Rattle.lane.specs.declared.lane.Lane.{Lane}
 use Rattle.lane.specs.declared.lane.Released.{Released}
-use Rattle.lane.specs.Lane.{closeFast, released, releaseAny, releasePending}
+use Rattle.lane.specs.Lane.{closeFast, release, releaseAny, releasePending}
 use Rattle.lane.proofs.OrderLaws.{cond-holds}
 
 -- the lane m is l with its window closed and its credit given back
@@ -32,9 +32,9 @@ pub gives-back : (l : Lane) → GivesBack l (releasePending l .lane)
 unfolding releasePending releaseAny
 gives-back l =
     cond-holds (λ (r : Released). GivesBack l (r .lane)) (eqb (closeFast l .unreleased) 0)
-    (record { lane = closeFast l; released = false }) (record { lane = released (closeFast l); released = true })
+    (record { lane = closeFast l; released = false }) (record { lane = release (closeFast l); released = true })
     (λ e. by (closeFast l) refl refl refl (eqb-true (closeFast l .unreleased) 0 e) refl refl refl refl refl refl refl)
-    (λ e. by (released (closeFast l)) refl refl refl refl refl refl refl refl refl refl refl)
+    (λ e. by (release (closeFast l)) refl refl refl refl refl refl refl refl refl refl refl)
   where
     by : (m : Lane) → m .key ≡ l .key → m .tail ≡ l .tail → m .head ≡ l .head → m .unreleased ≡ 0 → m .window ≡ 0 → m .burst ≡ l .burst - l .window
         → m .pending ≡ l .pending → m .queued ≡ l .queued → m .paused ≡ l .paused → m .registered ≡ l .registered → m .living ≡ l .living → GivesBack l m

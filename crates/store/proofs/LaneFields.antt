@@ -19,7 +19,7 @@ use Rattle.lane.specs.declared.lane.LanePoll.{LanePoll}
 use Rattle.lane.specs.declared.lane.LanePoll.the-variants as LanePoll
 use Rattle.yring.specs.Ring.{itemAt}
 use Rattle.lane.specs.Order.{poppedLane}
-use Rattle.lane.specs.Lane.{prefetch, reload, released, headOn, closeFast, openFor, grantFast, windowPop, popFast, releaseAtBatch, releaseAny, releasePending, emptied, settleEmpty, readyOrIdle, refill, charged, addBurst, endBurst, targeted, popTargeted, polled, pollItem, pollRefilled, poll, fairWindow, fairly, popFair, reloadIsEmpty}
+use Rattle.lane.specs.Lane.{prefetch, reload, release, advance, closeFast, openFor, grantFast, windowPop, popFast, releaseAtBatch, releaseAny, releasePending, emptied, settleEmpty, readyOrIdle, refill, charge, addBurst, endBurst, targeted, popTargeted, polled, pollItem, pollRefilled, poll, fairWindow, fairly, popLone, reloadIsEmpty}
 
 -- the key, registered, paused and living; and with them queued and pending
 abbrev pub Fixed : Type 0
@@ -62,8 +62,8 @@ module _ (ring : Ring) (store : List ℕ) where
   flagged-fair-window C budget l =
       both-sides flagged (eqb (l .window) 0) (grantFast C budget (endBurst true l)) l (flagged l) (flagged-grant C budget (endBurst true l)) refl
 
-  pub flagged-pop-fair : (budget : ℕ) (l : Lane) → flagged (poppedLane (popFair ring store budget l)) ≡ flagged l
-  unfolding popFair
+  pub flagged-pop-fair : (budget : ℕ) (l : Lane) → flagged (poppedLane (popLone ring store budget l)) ≡ flagged l
+  unfolding popLone
   flagged-pop-fair budget l =
       flagged-fairly (popFast ring store (fairWindow (ring .capacity) budget l)) ∙ flagged-pop-fast (fairWindow (ring .capacity) budget l)
       ∙ flagged-fair-window (ring .capacity) budget l
@@ -71,18 +71,18 @@ module _ (ring : Ring) (store : List ℕ) where
 pub flagged-at-batch : (C : ℕ) (l : Lane) → flagged (releaseAtBatch C l .lane) ≡ flagged l
 unfolding releaseAtBatch
 flagged-at-batch C l =
-    both-sides (λ (r : Released). flagged (r .lane)) (eqb (l .unreleased) (releaseBatch C)) (record { lane = released l; released = true })
+    both-sides (λ (r : Released). flagged (r .lane)) (eqb (l .unreleased) (releaseBatch C)) (record { lane = release l; released = true })
     (record { lane = l; released = false }) (flagged l) refl refl
 
 pub flagged-release : (l : Lane) → flagged (releasePending l .lane) ≡ flagged l
 unfolding releasePending releaseAny
 flagged-release l =
     both-sides (λ (r : Released). flagged (r .lane)) (eqb (closeFast l .unreleased) 0) (record { lane = closeFast l; released = false })
-    (record { lane = released (closeFast l); released = true }) (flagged l) refl refl
+    (record { lane = release (closeFast l); released = true }) (flagged l) refl refl
 
 pub flagged-targeted : (ring : Ring) (store : List ℕ) (l : Lane) → flagged (popTargeted ring store l .lane) ≡ flagged l
 unfolding popTargeted targeted
-flagged-targeted ring store l = flagged-at-batch (ring .capacity) (charged 1 (headOn 1 l))
+flagged-targeted ring store l = flagged-at-batch (ring .capacity) (charge 1 (advance 1 l))
 
 -- what is left of a lane found empty
 abbrev pub Emptied : Lane → EmptyLane → Type 0

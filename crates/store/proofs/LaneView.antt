@@ -20,7 +20,7 @@ use Rattle.lane.specs.declared.lane.LanePoll.{LanePoll}
 use Rattle.lane.specs.declared.lane.LanePoll.the-variants as LanePoll
 use Rattle.lane.specs.declared.lane.Popped.{Popped}
 use Rattle.lane.specs.declared.lane.Popped.the-variants as Popped
-use Rattle.lane.specs.Lane.{held, closeFast, prefetch, reload, openFor, grantFast, windowPop, popFast, headOn, charged, addBurst, endBurst, released, releaseAtBatch, targeted, popTargeted, polled, pollItem, pollRefilled, poll, readyOrIdle, refill, releaseAny, releasePending, emptied, settleEmpty, fairWindow, burstOfWindow, fairly, popFair}
+use Rattle.lane.specs.Lane.{heldItems, closeFast, prefetch, reload, openFor, grantFast, windowPop, popFast, advance, charge, addBurst, endBurst, release, releaseAtBatch, targeted, popTargeted, polled, pollItem, pollRefilled, poll, readyOrIdle, refill, releaseAny, releasePending, emptied, settleEmpty, fairWindow, burstOfWindow, fairly, popLone}
 use Rattle.lane.specs.Order.{Counts, InOrder}
 use Rattle.yring.specs.Cursor.{distance}
 use Rattle.yring.specs.Ring.{itemAt, items}
@@ -54,8 +54,8 @@ pub grant-seen : (C budget : ℕ) (l : Lane) → (unreleasedSeen (grantFast C bu
 unfolding grantFast openFor
 grant-seen C budget l = let c = looked-counts l in (omega (arith, c .0), omega (arith, c .1))
 
-pub grant-holds : (ring : Ring) (store : List ℕ) (C budget : ℕ) (l : Lane) → held ring store (grantFast C budget l) ≡ held ring store l
-unfolding grantFast openFor held
+pub grant-holds : (ring : Ring) (store : List ℕ) (C budget : ℕ) (l : Lane) → heldItems ring store (grantFast C budget l) ≡ heldItems ring store l
+unfolding grantFast openFor heldItems
 grant-holds ring store C budget l = reload-holds ring store l
 
 -- ---- an item of the window
@@ -112,7 +112,7 @@ module _ (ring : Ring) (store : List ℕ) (l : Lane) (closed : l .window ≡ 0) 
   pop-targeted-counts = go (eqb (l .unreleased + 1) (releaseBatch (ring .capacity)))
     where
       after : Bool → Released
-      after t = cond t (record { lane = released (charged 1 (headOn 1 l)); released = true }) (record { lane = charged 1 (headOn 1 l); released = false })
+      after t = cond t (record { lane = release (charge 1 (advance 1 l)); released = true }) (record { lane = charge 1 (advance 1 l); released = false })
 
       go : (t : Bool) → (after t .lane .unreleased ≡ if t 0 (l .unreleased + 1)) × (after t .lane .burst ≡ l .burst) × (after t .lane .window ≡ 0)
       go true = (refl, refl, closed)
@@ -182,8 +182,8 @@ module _ (ring : Ring) (store : List ℕ) (fair : Bool) where
 
 -- it holds nothing, its counts are 0, it is idle and in no queue; what it held and its sender are as they were
 pub record FoundIdle (ring : Ring) (store : List ℕ) (l : Lane) (found : EmptyLane) : Type 0 where
-  pub holds-none : held ring store l ≡ []
-  pub same-ends : held ring store (found .lane) ≡ held ring store l
+  pub holds-none : heldItems ring store l ≡ []
+  pub same-ends : heldItems ring store (found .lane) ≡ heldItems ring store l
   pub unreleased-none : found .lane .unreleased ≡ 0
   pub burst-none : found .lane .burst ≡ 0
   pub closed : found .lane .window ≡ 0
@@ -194,22 +194,22 @@ pub record FoundIdle (ring : Ring) (store : List ℕ) (l : Lane) (found : EmptyL
 -- a lane settled: its window was closed
 module _ (l : Lane) (closed : l .window ≡ 0) where
   settle-cases : (P : EmptyLane → Type 0) → (l .unreleased ≡ 0 → P (emptied (record { lane = closeFast l; released = false })))
-      → P (emptied (record { lane = released (closeFast l); released = true })) → P (settleEmpty l)
+      → P (emptied (record { lane = release (closeFast l); released = true })) → P (settleEmpty l)
   unfolding settleEmpty releasePending releaseAny
   settle-cases P f g = go (eqb (l .unreleased - l .window) 0) refl
     where
       go : (t : Bool) → eqb (l .unreleased - l .window) 0 ≡ t
-          → P (emptied (cond t (record { lane = closeFast l; released = false }) (record { lane = released (closeFast l); released = true })))
+          → P (emptied (cond t (record { lane = closeFast l; released = false }) (record { lane = release (closeFast l); released = true })))
       go true e = f (omega (arith, closed, eqb-true (l .unreleased - l .window) 0 e))
       go false e = g
 
   settle-is : (ring : Ring) (store : List ℕ)
-      → (held ring store (settleEmpty l .lane) ≡ held ring store l) × (settleEmpty l .lane .unreleased ≡ 0) × (settleEmpty l .lane .burst ≡ 0) × (settleEmpty l .lane .window ≡ 0)
+      → (heldItems ring store (settleEmpty l .lane) ≡ heldItems ring store l) × (settleEmpty l .lane .unreleased ≡ 0) × (settleEmpty l .lane .burst ≡ 0) × (settleEmpty l .lane .window ≡ 0)
       × (settleEmpty l .lane .pending ≡ 0) × (settleEmpty l .lane .queued ≡ 0) × (settleEmpty l .disconnected ≡ eqb (l .living) 0)
-  unfolding held emptied
+  unfolding heldItems emptied
   settle-is ring store =
       settle-cases
-      (λ f. (held ring store (f .lane) ≡ held ring store l) × (f .lane .unreleased ≡ 0) × (f .lane .burst ≡ 0) × (f .lane .window ≡ 0) × (f .lane .pending ≡ 0) × (f .lane .queued ≡ 0)
+      (λ f. (heldItems ring store (f .lane) ≡ heldItems ring store l) × (f .lane .unreleased ≡ 0) × (f .lane .burst ≡ 0) × (f .lane .window ≡ 0) × (f .lane .pending ≡ 0) × (f .lane .queued ≡ 0)
       × (f .disconnected ≡ eqb (l .living) 0))
       (λ z. (refl, omega (arith, closed, z), refl, refl, refl, refl, refl))
       (refl, refl, refl, refl, refl, refl, refl)
@@ -220,8 +220,8 @@ looked-living l = cond-holds (λ m. m .living ≡ l .living) (eqb (l .cached + l
 
 module _ (ring : Ring) (small : ring .capacity ≤ 65536) (store : List ℕ) (l : Lane) (o : InOrder (ring .capacity) l) where
   -- a look that finds nothing at hand finds nothing held
-  pub looked-empty : looked l .cached ≡ 0 → held ring store l ≡ []
-  unfolding held items
+  pub looked-empty : looked l .cached ≡ 0 → heldItems ring store l ≡ []
+  unfolding heldItems items
   looked-empty z =
       let e : distance (l .tail) (l .head) ≡ 0 = ap (λ (c : ℕ). distance c (l .head)) (found-empty (ring .capacity) small l o z) ∙ distance-self (l .head) (o .cursors .head-u64) in
       rw e
@@ -258,9 +258,9 @@ module _ (ring : Ring) (small : ring .capacity ≤ 65536) (store : List ℕ) (bu
       cond-holds (λ m. unreleasedSeen m ≡ unreleasedSeen l) (eqb (l .window) 0) (grantFast (ring .capacity) budget (endBurst true l)) l
       (λ e. grant-seen (ring .capacity) budget (endBurst true l) .0) (λ e. refl)
 
-  pub pop-fair-more : (item : ℕ) (m : Lane) → popFair ring store budget l ≡ Popped.Item item m
+  pub pop-fair-more : (item : ℕ) (m : Lane) → popLone ring store budget l ≡ Popped.Item item m
       → (unreleasedSeen m ≡ unreleasedSeen l + 1) × (burstSeen m ≡ 0) × (unreleasedSeen l + 1 < releaseBatch (ring .capacity))
-  unfolding popFair fairly
+  unfolding popLone fairly
   pop-fair-more item m e = go (popFast ring store (fairWindow (ring .capacity) budget l)) refl e
     where
       none : (w : ℕ) → w - w ≡ 0

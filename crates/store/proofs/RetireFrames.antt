@@ -10,10 +10,10 @@ use Rattle.lane.specs.Table.{putLane, setHead}
 use Rattle.lane.proofs.OrderLaws.{cond-holds}
 use Rattle.lane.proofs.TableLaws.{frames}
 use Rattle.queues.specs.Header.{Shaped, freeCount, slots, laneCount}
-use Rattle.queues.specs.Registry.{freed}
+use Rattle.queues.specs.Registry.{free}
 use Rattle.queues.proofs.QueueLaws.{shaped-putLane, shaped-setHead}
 use Rattle.queues.proofs.RegistryLaws.{length-freed}
-use Rattle.store.specs.Registry.{retired, freedUnlessLast, retireLane}
+use Rattle.store.specs.Registry.{retired, freeUnlessLast, retireLane}
 
 module _ (t : List ℕ) (l : Lane) where
   -- the count of lanes is neither the shape's nor the free list's
@@ -23,12 +23,12 @@ module _ (t : List ℕ) (l : Lane) where
   pub room-lowered : (n : ℕ) → freeCount t < slots t → freeCount (setHead (putLane t l) 13 n) < slots (setHead (putLane t l) 13 n)
   room-lowered n h = simp frames h
 
-  pub freed-unless-last-is : (P : List ℕ → Type 0) → P t → P (freed t (l .key .slot)) → P (freedUnlessLast t l)
-  unfolding freedUnlessLast
+  pub freed-unless-last-is : (P : List ℕ → Type 0) → P t → P (free t (l .key .slot)) → P (freeUnlessLast t l)
+  unfolding freeUnlessLast
   freed-unless-last-is P p q =
-      cond-holds P (eqb (l .key .generation) 18446744073709551615) t (freed t (l .key .slot)) (λ e. p) (λ e. q)
+      cond-holds P (eqb (l .key .generation) 18446744073709551615) t (free t (l .key .slot)) (λ e. p) (λ e. q)
 
-  pub length-freed-unless-last : length (freedUnlessLast t l) ≡ length t
+  pub length-freed-unless-last : length (freeUnlessLast t l) ≡ length t
   length-freed-unless-last = freed-unless-last-is (λ u. length u ≡ length t) refl (length-freed t (l .key .slot))
 
 pub length-retire-lane : (t : List ℕ) (l : Lane) → length (retireLane t l) ≡ length t

@@ -15,10 +15,10 @@ use Rattle.lane.specs.declared.lane.Lane.{Lane}
 use Rattle.lane.specs.Table.{laneAt, putLane, setHead}
 use Rattle.lane.proofs.TableLaws.{slot-of-lane}
 use Rattle.queues.specs.Header.{Shaped, issued, slots, freeCount, laneCount}
-use Rattle.queues.specs.Registry.{freed}
+use Rattle.queues.specs.Registry.{free}
 use Rattle.queues.proofs.QueueLaws.{shaped-putLane}
 use Rattle.store.specs.View.{flag, slotAt, view}
-use Rattle.store.specs.Registry.{retired, freedUnlessLast, retireLane}
+use Rattle.store.specs.Registry.{retired, freeUnlessLast, retireLane}
 use Rattle.store.proofs.ViewLaws.{slot-in, view-put-flags, view-lane-count, view-freed}
 use Rattle.store.proofs.StepLaws.{Step, step-put-lane, step-lane-count, step-freed}
 use Rattle.store.proofs.RetireFrames.{shaped-lowered, room-lowered}
@@ -52,14 +52,14 @@ module _ (t r : List ℕ) (s : Shaped t) (x : ℕ) (h : x < issued t) (l : Lane)
   generation-seen = ap (λ (m : Slot). m .generation) (slot-in t r x h)
 
   pub view-retire-as : freeCount t < slots t → view (retireLane t l) r ≡ rules.retireLane x (view t r)
-  unfolding retireLane freedUnlessLast rules.retireLane
+  unfolding retireLane freeUnlessLast rules.retireLane
   view-retire-as room =
-      ap (λ (k : LaneKey). view (cond (eqb (k .generation) 18446744073709551615) lowered (freed lowered (k .slot))) r) key
-      ∙ ap (λ (y : ℕ). view (cond (eqb (laneAt t x .key .generation) 18446744073709551615) lowered (freed lowered y)) r) (slot-of-lane t x)
+      ap (λ (k : LaneKey). view (cond (eqb (k .generation) 18446744073709551615) lowered (free lowered (k .slot))) r) key
+      ∙ ap (λ (y : ℕ). view (cond (eqb (laneAt t x .key .generation) 18446744073709551615) lowered (free lowered y)) r) (slot-of-lane t x)
       ∙ go (eqb (laneAt t x .key .generation) 18446744073709551615)
       ∙ ap (λ (n : ℕ). withFree (if (eqb n 18446744073709551615) (view t r .free) (x ∷ view t r .free)) (put x (changes.retired slot) (view t r))) (sym generation-seen)
     where
-      go : (b : Bool) → view (cond b lowered (freed lowered x)) r ≡ withFree (if b (view t r .free) (x ∷ view t r .free)) (put x (changes.retired slot) (view t r))
+      go : (b : Bool) → view (cond b lowered (free lowered x)) r ≡ withFree (if b (view t r .free) (x ∷ view t r .free)) (put x (changes.retired slot) (view t r))
       go true = view-lowered
       go false =
           view-freed lowered r (shaped-lowered t (retired l) (laneCount t - 1) s) x (room-lowered t (retired l) (laneCount t - 1) room)
@@ -72,7 +72,7 @@ view-retire-lane t r s x h room = view-retire-as t r s x h (laneAt t x) refl ref
 -- in a run of stores
 pub step-retire-lane : {t u : List ℕ} {x : ℕ} {l : Lane} {w : List ℕ} {f b n m : ℕ} → Step t u x l w f b n m → (o : Lane) → o .key .slot ≡ x → x < issued t
     → freeCount u < slots u → Step t (retireLane u o) x (retired o) w f b (laneCount u - 1) m
-unfolding retireLane freedUnlessLast
+unfolding retireLane freeUnlessLast
 step-retire-lane {t = t} {u = u} {x = x} {l = l} {w = w} {f = f} {b = b} {n = n} {m = m} k o e h room = go (eqb (o .key .generation) 18446744073709551615)
   where
     low : List ℕ
@@ -81,6 +81,6 @@ step-retire-lane {t = t} {u = u} {x = x} {l = l} {w = w} {f = f} {b = b} {n = n}
     step : Step t low x (retired o) w f b (laneCount u - 1) m
     step = step-lane-count (step-put-lane k (retired o) e h) (laneCount u - 1)
 
-    go : (c : Bool) → Step t (cond c low (freed low (o .key .slot))) x (retired o) w f b (laneCount u - 1) m
+    go : (c : Bool) → Step t (cond c low (free low (o .key .slot))) x (retired o) w f b (laneCount u - 1) m
     go true = step
     go false = step-freed step (o .key .slot) (room-lowered u (retired o) (laneCount u - 1) room)

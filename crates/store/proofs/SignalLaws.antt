@@ -12,9 +12,9 @@ use Rattle.model.specs.State.{Slot, State}
 use Rattle.model.specs.Changes.{put, withSignal}
 use Rattle.lane.specs.declared.lane.Lane.{Lane}
 use Rattle.queues.specs.Header.{Shaped, issued}
-use Rattle.ready.specs.Ready.{marked}
+use Rattle.ready.specs.Ready.{mark}
 use Rattle.store.specs.View.{flag, view}
-use Rattle.store.specs.Signal.{markedIfIdle}
+use Rattle.store.specs.Signal.{markIfIdle}
 use Rattle.store.proofs.ViewLaws.{put-put, put-same, put-own, view-marked}
 use Rattle.store.proofs.StepLaws.{Step, step-marked}
 
@@ -31,16 +31,16 @@ abbrev pub markedIf : Bool → Slot → Slot
 markedIf idle l = withSignal (l .pending) (either idle (l .marked)) l
 
 module _ (u q : List ℕ) (s : Shaped u) (l : Lane) (x : ℕ) (at : l .key .slot ≡ x) (h : x < issued u) where
-  pub view-marked-if-idle : view (markedIfIdle u l) q ≡ put x (markedIf (eqb (l .pending) 0) (view u q .slotOf x)) (view u q)
-  unfolding markedIfIdle
+  pub view-marked-if-idle : view (markIfIdle u l) q ≡ put x (markedIf (eqb (l .pending) 0) (view u q .slotOf x)) (view u q)
+  unfolding markIfIdle
   view-marked-if-idle = rw at (go (eqb (l .pending) 0))
     where
-      go : (b : Bool) → view (cond b (marked u x) u) q ≡ put x (markedIf b (view u q .slotOf x)) (view u q)
+      go : (b : Bool) → view (cond b (mark u x) u) q ≡ put x (markedIf b (view u q .slotOf x)) (view u q)
       go true = view-marked u q s x h
       go false = sym (put-same x (view u q))
 
   -- after a change of the slot alone
-  pub view-put-marked-if-idle : (a : Slot) (v : State) → view u q ≡ put x a v → view (markedIfIdle u l) q ≡ put x (markedIf (eqb (l .pending) 0) a) v
+  pub view-put-marked-if-idle : (a : Slot) (v : State) → view u q ≡ put x a v → view (markIfIdle u l) q ≡ put x (markedIf (eqb (l .pending) 0) a) v
   view-put-marked-if-idle a v e =
       let b : Bool = eqb (l .pending) 0 in
       view-marked-if-idle
@@ -50,10 +50,10 @@ module _ (u q : List ℕ) (s : Shaped u) (l : Lane) (x : ℕ) (at : l .key .slot
 
 -- in a run of stores
 pub step-marked-if-idle : {t u : List ℕ} {x : ℕ} {l : Lane} {w : List ℕ} {f b n m : ℕ} → Step t u x l w f b n m → (o : Lane) → o .key .slot < issued t
-    → Step t (markedIfIdle u o) x l w f b n m
-unfolding markedIfIdle
+    → Step t (markIfIdle u o) x l w f b n m
+unfolding markIfIdle
 step-marked-if-idle {t = t} {u = u} {x = x} {l = l} {w = w} {f = f} {b = b} {n = n} {m = m} k o h = go (eqb (o .pending) 0)
   where
-    go : (c : Bool) → Step t (cond c (marked u (o .key .slot)) u) x l w f b n m
+    go : (c : Bool) → Step t (cond c (mark u (o .key .slot)) u) x l w f b n m
     go true = step-marked k (o .key .slot) h
     go false = k

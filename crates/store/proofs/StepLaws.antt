@@ -12,14 +12,14 @@ use lib.ListN.{length}
 use lib.Bits.{or-lt}
 use lib.Pow.{pow-mono, pow-pos}
 use Rattle.model.specs.Lists as rules
-use Rattle.model.proofs.Counting.{equal, other, same?}
+use Rattle.demands.proofs.Counting.{equal, other, same?}
 use Rattle.lane.specs.declared.lane.Lane.{Lane}
 use Rattle.lane.specs.Table.{HasRow, headerWords, setHead, laneAt, putLane}
 use Rattle.lane.proofs.TableLaws.{frames, lane-own, other-lane-kept, has-row}
 use Rattle.queues.specs.Header.{Shaped, issued, slots, budget, alive, capacity, firstCursor, fastSlot, laneCount, livingCount, freeCount, queueCount}
-use Rattle.queues.specs.Queue.{queueOf, pushedBack, poppedFront, rotated, removed}
-use Rattle.queues.specs.Registry.{freed, reissued}
-use Rattle.ready.specs.Ready.{pageWord, groupWord, Linked, marked}
+use Rattle.queues.specs.Queue.{queueOf, pushBack, popFront, rotateLeft, remove}
+use Rattle.queues.specs.Registry.{free, reissue}
+use Rattle.ready.specs.Ready.{pageWord, groupWord, Linked, mark}
 use Rattle.queues.proofs.QueueLaws.{queue-frames, header-in, length-queue, queue-pushed-back, queue-popped-front, queue-rotated, queue-removed, shaped-pushed-back, shaped-popped-front, shaped-rotated, shaped-removed, shaped-putLane}
 use Rattle.queues.proofs.RegistryLaws.{registry-frames, shaped-freed, shaped-reissued}
 use Rattle.ready.proofs.MarkLaws.{marked-case, head-marked, lane-marked, queue-marked, page-marked, other-page-marked, linked-marked}
@@ -48,11 +48,11 @@ pow-below b h =
     let e : 2 ^ suc b ≤ 2 ^ 64 = pow-mono h in
     omega (arith, e, pow-suc 2 b, pow-pos b)
 
-pub mark-words-marked : (t : List ℕ) (x : ℕ) → Shaped t → x < issued t → MarkWords t → MarkWords (marked t x)
+pub mark-words-marked : (t : List ℕ) (x : ℕ) → Shaped t → x < issued t → MarkWords t → MarkWords (mark t x)
 mark-words-marked t x s h k =
     let row : HasRow (x / 64) (length t) = omega (arith, s .room, s .issued-most) in
     let row′ : HasRow (x / 64 / 64) (length t) = omega (arith, s .room, s .issued-most) in
-    let same : issued (marked t x) ≡ issued t = head-marked t x 0 refl in
+    let same : issued (mark t x) ≡ issued t = head-marked t x 0 refl in
     record {
       pages-fit = λ p l. elim (same? p (x / 64)) [
         | equal e q i ↦
@@ -181,7 +181,7 @@ module _ {t u : List ℕ} {x : ℕ} {l : Lane} {w : List ℕ} {f b n m : ℕ} (k
       }
 
   -- a slot marked
-  pub step-marked : (z : ℕ) → z < issued t → Step t (marked u z) x l w f b n m
+  pub step-marked : (z : ℕ) → z < issued t → Step t (mark u z) x l w f b n m
   step-marked z h =
       let hd = head-marked u z in
       record {
@@ -203,7 +203,7 @@ module _ {t u : List ℕ} {x : ℕ} {l : Lane} {w : List ℕ} {f b n m : ℕ} (k
       }
 
   -- a slot at the back of the queue, where that has room
-  pub step-pushed-back : (z : ℕ) → length w < slots t → Step t (pushedBack u z) x l (w ++ (z ∷ [])) f b n m
+  pub step-pushed-back : (z : ℕ) → length w < slots t → Step t (pushBack u z) x l (w ++ (z ∷ [])) f b n m
   step-pushed-back z h =
       let room : queueCount u < slots u = omega (arith, length-queue u, ap length (k .queue), k .same-slots) in
       step-same
@@ -213,7 +213,7 @@ module _ {t u : List ℕ} {x : ℕ} {l : Lane} {w : List ℕ} {f b n m : ℕ} (k
       (simp queue-frames (k .fast)) (simp queue-frames (k .poll)) (simp queue-frames (k .lanes)) (simp queue-frames (k .living))
 
   -- a slot out of the queue
-  pub step-removed : (z : ℕ) → Step t (removed u z) x l (rules.without z w) f b n m
+  pub step-removed : (z : ℕ) → Step t (remove u z) x l (rules.without z w) f b n m
   step-removed z =
       step-same
       (record { sizes = simp queue-frames; lanes = λ y. simp queue-frames; pages = λ y. simp queue-frames; groups = λ y. simp queue-frames })
@@ -223,7 +223,7 @@ module _ {t u : List ℕ} {x : ℕ} {l : Lane} {w : List ℕ} {f b n m : ℕ} (k
 
   module _ (z : ℕ) (q : List ℕ) (e : w ≡ z ∷ q) where
     -- the front gone
-    pub step-popped-front : Step t (poppedFront u) x l q f b n m
+    pub step-popped-front : Step t (popFront u) x l q f b n m
     step-popped-front =
         step-same
         (record { sizes = simp queue-frames; lanes = λ y. simp queue-frames; pages = λ y. simp queue-frames; groups = λ y. simp queue-frames })
@@ -232,7 +232,7 @@ module _ {t u : List ℕ} {x : ℕ} {l : Lane} {w : List ℕ} {f b n m : ℕ} (k
         (simp queue-frames (k .fast)) (simp queue-frames (k .poll)) (simp queue-frames (k .lanes)) (simp queue-frames (k .living))
 
     -- the front at the back
-    pub step-rotated : Step t (rotated u) x l (q ++ (z ∷ [])) f b n m
+    pub step-rotated : Step t (rotateLeft u) x l (q ++ (z ∷ [])) f b n m
     step-rotated =
         step-same
         (record { sizes = simp queue-frames; lanes = λ y. simp queue-frames; pages = λ y. simp queue-frames; groups = λ y. simp queue-frames })
@@ -241,7 +241,7 @@ module _ {t u : List ℕ} {x : ℕ} {l : Lane} {w : List ℕ} {f b n m : ℕ} (k
         (simp queue-frames (k .fast)) (simp queue-frames (k .poll)) (simp queue-frames (k .lanes)) (simp queue-frames (k .living))
 
   -- a slot free again, where the free list has room
-  pub step-freed : (z : ℕ) → freeCount u < slots u → Step t (freed u z) x l w f b n m
+  pub step-freed : (z : ℕ) → freeCount u < slots u → Step t (free u z) x l w f b n m
   step-freed z room =
       step-same
       (record { sizes = simp registry-frames; lanes = λ y. simp registry-frames; pages = λ y. simp registry-frames; groups = λ y. simp registry-frames })
@@ -250,7 +250,7 @@ module _ {t u : List ℕ} {x : ℕ} {l : Lane} {w : List ℕ} {f b n m : ℕ} (k
       (simp registry-frames (k .fast)) (simp registry-frames (k .poll)) (simp registry-frames (k .lanes)) (simp registry-frames (k .living))
 
   -- the slot freed last issued again
-  pub step-reissued : Step t (reissued u) x l w f b n m
+  pub step-reissued : Step t (reissue u) x l w f b n m
   step-reissued =
       step-same
       (record { sizes = simp registry-frames; lanes = λ y. simp registry-frames; pages = λ y. simp registry-frames; groups = λ y. simp registry-frames })

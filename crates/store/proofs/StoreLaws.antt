@@ -17,14 +17,14 @@ use Rattle.model.specs.Order.{Ordered, SlotOrdered, RingsFit, LaneFits}
 use Rattle.model.specs.Rules.{outcome}
 use Rattle.model.specs.declared.Call.{Call}
 use Rattle.model.specs.declared.Answer.{Answer}
-use Rattle.model.proofs.Counting.{equal, other, same?, no as clash}
-use Rattle.model.proofs.OrderKept.{first-own}
-use Rattle.model.proofs.InOrder.{call-keeps-order}
+use Rattle.demands.proofs.Counting.{equal, other, same?, no as clash}
+use Rattle.demands.proofs.OrderKept.{first-own}
+use Rattle.demands.proofs.InOrder.{call-keeps-order}
 use Rattle.lane.specs.declared.lane.Lane.{Lane}
 use Rattle.yring.specs.declared.ring.Ring.{Ring}
 use Rattle.yring.specs.Cursor.{distance}
-use Rattle.yring.specs.Ring.{ringOf, Within}
-use Rattle.lane.specs.Lane.{held}
+use Rattle.yring.specs.Ring.{newRing, Within}
+use Rattle.lane.specs.Lane.{heldItems}
 use Rattle.lane.specs.Order.{InOrder, Counts}
 use Rattle.lane.specs.Table.{HasRow, laneAt}
 use Rattle.yring.proofs.CursorLaws.{some}
@@ -32,7 +32,7 @@ use Rattle.lane.proofs.CursorOrder.{held-adds, span-adds}
 use Rattle.yring.proofs.RingLaws.{length-items}
 use Rattle.queues.specs.Header.{issued, slots, budget, capacity, fastSlot, laneCount, livingCount, freeCount, queueCount}
 use Rattle.queues.specs.Queue.{QueueNames, queueOf}
-use Rattle.queues.specs.Registry.{freeOf, lastFreed, reissued}
+use Rattle.queues.specs.Registry.{freeOf, lastFreed, reissue}
 use Rattle.queues.proofs.Pigeonhole.{pigeonhole-less}
 use Rattle.queues.proofs.QueueLaws.{queue-has-room}
 use Rattle.queues.proofs.RegistryLaws.{length-free, free-reissued}
@@ -58,7 +58,7 @@ one-flag w h = go (flag w) refl
     go false e = omega (arith, eqb-false w 1 e)
 
 -- the ring of a slot lies within the ring store
-pub slot-ring-in : (t r : List ℕ) → Stores t r → (x : ℕ) → x < slots t → Within (ringOf x (capacity t)) (length r)
+pub slot-ring-in : (t r : List ℕ) → Stores t r → (x : ℕ) → x < slots t → Within (newRing x (capacity t)) (length r)
 slot-ring-in t r o x h = record { power = o .power; fits = omega (arith, ring-in x (slots t) (capacity t) h, o .rings-room) }
   where
     ring-in : (x s c : ℕ) → x < s → x * c + c ≤ s * c
@@ -71,7 +71,7 @@ module _ (t r : List ℕ) (o : Stores t r) (x : ℕ) (h : x < issued t) where
   pub has-slot-row : HasRow x (length t)
   has-slot-row = row-in t (o .shaped) x h
 
-  pub issued-ring-in : Within (ringOf x (capacity t)) (length r)
+  pub issued-ring-in : Within (newRing x (capacity t)) (length r)
   issued-ring-in = slot-ring-in t r o x below-slots
 
   -- what the rules see of the slot's flags
@@ -137,7 +137,7 @@ free-slot t r o x c =
 pub last-freed-slot : (t r : List ℕ) → StoreInOrder t r → 0 < freeCount t → FreeSlot t (lastFreed t)
 last-freed-slot t r o h =
     free-slot t r o (lastFreed t)
-    (omega (arith, ap (count (lastFreed t)) (free-reissued t (o .stores .shaped) h), first-own (lastFreed t) (freeOf (reissued t))))
+    (omega (arith, ap (count (lastFreed t)) (free-reissued t (o .stores .shaped) h), first-own (lastFreed t) (freeOf (reissue t))))
 
 -- ---- the rules' order of the state after
 
@@ -161,8 +161,8 @@ module _ (C : ℕ) (small : C ≤ 65536) (l : Lane) (o : InOrder C l) where
       go : {B d a c u b v : ℕ} → Counts B d a c u b v → u - v < B
       go k = omega arith
 
-  pub lane-fits : (ring : Ring) (store : List ℕ) (s : Slot) → s .ring ≡ held ring store l → s .unreleased ≡ l .unreleased - l .window → LaneFits C s
-  unfolding held
+  pub lane-fits : (ring : Ring) (store : List ℕ) (s : Slot) → s .ring ≡ heldItems ring store l → s .unreleased ≡ l .unreleased - l .window → LaneFits C s
+  unfolding heldItems
   lane-fits ring store s e g =
       record {
         inside = rw (e, g, length-items ring store (l .head) (distance (l .tail) (l .head)), ← span-is) (o .cursors .tail-within);
@@ -181,7 +181,7 @@ rings-fit t r o p =
     fits : (y : ℕ) → y < issued t → view t r .slotOf y .registered ≡ true → LaneFits (capacity t) (view t r .slotOf y)
     fits y h e =
         let f : flag (laneAt t y .registered) ≡ true = sym (registered-view t r o y h) ∙ e in
-        lane-fits (capacity t) (o .power .most) (laneAt t y) (o .lanes y h (eqb-true _ 1 f)) (ringOf y (capacity t)) r (view t r .slotOf y) (rw (slot-in t r y h)) (rw (slot-in t r y h))
+        lane-fits (capacity t) (o .power .most) (laneAt t y) (o .lanes y h (eqb-true _ 1 f)) (newRing y (capacity t)) r (view t r .slotOf y) (rw (slot-in t r y h)) (rw (slot-in t r y h))
 
 -- every call of the rules keeps their order, so a call that does what the rules say leaves a store in order if it leaves `Stores`
 pub store-in-order-after : (t r : List ℕ) (c : Call) (w : Words) → StoreInOrder t r → seen w ≡ (outcome (view t r) c) .1 → Stores (w .1) (w .2)

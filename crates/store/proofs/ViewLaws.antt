@@ -13,13 +13,13 @@ use Rattle.model.specs.Lists as rules
 use Rattle.model.specs.Lists.{if}
 use Rattle.model.specs.State.{Slot, State, vacant}
 use Rattle.model.specs.Changes.{withQueue, withFree, withBudget, withCursor, withOpen, put, withFlags, withSignal, withRing}
-use Rattle.model.proofs.Counting.{Same, equal, other, same?}
-use Rattle.model.proofs.Words.{state-path}
+use Rattle.demands.proofs.Counting.{Same, equal, other, same?}
+use Rattle.demands.proofs.Simulation.{state-path}
 use Rattle.model.specs.declared.LaneKey.{LaneKey}
 use Rattle.lane.specs.declared.lane.Lane.{Lane}
 use Rattle.yring.specs.Cursor.{distance}
-use Rattle.yring.specs.Ring.{ringOf, place, Within, push}
-use Rattle.lane.specs.Lane.{held, pushAndFlush, sent}
+use Rattle.yring.specs.Ring.{newRing, index, Within, pushItem}
+use Rattle.lane.specs.Lane.{heldItems, pushAndFlushItem, sent}
 use Rattle.lane.specs.Order.{InOrder, sentLane}
 use Rattle.lane.specs.Table.{HasRow, head, setHead, headerWords, laneAt, putLane}
 use Rattle.lane.proofs.TableLaws.{frames, lane-own, other-lane-kept, slot-of-lane, has-row}
@@ -27,9 +27,9 @@ use Rattle.yring.proofs.RingLaws.{other-ring-kept}
 use Rattle.lane.proofs.HeldLaws.{held-by-ends, push-and-flush-appends}
 use Rattle.queues.specs.Header.{Shaped, issued, slots, budget, groupCursor, alive, capacity, channel, firstGeneration, freeCount, queueCount}
 use Rattle.queues.specs.Queue as words
-use Rattle.queues.specs.Queue.{queueOf, pushedBack, poppedFront, rotated, removed}
-use Rattle.queues.specs.Registry.{freeOf, freed, lastFreed, reissued}
-use Rattle.ready.specs.Ready.{pageBit, marked, queuedLane, enqueued}
+use Rattle.queues.specs.Queue.{queueOf, pushBack, popFront, rotateLeft, remove}
+use Rattle.queues.specs.Registry.{freeOf, free, lastFreed, reissue}
+use Rattle.ready.specs.Ready.{pageBit, mark, queuedLane, enqueue}
 use Rattle.queues.proofs.QueueLaws.{queue-frames, header-in, queue-pushed-back, queue-popped-front, queue-rotated, queue-removed, shaped-putLane}
 use Rattle.queues.proofs.RegistryLaws.{registry-frames, length-free, free-freed, free-reissued}
 use Rattle.ready.proofs.MarkLaws.{head-marked, lane-marked, queue-marked, free-marked, own-bit-marked, other-bit-marked}
@@ -133,7 +133,7 @@ capacity-put-lane t l = simp frames
 
 module _ (t : List ℕ) (s : Shaped t) (l : Lane) (x : ℕ) (at : l .key .slot ≡ x) (h : x < issued t) where
   -- the slot as the rules see it, whatever the ring store
-  own-put-lane : (r : List ℕ) → slotAt (putLane t l) r x ≡ slotOf l (pageBit t x) (held (ringOf x (capacity t)) r l)
+  own-put-lane : (r : List ℕ) → slotAt (putLane t l) r x ≡ slotOf l (pageBit t x) (heldItems (newRing x (capacity t)) r l)
   unfolding slotAt
   own-put-lane r = rw (lane-own t l x at (has-row t x (row-in t s x h)), page-put-lane t l x, capacity-put-lane t l)
 
@@ -143,44 +143,44 @@ module _ (t : List ℕ) (s : Shaped t) (l : Lane) (x : ℕ) (at : l .key .slot �
 
   -- a lane stored, with any change of its own ring: the other slots' rings are as they were
   pub view-put-ring : (r q : List ℕ) → ((y : ℕ) → x ≢ y → slotAt t q y ≡ slotAt t r y)
-      → view (putLane t l) q ≡ put x (slotOf l (pageBit t x) (held (ringOf x (capacity t)) q l)) (view t r)
+      → view (putLane t l) q ≡ put x (slotOf l (pageBit t x) (heldItems (newRing x (capacity t)) q l)) (view t r)
   view-put-ring r q others =
       view-by t (putLane t l) r q x _ h (own-put-lane q) (λ y n. other-put-lane q y n ∙ others y n) (heads-put-lane t l) (simp queue-frames) (simp registry-frames)
 
   -- a lane stored
-  pub view-put-lane : (r : List ℕ) → view (putLane t l) r ≡ put x (slotOf l (pageBit t x) (held (ringOf x (capacity t)) r l)) (view t r)
+  pub view-put-lane : (r : List ℕ) → view (putLane t l) r ≡ put x (slotOf l (pageBit t x) (heldItems (newRing x (capacity t)) r l)) (view t r)
   view-put-lane r = view-put-ring r r (λ y n. refl)
 
 -- a lane stored with its own ring's item at the tail: what a send that is not refused leaves
-module _ (t r : List ℕ) (s : Shaped t) (x : ℕ) (h : x < issued t) (w : Within (ringOf x (capacity t)) (length r)) where
-  other-ring : (y c v : ℕ) → x ≢ y → slotAt t (set r (place (ringOf x (capacity t)) c) v) y ≡ slotAt t r y
-  unfolding slotAt held
+module _ (t r : List ℕ) (s : Shaped t) (x : ℕ) (h : x < issued t) (w : Within (newRing x (capacity t)) (length r)) where
+  other-ring : (y c v : ℕ) → x ≢ y → slotAt t (set r (index (newRing x (capacity t)) c) v) y ≡ slotAt t r y
+  unfolding slotAt heldItems
   other-ring y c v n =
       let l : Lane = laneAt t y in
       rw (other-ring-kept (capacity t) (w .power) r y x (l .head) c (distance (l .tail) (l .head)) v (λ e. n (sym e)))
 
   -- whether the ring store changes or not
-  others-sent : (v y : ℕ) (l : Lane) → x ≢ y → slotAt t ((pushAndFlush (ringOf x (capacity t)) r v l) .1) y ≡ slotAt t r y
-  unfolding pushAndFlush sent push
+  others-sent : (v y : ℕ) (l : Lane) → x ≢ y → slotAt t ((pushAndFlushItem (newRing x (capacity t)) r v l) .1) y ≡ slotAt t r y
+  unfolding pushAndFlushItem sent pushItem
   others-sent v y l n = go (eqb (distance (l .tail) (l .released)) (capacity t)) refl
     where
-      go : (b : Bool) → eqb (distance (l .tail) (l .released)) (capacity t) ≡ b → slotAt t ((pushAndFlush (ringOf x (capacity t)) r v l) .1) y ≡ slotAt t r y
+      go : (b : Bool) → eqb (distance (l .tail) (l .released)) (capacity t) ≡ b → slotAt t ((pushAndFlushItem (newRing x (capacity t)) r v l) .1) y ≡ slotAt t r y
       go true e = rw e
       go false e = rw e (other-ring y (l .tail) v n)
 
   module _ (v : ℕ) (o : InOrder (capacity t) (laneAt t x)) (f : distance (laneAt t x .tail) (laneAt t x .released) ≢ capacity t) where
     abbrev after : Lane
-    after = sentLane ((pushAndFlush (ringOf x (capacity t)) r v (laneAt t x)) .0)
+    after = sentLane ((pushAndFlushItem (newRing x (capacity t)) r v (laneAt t x)) .0)
 
     -- the lane m stored has the key of the lane before and the ends of the lane after the push
     pub view-sent : (m : Lane) → m .key .slot ≡ x → m .head ≡ after .head → m .tail ≡ after .tail
-        → view (putLane t m) ((pushAndFlush (ringOf x (capacity t)) r v (laneAt t x)) .1)
-        ≡ put x (slotOf m (pageBit t x) (held (ringOf x (capacity t)) r (laneAt t x) ++ (v ∷ []))) (view t r)
+        → view (putLane t m) ((pushAndFlushItem (newRing x (capacity t)) r v (laneAt t x)) .1)
+        ≡ put x (slotOf m (pageBit t x) (heldItems (newRing x (capacity t)) r (laneAt t x) ++ (v ∷ []))) (view t r)
     view-sent m k a b =
-        let q : List ℕ = (pushAndFlush (ringOf x (capacity t)) r v (laneAt t x)) .1 in
+        let q : List ℕ = (pushAndFlushItem (newRing x (capacity t)) r v (laneAt t x)) .1 in
         view-put-ring t s m x k h r q (λ y n. others-sent v y (laneAt t x) n)
         ∙ ap (λ (vs : List ℕ). put x (slotOf m (pageBit t x) vs) (view t r))
-        (held-by-ends (ringOf x (capacity t)) q m after a b ∙ push-and-flush-appends (ringOf x (capacity t)) r (laneAt t x) w o v f)
+        (held-by-ends (newRing x (capacity t)) q m after a b ∙ push-and-flush-appends (newRing x (capacity t)) r (laneAt t x) w o v f)
 
 -- ---- a lane stored that differs from the slot's lane in part
 
@@ -212,7 +212,7 @@ module _ (t r : List ℕ) (s : Shaped t) (x : ℕ) (h : x < issued t) (l : Lane)
   unfolding slotAt
   view-put-same-ends =
       view-put-lane t s l x own-slot h r
-      ∙ ap₂ (λ (g : ℕ) (vs : List ℕ). put x (slotBy g vs) (view t r)) (ap (λ (k : LaneKey). k .generation) key) (held-by-ends (ringOf x (capacity t)) r l (laneAt t x) at to)
+      ∙ ap₂ (λ (g : ℕ) (vs : List ℕ). put x (slotBy g vs) (view t r)) (ap (λ (k : LaneKey). k .generation) key) (held-by-ends (newRing x (capacity t)) r l (laneAt t x) at to)
       ∙ rw (slot-in t r x h)
 
   -- only flags change
@@ -228,7 +228,7 @@ module _ (t r : List ℕ) (s : Shaped t) (x : ℕ) (h : x < issued t) (l : Lane)
   view-put-counts a b c d = view-put-same-ends ∙ rw (slot-in t r x h, a, b, c, d)
 
 -- a lane stored whose flags are as they were and that holds the items vs: items were taken, or counts changed
-pub view-put-holding : (t r : List ℕ) → Shaped t → (x : ℕ) → x < issued t → (l : Lane) → l .key ≡ laneAt t x .key → (vs : List ℕ) → held (ringOf x (capacity t)) r l ≡ vs
+pub view-put-holding : (t r : List ℕ) → Shaped t → (x : ℕ) → x < issued t → (l : Lane) → l .key ≡ laneAt t x .key → (vs : List ℕ) → heldItems (newRing x (capacity t)) r l ≡ vs
     → l .registered ≡ laneAt t x .registered → l .living ≡ laneAt t x .living → l .paused ≡ laneAt t x .paused → l .pending ≡ laneAt t x .pending
     → view (putLane t l) r ≡ put x (withRing vs (l .unreleased - l .window) (l .burst - l .window) (view t r .slotOf x)) (view t r)
 unfolding slotAt
@@ -264,21 +264,21 @@ view-put-queued t r s x h =
 -- ---- a mark
 
 module _ (t r : List ℕ) (s : Shaped t) (x : ℕ) (h : x < issued t) where
-  own-marked : slotAt (marked t x) r x ≡ withSignal (slotAt t r x .pending) true (slotAt t r x)
+  own-marked : slotAt (mark t x) r x ≡ withSignal (slotAt t r x .pending) true (slotAt t r x)
   unfolding slotAt
   own-marked = rw (lane-marked t x x, own-bit-marked t x (page-row-in t s x h), head-marked t x 8 refl)
 
-  other-marked : (y : ℕ) → x ≢ y → slotAt (marked t x) r y ≡ slotAt t r y
+  other-marked : (y : ℕ) → x ≢ y → slotAt (mark t x) r y ≡ slotAt t r y
   unfolding slotAt
   other-marked y n = rw (lane-marked t x y, other-bit-marked t x (page-row-in t s x h) y (λ e. n (sym e)), head-marked t x 8 refl)
 
-  heads-marked : headsOf (marked t x) ≡ headsOf t
+  heads-marked : headsOf (mark t x) ≡ headsOf t
   heads-marked = simp head-marked
 
   -- the slot's page bit is set
-  pub view-marked : view (marked t x) r ≡ put x (withSignal (view t r .slotOf x .pending) true (view t r .slotOf x)) (view t r)
+  pub view-marked : view (mark t x) r ≡ put x (withSignal (view t r .slotOf x .pending) true (view t r .slotOf x)) (view t r)
   view-marked =
-      view-by t (marked t x) r r x _ h (own-marked ∙ rw (slot-in t r x h)) other-marked heads-marked (queue-marked t x) (free-marked t x)
+      view-by t (mark t x) r r x _ h (own-marked ∙ rw (slot-in t r x h)) other-marked heads-marked (queue-marked t x) (free-marked t x)
 
 -- ---- the queue
 
@@ -292,46 +292,46 @@ without-alike x (y ∷ q) = go (same? x y) (without-alike x q)
     go (other n e i) h = rw (e, ne-eqb y x (λ q. n (sym q))) (ap (λ (l : List ℕ). y ∷ l) h)
 
 module _ (t r : List ℕ) (s : Shaped t) where
-  slot-pushed-back : (x y : ℕ) → slotAt (pushedBack t x) r y ≡ slotAt t r y
+  slot-pushed-back : (x y : ℕ) → slotAt (pushBack t x) r y ≡ slotAt t r y
   unfolding slotAt
   slot-pushed-back x y = simp queue-frames
 
   -- a slot at the back
-  pub view-pushed-back : (x : ℕ) → queueCount t < slots t → view (pushedBack t x) r ≡ withQueue (view t r .queue ++ (x ∷ [])) (view t r)
+  pub view-pushed-back : (x : ℕ) → queueCount t < slots t → view (pushBack t x) r ≡ withQueue (view t r .queue ++ (x ∷ [])) (view t r)
   unfolding view
-  view-pushed-back x h = view-queue t (pushedBack t x) r r (slot-pushed-back x) (simp queue-frames) _ (queue-pushed-back t s x h) (simp registry-frames)
+  view-pushed-back x h = view-queue t (pushBack t x) r r (slot-pushed-back x) (simp queue-frames) _ (queue-pushed-back t s x h) (simp registry-frames)
 
-  slot-popped-front : (y : ℕ) → slotAt (poppedFront t) r y ≡ slotAt t r y
+  slot-popped-front : (y : ℕ) → slotAt (popFront t) r y ≡ slotAt t r y
   unfolding slotAt
   slot-popped-front y = simp queue-frames
 
-  slot-rotated : (y : ℕ) → slotAt (rotated t) r y ≡ slotAt t r y
+  slot-rotated : (y : ℕ) → slotAt (rotateLeft t) r y ≡ slotAt t r y
   unfolding slotAt
   slot-rotated y = simp queue-frames
 
   module _ (x : ℕ) (q : List ℕ) (e : view t r .queue ≡ x ∷ q) where
     -- the front gone
-    pub view-popped-front : view (poppedFront t) r ≡ withQueue q (view t r)
+    pub view-popped-front : view (popFront t) r ≡ withQueue q (view t r)
     unfolding view
-    view-popped-front = view-queue t (poppedFront t) r r slot-popped-front (simp queue-frames) q (queue-popped-front t s x q e) (simp registry-frames)
+    view-popped-front = view-queue t (popFront t) r r slot-popped-front (simp queue-frames) q (queue-popped-front t s x q e) (simp registry-frames)
 
     -- the front at the back
-    pub view-rotated : view (rotated t) r ≡ withQueue (q ++ (x ∷ [])) (view t r)
+    pub view-rotated : view (rotateLeft t) r ≡ withQueue (q ++ (x ∷ [])) (view t r)
     unfolding view
-    view-rotated = view-queue t (rotated t) r r slot-rotated (simp queue-frames) (q ++ (x ∷ [])) (queue-rotated t s x q e) (simp registry-frames)
+    view-rotated = view-queue t (rotateLeft t) r r slot-rotated (simp queue-frames) (q ++ (x ∷ [])) (queue-rotated t s x q e) (simp registry-frames)
 
-  slot-removed : (x y : ℕ) → slotAt (removed t x) r y ≡ slotAt t r y
+  slot-removed : (x y : ℕ) → slotAt (remove t x) r y ≡ slotAt t r y
   unfolding slotAt
   slot-removed x y = simp queue-frames
 
   -- a slot out of the queue
-  pub view-removed : (x : ℕ) → view (removed t x) r ≡ withQueue (rules.without x (view t r .queue)) (view t r)
+  pub view-removed : (x : ℕ) → view (remove t x) r ≡ withQueue (rules.without x (view t r .queue)) (view t r)
   unfolding view
-  view-removed x = view-queue t (removed t x) r r (slot-removed x) (simp queue-frames) _ (queue-removed t s x ∙ without-alike x (queueOf t)) (simp registry-frames)
+  view-removed x = view-queue t (remove t x) r r (slot-removed x) (simp queue-frames) _ (queue-removed t s x ∙ without-alike x (queueOf t)) (simp registry-frames)
 
 -- a lane goes to the back of the queue
-pub view-enqueued : (t r : List ℕ) → Shaped t → (x : ℕ) → x < issued t → queueCount t < slots t → view (enqueued t x) r ≡ withQueue (view t r .queue ++ (x ∷ [])) (view t r)
-unfolding enqueued
+pub view-enqueued : (t r : List ℕ) → Shaped t → (x : ℕ) → x < issued t → queueCount t < slots t → view (enqueue t x) r ≡ withQueue (view t r .queue ++ (x ∷ [])) (view t r)
+unfolding enqueue
 view-enqueued t r s x h room =
     view-pushed-back (putLane t (queuedLane (laneAt t x))) r (shaped-putLane t s _) x (simp frames room)
     ∙ ap (λ (u : State). withQueue (u .queue ++ (x ∷ [])) u) (view-put-queued t r s x h)
@@ -339,28 +339,28 @@ view-enqueued t r s x h room =
 -- ---- the free list
 
 module _ (t r : List ℕ) (s : Shaped t) where
-  slot-freed : (x y : ℕ) → slotAt (freed t x) r y ≡ slotAt t r y
+  slot-freed : (x y : ℕ) → slotAt (free t x) r y ≡ slotAt t r y
   unfolding slotAt
   slot-freed x y = simp registry-frames
 
   -- a slot free again
-  pub view-freed : (x : ℕ) → freeCount t < slots t → view (freed t x) r ≡ withFree (x ∷ view t r .free) (view t r)
+  pub view-freed : (x : ℕ) → freeCount t < slots t → view (free t x) r ≡ withFree (x ∷ view t r .free) (view t r)
   unfolding view
-  view-freed x h = view-free t (freed t x) r r (slot-freed x) (simp registry-frames) _ (simp registry-frames) (free-freed t s x h)
+  view-freed x h = view-free t (free t x) r r (slot-freed x) (simp registry-frames) _ (simp registry-frames) (free-freed t s x h)
 
-  slot-reissued : (y : ℕ) → slotAt (reissued t) r y ≡ slotAt t r y
+  slot-reissued : (y : ℕ) → slotAt (reissue t) r y ≡ slotAt t r y
   unfolding slotAt
   slot-reissued y = simp registry-frames
 
   -- the slot freed last, issued again
-  pub free-view : 0 < freeCount t → view t r .free ≡ lastFreed t ∷ freeOf (reissued t)
+  pub free-view : 0 < freeCount t → view t r .free ≡ lastFreed t ∷ freeOf (reissue t)
   unfolding view
   free-view h = free-reissued t s h
 
-  pub view-reissued : (x : ℕ) (f : List ℕ) → view t r .free ≡ x ∷ f → view (reissued t) r ≡ withFree f (view t r)
+  pub view-reissued : (x : ℕ) (f : List ℕ) → view t r .free ≡ x ∷ f → view (reissue t) r ≡ withFree f (view t r)
   unfolding view
   view-reissued x f e =
-      view-free t (reissued t) r r slot-reissued (simp registry-frames) f (simp registry-frames) (ap rest (sym (free-reissued t s some) ∙ e))
+      view-free t (reissue t) r r slot-reissued (simp registry-frames) f (simp registry-frames) (ap rest (sym (free-reissued t s some) ∙ e))
     where
       some : 0 < freeCount t
       some = omega (arith, length-free t, ap length e)

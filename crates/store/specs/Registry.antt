@@ -8,15 +8,15 @@ use Rattle.lane.specs.declared.lane.Lane.{Lane}
 use Rattle.lane.specs.Lane.{withFlags}
 use Rattle.lane.specs.Table.{putLane}
 use Rattle.queues.specs.Header.{setLaneCount, laneCount}
-use Rattle.queues.specs.Registry.{freed}
+use Rattle.queues.specs.Registry.{free}
 
 -- a lane that is no longer registered
 abbrev pub retired : Lane → Lane
 retired l = withFlags (l .pending) (l .queued) 0 0 (l .living) l
 
 -- "A slot retired at generation 2^64 - 1 is not freed."
-unfoldable pub freedUnlessLast : List ℕ → Lane → List ℕ
-freedUnlessLast t l = cond (eqb (l .key .generation) 18446744073709551615) t (freed t (l .key .slot))
+unfoldable pub freeUnlessLast : List ℕ → Lane → List ℕ
+freeUnlessLast t l = cond (eqb (l .key .generation) 18446744073709551615) t (free t (l .key .slot))
 
 unfoldable pub retireLane : List ℕ → Lane → List ℕ
-retireLane t l = freedUnlessLast (setLaneCount (putLane t (retired l)) (laneCount t - 1)) l
+retireLane t l = freeUnlessLast (setLaneCount (putLane t (retired l)) (laneCount t - 1)) l

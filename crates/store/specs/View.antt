@@ -7,8 +7,8 @@ use lib.Dec.{eqb, ltb}
 use Rattle.model.specs.Lists.{if}
 use Rattle.model.specs.State.{Slot, State, vacant}
 use Rattle.lane.specs.declared.lane.Lane.{Lane}
-use Rattle.yring.specs.Ring.{ringOf}
-use Rattle.lane.specs.Lane.{held}
+use Rattle.yring.specs.Ring.{newRing}
+use Rattle.lane.specs.Lane.{heldItems}
 use Rattle.lane.specs.Table.{laneAt}
 use Rattle.queues.specs.Header.{issued, slots, budget, groupCursor, alive, capacity, channel, firstGeneration}
 use Rattle.queues.specs.Queue.{queueOf}
@@ -36,7 +36,7 @@ slotOf l mark vs =
 
 -- slot x of the two stores
 unfoldable pub slotAt : List ℕ → List ℕ → ℕ → Slot
-slotAt t r x = slotOf (laneAt t x) (pageBit t x) (held (ringOf x (capacity t)) r (laneAt t x))
+slotAt t r x = slotOf (laneAt t x) (pageBit t x) (heldItems (newRing x (capacity t)) r (laneAt t x))
 
 unfoldable pub view : List ℕ → List ℕ → State
 view t r =

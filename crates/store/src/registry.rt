@@ -2,7 +2,7 @@
 ghost use mathlib.Core.Path.{_≡_};
 ghost use Prim.Native.Nat.{_<_};
 ghost use Rattle.queues.specs.Header.{Shaped, slots, freeCount, laneCount};
-ghost use Rattle.store.specs.Registry.{retired, freedUnlessLast, retireLane};
+ghost use Rattle.store.specs.Registry.{retired, freeUnlessLast, retireLane};
 use lane::lane::Lane;
 use queues::header::Header;
 use queues::registry;
@@ -18,7 +18,7 @@ fn retired(mut l: Lane) -> Lane
 // The slot is free again, unless its generation is the last: an old id would then name a new lane.
 fn free_unless_last(t: &mut [u64], l: Lane)
     requires { ⌜ Shaped (now t) × (freeCount (now t) < slots (now t)) ⌝ }
-    ensures { λ _. ⌜ now (t .exit) ≡ freedUnlessLast (now (t .entry)) l ⌝ }
+    ensures { λ _. ⌜ now (t .exit) ≡ freeUnlessLast (now (t .entry)) l ⌝ }
 {
     if l.key.generation == 18446744073709551615 {
         return;

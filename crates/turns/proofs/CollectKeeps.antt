@@ -8,7 +8,7 @@ use native.Mathlib.Omega.{arith}
 use borrow.Author.Tests.{ltb-true}
 use lib.Dec.{eqb, ltb, leb}
 use Rattle.model.specs.Lists.{count}
-use Rattle.model.proofs.Counting.{equal, other, same?, count-append}
+use Rattle.demands.proofs.Counting.{equal, other, same?, count-append}
 use Rattle.lane.specs.declared.lane.Lane.{Lane}
 use Rattle.yring.specs.Lists.{tab}
 use Rattle.lane.specs.Order.{InOrder}
@@ -19,7 +19,7 @@ use Rattle.queues.specs.Header.{Shaped, issued, groupCursor, freeCount, capacit
 use Rattle.queues.specs.Queue.{queueColumn, queueOf, QueueNames}
 use Rattle.queues.specs.Registry.{freeColumn, freeOf}
 use Rattle.ready.specs.Bits.{bitsFrom}
-use Rattle.ready.specs.Ready.{pageColumn, groupColumn, pageWord, groupWord, Linked, queuedLane, enqueued, offered, collectedPage, collectedGroup, groupsOf, groupAt, collectedFrom, collectReady}
+use Rattle.ready.specs.Ready.{pageColumn, groupColumn, pageWord, groupWord, Linked, queuedLane, enqueue, offer, collectPage, collectGroup, groupCount, groupAt, collectedFrom, collectReady}
 use Rattle.queues.proofs.QueueLaws.{queue-frames}
 use Rattle.ready.proofs.OfferLaws.{Wants, wants, Rest, rest-offered, offered-case, queue-enqueued}
 use Rattle.ready.proofs.CollectLaws.{Kept, kept-self, kept-then, kept-setCell, kept-offered, kept-page, kept-group, linked-group, kept-cursor, linked-cursor}
@@ -65,7 +65,7 @@ kin-setCell t c row v a p n m =
     queue : queueOf (setCell t c row v) ≡ queueOf t
     queue = simp (queue-frames, p, n)
 
-kin-offered : (t : List ℕ) (x : ℕ) → Shaped t → QueueNames t → Kin t (offered t x)
+kin-offered : (t : List ℕ) (x : ℕ) → Shaped t → QueueNames t → Kin t (offer t x)
 unfolding count
 kin-offered t x s q =
     let k = rest-offered t x s in
@@ -77,7 +77,7 @@ kin-offered t x s q =
           (λ e h. new n y (wants t x e) h) (λ e h. n y h) h;
     }
   where
-    new : Named t → (y : ℕ) → Wants t x → 1 ≤ count y (queueOf (enqueued t x)) → laneAt t y .registered ≡ 1
+    new : Named t → (y : ℕ) → Wants t x → 1 ≤ count y (queueOf (enqueue t x)) → laneAt t y .registered ≡ 1
     new n y w h = elim (same? y x) [
       | equal e p i ↦ rw e (w .registered)
       | other d p i ↦ n y (omega (arith, ap (count y) (queue-enqueued t x s q w) ∙ count-append y (queueOf t) (x ∷ [])))
@@ -88,17 +88,17 @@ kin-fold : (f : List ℕ → ℕ → List ℕ) → ((t : List ℕ) (x : ℕ) →
 kin-fold f k h [] t s q = kin-self t
 kin-fold f k h (x ∷ l) t s q = let a = h t x s q in kin-then (k t x s q) (kin-fold f k h l (f t x) (a .shaped) (a .names))
 
-kin-page : (t : List ℕ) (page : ℕ) → Shaped t → QueueNames t → Kin t (collectedPage t page)
-unfolding collectedPage
+kin-page : (t : List ℕ) (page : ℕ) → Shaped t → QueueNames t → Kin t (collectPage t page)
+unfolding collectPage
 kin-page t page s q =
     let a = kept-setCell t pageColumn page 0 refl refl refl s q in
-    kin-then (kin-setCell t pageColumn page 0 refl refl refl refl) (kin-fold offered kin-offered kept-offered (bitsFrom 64 (64 * page) (pageWord t page)) _ (a .shaped) (a .names))
+    kin-then (kin-setCell t pageColumn page 0 refl refl refl refl) (kin-fold offer kin-offered kept-offered (bitsFrom 64 (64 * page) (pageWord t page)) _ (a .shaped) (a .names))
 
-kin-group : (t : List ℕ) (group : ℕ) → Shaped t → QueueNames t → Kin t (collectedGroup t group)
-unfolding collectedGroup
+kin-group : (t : List ℕ) (group : ℕ) → Shaped t → QueueNames t → Kin t (collectGroup t group)
+unfolding collectGroup
 kin-group t group s q =
     let a = kept-setCell t groupColumn group 0 refl refl refl s q in
-    kin-then (kin-setCell t groupColumn group 0 refl refl refl refl) (kin-fold collectedPage kin-page kept-page (bitsFrom 64 (64 * group) (groupWord t group)) _ (a .shaped) (a .names))
+    kin-then (kin-setCell t groupColumn group 0 refl refl refl refl) (kin-fold collectPage kin-page kept-page (bitsFrom 64 (64 * group) (groupWord t group)) _ (a .shaped) (a .names))
 
 kin-cursor : (t : List ℕ) (v : ℕ) → Kin t (setGroupCursor t v)
 kin-cursor t v =
@@ -122,18 +122,18 @@ group-below : (n next : ℕ) → 0 < n → groupAt n next < n
 unfolding groupAt
 group-below n next h = cond-holds (λ g. g < n) (ltb next n) next 0 (λ e. ltb-true next n e) (λ e. h)
 
-going-group : (t : List ℕ) (g : ℕ) → Shaped t → QueueNames t → Linked t → 4096 * g < issued t → Going t (setGroupCursor (collectedGroup t g) (g + 1))
+going-group : (t : List ℕ) (g : ℕ) → Shaped t → QueueNames t → Linked t → 4096 * g < issued t → Going t (setGroupCursor (collectGroup t g) (g + 1))
 going-group t g s q l h =
     let k = kept-group t g s q in
     let i = s .issued-most in
     let m = s .slots-most in
     record {
-      kept = kept-then k (kept-cursor (collectedGroup t g) (g + 1) (omega arith) (k .shaped) (k .names));
-      linked = linked-cursor (collectedGroup t g) (g + 1) (linked-group t g s q l h);
-      kin = kin-then (kin-group t g s q) (kin-cursor (collectedGroup t g) (g + 1));
+      kept = kept-then k (kept-cursor (collectGroup t g) (g + 1) (omega arith) (k .shaped) (k .names));
+      linked = linked-cursor (collectGroup t g) (g + 1) (linked-group t g s q l h);
+      kin = kin-then (kin-group t g s q) (kin-cursor (collectGroup t g) (g + 1));
     }
 
-going-from : (n k : ℕ) (all : Bool) (t : List ℕ) (next : ℕ) → Shaped t → QueueNames t → Linked t → n ≡ groupsOf (issued t) → k ≤ n → Going t (collectedFrom n k all t next)
+going-from : (n k : ℕ) (all : Bool) (t : List ℕ) (next : ℕ) → Shaped t → QueueNames t → Linked t → n ≡ groupCount (issued t) → k ≤ n → Going t (collectedFrom n k all t next)
 unfolding collectedFrom
 going-from n zero all t next s q l e m = record { kept = kept-self t s q; linked = l; kin = kin-self t }
 going-from n (suc k) all t next s q l e m =
@@ -143,8 +143,8 @@ going-from n (suc k) all t next s q l e m =
     let o = going-group t g s q l h in
     cond-holds (Going t) (eqb (groupWord t g) 0) (collectedFrom n k all t (g + 1)) _
     (λ z. going-from n k all t (g + 1) s q l e (omega arith))
-    (λ z. cond-holds (Going t) all (collectedFrom n k all (setGroupCursor (collectedGroup t g) (g + 1)) (g + 1)) (setGroupCursor (collectedGroup t g) (g + 1))
-    (λ y. going-then o (going-from n k all (setGroupCursor (collectedGroup t g) (g + 1)) (g + 1) (o .kept .shaped) (o .kept .names) (o .linked) (rw (o .kept .same-issued) e) (omega arith)))
+    (λ z. cond-holds (Going t) all (collectedFrom n k all (setGroupCursor (collectGroup t g) (g + 1)) (g + 1)) (setGroupCursor (collectGroup t g) (g + 1))
+    (λ y. going-then o (going-from n k all (setGroupCursor (collectGroup t g) (g + 1)) (g + 1) (o .kept .shaped) (o .kept .names) (o .linked) (rw (o .kept .same-issued) e) (omega arith)))
     (λ y. o))
 
 -- order is no matter of the queued word
@@ -162,7 +162,7 @@ free-kin t u k =
 pub collect-keeps : (all : Bool) (t : List ℕ) → Turning t → Keeps t (collectReady all t)
 unfolding collectReady
 collect-keeps all t k =
-    let o = going-from (groupsOf (issued t)) (groupsOf (issued t)) all t (groupCursor t) (k .shaped) (k .names) (k .linked) refl (omega arith) in
+    let o = going-from (groupCount (issued t)) (groupCount (issued t)) all t (groupCursor t) (k .shaped) (k .names) (k .linked) refl (omega arith) in
     let u = collectReady all t in
     let i = o .kin in
     record {

@@ -21,8 +21,8 @@ use Rattle.queues.specs.Header.{Shaped, issued, slots, freeCount, laneCount, li
 use Rattle.queues.specs.Queue.{queueOf}
 use Rattle.queues.proofs.QueueLaws.{length-queue}
 use Rattle.store.specs.Registry.{retireLane}
-use Rattle.all_lanes.specs.Batch.{forSlots}
-use Rattle.turns.specs.Turn.{retiredIf}
+use Rattle.all_lanes.specs.AllLanes.{forSlots}
+use Rattle.turns.specs.Turn.{retireIf}
 use Rattle.turns.specs.Drained.{Idle, retireEmptyPaused, retireEmptyPausedLanes, emptyOrDrained, isDrained, nothingTaken}
 use Rattle.store.proofs.StepLaws.{step-from}
 use Rattle.store.proofs.RetireFrames.{length-retire-lane}
@@ -73,7 +73,7 @@ module _ (t : List ℕ) (k : Idle t) (x : ℕ) (h : x < issued t) where
   self = record { idle = k; same-issued = refl; long = refl }
 
   pub still-slot : Still t (retireEmptyPaused t x)
-  unfolding retireEmptyPaused retiredIf
+  unfolding retireEmptyPaused retireIf
   still-slot =
       cond-holds (Still t) (eqb (laneAt t x .registered) 1) _ t
       (λ e. cond-holds (Still t) (eqb (laneAt t x .paused) 1) _ t

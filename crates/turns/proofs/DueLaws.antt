@@ -19,7 +19,7 @@ use Rattle.store.proofs.ViewLaws.{slot-in}
 use Rattle.store.proofs.CountLaws.{passing-same}
 use Rattle.store.proofs.StoreLaws.{free-slot}
 use Rattle.turns.specs.Turn.{registeredIn, Turning, Ringed}
-use Rattle.turns.specs.Due.{collectedIfDue}
+use Rattle.turns.specs.Due.{collectIfDue}
 use Rattle.turns.proofs.TurnLaws.{turning-budget}
 use Rattle.turns.proofs.FrontLaws.{Keeps, keeps-self, keeps-then}
 use Rattle.turns.proofs.CollectKeeps.{collect-keeps}
@@ -53,8 +53,8 @@ module _ (t r : List ℕ) (o : StoreInOrder t r) where
   pub ringed-of : Ringed t r
   ringed-of = o .stores .rings-room
 
-pub due-keeps : (t : List ℕ) → Turning t → Keeps t (collectedIfDue t)
-unfolding collectedIfDue
+pub due-keeps : (t : List ℕ) → Turning t → Keeps t (collectIfDue t)
+unfolding collectIfDue
 due-keeps t k =
     cond-holds (Keeps t) (eqb (budget t) 0) _ t
     (λ e. cond-holds (Keeps t) (eqb (queueCount t) 0) t _ (λ f. keeps-self t k) (λ f. keeps-then (collect-keeps false t k) (budget-keeps (collectReady false t) (collect-keeps false t k .turning) 64)))

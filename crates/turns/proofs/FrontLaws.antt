@@ -10,13 +10,13 @@ use borrow.Author.Tests.{eq-eqb, ne-eqb, eqb-false}
 use lib.Dec.{eqb, ltb}
 use lib.ListN.{length}
 use Rattle.model.specs.Lists.{count}
-use Rattle.model.proofs.Counting.{count-append}
-use Rattle.model.proofs.OrderKept.{first-own, first-other}
+use Rattle.demands.proofs.Counting.{count-append}
+use Rattle.demands.proofs.OrderKept.{first-own, first-other}
 use Rattle.lane.specs.declared.lane.Lane.{Lane}
 use Rattle.lane.specs.declared.lane.EmptyLane.{EmptyLane}
 use Rattle.lane.specs.declared.lane.LanePoll.{LanePoll}
 use Rattle.lane.specs.declared.lane.LanePoll.the-variants as LanePoll
-use Rattle.yring.specs.Ring.{ringOf}
+use Rattle.yring.specs.Ring.{newRing}
 use Rattle.lane.specs.Order.{InOrder, polledLane}
 use Rattle.lane.specs.Lane.{poll}
 use Rattle.yring.specs.declared.ring.Ring.{Ring}
@@ -24,8 +24,8 @@ use Rattle.lane.specs.Table.{headerWords, head, setHead, laneAt, putLane}
 use Rattle.lane.proofs.OrderLaws.{cond-holds, poll-keeps}
 use Rattle.lane.proofs.TableLaws.{frames, slot-of-lane}
 use Rattle.queues.specs.Header.{Shaped, issued, slots, queueCount, freeCount, budget, capacity, laneCount, fastSlot, livingCount}
-use Rattle.queues.specs.Queue.{queueOf, frontSlot, poppedFront, rotated}
-use Rattle.queues.specs.Registry.{freeOf, freed}
+use Rattle.queues.specs.Queue.{queueOf, frontSlot, popFront, rotateLeft}
+use Rattle.queues.specs.Registry.{freeOf, free}
 use Rattle.queues.proofs.QueueLaws.{queue-frames, header-in}
 use Rattle.queues.proofs.RegistryLaws.{registry-frames, length-free, free-freed}
 use Rattle.store.specs.View.{flag}
@@ -34,7 +34,7 @@ use Rattle.turns.specs.declared.turn.Took.{Took}
 use Rattle.turns.specs.declared.turn.Took.the-variants as Took
 use Rattle.turns.specs.declared.turn.Turn.{Turn}
 use Rattle.turns.specs.declared.turn.Turn.the-variants as Turn
-use Rattle.turns.specs.Turn.{Turning, Ringed, retiredIf, leftFront, budgetMet, lessOne, rotatedIf, gaveFront, turnBy, pollFront, after, turnsWithin, turns}
+use Rattle.turns.specs.Turn.{Turning, Ringed, retireIf, settleEmptyFront, meetBudget, lessOne, rotateIf, gaveFront, turnBy, pollFront, afterTurn, turnsWithin, turns}
 use Rattle.store.proofs.CountLaws.{one}
 use Rattle.store.proofs.StepLaws.{Step, step-from, step-put-lane, step-popped-front, step-rotated, step-freed, step-budget, step-lane-count}
 use Rattle.store.proofs.RetireFrames.{freed-unless-last-is, length-retire-lane}
@@ -77,7 +77,7 @@ module _ {t u : List ℕ} {x : ℕ} {l : Lane} {w : List ℕ} {f b n m : ℕ} (k
       (turning-step k (step-freed step-lowered (g .key .slot) room-lowered) h (λ z. zero-one z) others (omega (arith, gone)) (λ z. absurd (omega (arith, gone))) (λ z. zero-one z)
       (λ y d. ap (count y) free-more ∙ first-other x y (freeOf t) d) (omega (arith, ap (count x) free-more, first-own x (freeOf t), not-free t k x h e)) (λ z i. zero-one i) one-less)
     where
-      free-more : freeOf (freed lowered (g .key .slot)) ≡ x ∷ freeOf t
+      free-more : freeOf (free lowered (g .key .slot)) ≡ x ∷ freeOf t
       free-more = free-freed lowered (step-lowered .shaped) (g .key .slot) room-lowered ∙ ap₂ _∷_ at free-lowered
 
 -- ---- a turn
@@ -87,7 +87,7 @@ module _ (t : List ℕ) (k : Turning t) (some : queueCount t ≡ 0 → ⊥) wher
   x = frontSlot t
 
   abbrev rest : List ℕ
-  rest = queueOf (poppedFront t)
+  rest = queueOf (popFront t)
 
   begun : Step t t x (laneAt t x) (queueOf t) (fastSlot t) (budget t) (laneCount t) (livingCount t)
   begun = step-from t (k .shaped) (k .linked) x
@@ -106,23 +106,23 @@ module _ (t : List ℕ) (k : Turning t) (some : queueCount t ≡ 0 → ⊥) wher
     left-registered : l .registered ≡ 1
     left-registered = ap (λ (z : Fixed). z .1) (e .0) ∙ front-registered t k some
 
-    step-left : Step t (poppedFront (putLane t l)) x l rest (fastSlot t) (budget t) (laneCount t) (livingCount t)
+    step-left : Step t (popFront (putLane t l)) x l rest (fastSlot t) (budget t) (laneCount t) (livingCount t)
     step-left = step-popped-front (step-put-lane begun l left-slot (front-issued t k some)) x rest (queue-is t k some)
 
-    free-left : freeOf (poppedFront (putLane t l)) ≡ freeOf t
+    free-left : freeOf (popFront (putLane t l)) ≡ freeOf t
     free-left = simp registry-frames
 
-    turning-settled : Turning (poppedFront (putLane t l))
+    turning-settled : Turning (popFront (putLane t l))
     turning-settled =
         let z = front-alone t k some in
         turning-step k step-left (front-issued t k some) (λ i. o) rest-others (omega (arith, z)) (λ i. absurd (omega (arith, z))) (λ i. e .1 ∙ sym z)
         (λ y d. ap (count y) free-left) (rw free-left (k .free-once x)) (λ i j. k .free-unregistered x (rw free-left at i) (front-registered t k some))
         (ap₂ (λ (a c : ℕ). laneCount t + one (flag a)) (front-registered t k some ∙ sym left-registered) left-registered)
 
-    pub turning-left : Turning (leftFront t found)
-    unfolding leftFront retiredIf
+    pub turning-left : Turning (settleEmptyFront t found)
+    unfolding settleEmptyFront retireIf
     turning-left =
-        cond-holds Turning (found .disconnected) (retireLane (poppedFront (putLane t l)) l) (poppedFront (putLane t l))
+        cond-holds Turning (found .disconnected) (retireLane (popFront (putLane t l)) l) (popFront (putLane t l))
         (λ d. turning-retire k step-left (front-issued t k some) (front-registered t k some) l left-slot rest-others (front-alone t k some) free-left refl) (λ d. turning-settled)
 
   -- the front lane, with an item less
@@ -150,10 +150,10 @@ module _ (t : List ℕ) (k : Turning t) (some : queueCount t ≡ 0 → ⊥) wher
         (ap (λ (a : ℕ). laneCount t + one (flag a)) (front-registered t k some ∙ sym gave-registered))
 
     pub turning-gave : Turning (gaveFront t rotate l)
-    unfolding gaveFront rotatedIf
+    unfolding gaveFront rotateIf
     turning-gave = go rotate
       where
-        go : (r : Bool) → Turning (setHead (cond r (rotated (putLane t l)) (putLane t l)) 5 (lessOne (budget t)))
+        go : (r : Bool) → Turning (setHead (cond r (rotateLeft (putLane t l)) (putLane t l)) 5 (lessOne (budget t)))
         go true =
             given-by _ (rest ++ (x ∷ [])) (lessOne (budget t)) (step-budget (step-rotated step-given x rest (queue-is t k some)) (lessOne (budget t))) counts-turned (simp registry-frames)
         go false = given-by _ (queueOf t) (lessOne (budget t)) (step-budget step-given (lessOne (budget t))) (λ y. refl) (simp registry-frames)
@@ -188,48 +188,48 @@ head-retired t l j a b c =
 
 module _ (t : List ℕ) (found : EmptyLane) where
   abbrev settled : List ℕ
-  settled = poppedFront (putLane t (found .lane))
+  settled = popFront (putLane t (found .lane))
 
-  pub head-left : (j : ℕ) → ltb j headerWords ≡ true → eqb 1 j ≡ false → eqb 2 j ≡ false → eqb 3 j ≡ false → eqb 13 j ≡ false → head (leftFront t found) j ≡ head t j
-  unfolding leftFront retiredIf
+  pub head-left : (j : ℕ) → ltb j headerWords ≡ true → eqb 1 j ≡ false → eqb 2 j ≡ false → eqb 3 j ≡ false → eqb 13 j ≡ false → head (settleEmptyFront t found) j ≡ head t j
+  unfolding settleEmptyFront retireIf
   head-left j a b c d e =
       let s : head settled j ≡ head t j = simp (queue-frames, frames, a, b, c) in
       cond-holds (λ (u : List ℕ). head u j ≡ head t j) (found .disconnected) (retireLane settled (found .lane)) settled (λ i. head-retired settled (found .lane) j a d e ∙ s) (λ i. s)
 
-  pub length-left : length (leftFront t found) ≡ length t
-  unfolding leftFront retiredIf
+  pub length-left : length (settleEmptyFront t found) ≡ length t
+  unfolding settleEmptyFront retireIf
   length-left =
       let s : length settled ≡ length t = simp (queue-frames, frames) in
       cond-holds (λ (u : List ℕ). length u ≡ length t) (found .disconnected) (retireLane settled (found .lane)) settled (λ i. length-retire-lane settled (found .lane) ∙ s) (λ i. s)
 
-  pub count-left : Shaped t → queueCount (leftFront t found) ≡ queueCount t - 1
-  unfolding leftFront retiredIf
+  pub count-left : Shaped t → queueCount (settleEmptyFront t found) ≡ queueCount t - 1
+  unfolding settleEmptyFront retireIf
   count-left s =
       let o : queueCount settled ≡ queueCount t - 1 = simp (queue-frames, frames, header-in t s) in
       cond-holds (λ (u : List ℕ). queueCount u ≡ queueCount t - 1) (found .disconnected) (retireLane settled (found .lane)) settled
       (λ i. head-retired settled (found .lane) 2 refl refl refl ∙ o) (λ i. o)
 
-pub head-met : (t : List ℕ) (j : ℕ) → eqb 5 j ≡ false → head (budgetMet t) j ≡ head t j
-unfolding budgetMet
+pub head-met : (t : List ℕ) (j : ℕ) → eqb 5 j ≡ false → head (meetBudget t) j ≡ head t j
+unfolding meetBudget
 head-met t j e =
     cond-holds (λ (u : List ℕ). head u j ≡ head t j) (eqb (queueCount t) 0) t (cond (eqb (budget t) 0) (setHead t 5 64) t) (λ i. refl)
     (λ i. cond-holds (λ (u : List ℕ). head u j ≡ head t j) (eqb (budget t) 0) (setHead t 5 64) t (λ f. simp (frames, e)) (λ f. refl))
 
-pub length-met : (t : List ℕ) → length (budgetMet t) ≡ length t
-unfolding budgetMet
+pub length-met : (t : List ℕ) → length (meetBudget t) ≡ length t
+unfolding meetBudget
 length-met t =
     cond-holds (λ (u : List ℕ). length u ≡ length t) (eqb (queueCount t) 0) t (cond (eqb (budget t) 0) (setHead t 5 64) t) (λ i. refl)
     (λ i. cond-holds (λ (u : List ℕ). length u ≡ length t) (eqb (budget t) 0) (setHead t 5 64) t (λ f. simp frames) (λ f. refl))
 
 module _ (t : List ℕ) (rotate : Bool) (l : Lane) where
   abbrev given : List ℕ
-  given = setHead (rotatedIf rotate (putLane t l)) 5 (lessOne (budget t))
+  given = setHead (rotateIf rotate (putLane t l)) 5 (lessOne (budget t))
 
-  given-is : (P : List ℕ → Type 0) → P (setHead (rotated (putLane t l)) 5 (lessOne (budget t))) → P (setHead (putLane t l) 5 (lessOne (budget t))) → P (gaveFront t rotate l)
-  unfolding gaveFront rotatedIf
+  given-is : (P : List ℕ → Type 0) → P (setHead (rotateLeft (putLane t l)) 5 (lessOne (budget t))) → P (setHead (putLane t l) 5 (lessOne (budget t))) → P (gaveFront t rotate l)
+  unfolding gaveFront rotateIf
   given-is P p q = go rotate
     where
-      go : (r : Bool) → P (setHead (cond r (rotated (putLane t l)) (putLane t l)) 5 (lessOne (budget t)))
+      go : (r : Bool) → P (setHead (cond r (rotateLeft (putLane t l)) (putLane t l)) 5 (lessOne (budget t)))
       go true = p
       go false = q
 
@@ -242,11 +242,11 @@ module _ (t : List ℕ) (rotate : Bool) (l : Lane) where
 -- ---- one turn
 
 abbrev pub polledFront : List ℕ → List ℕ → Bool → LanePoll
-polledFront t r fair = poll (ringOf (frontSlot t) (capacity t)) r fair (laneAt t (frontSlot t))
+polledFront t r fair = poll (newRing (frontSlot t) (capacity t)) r fair (laneAt t (frontSlot t))
 
-pub polled-as : (t r : List ℕ) (fair : Bool) (slot : ℕ) (ring : Ring) (l : Lane) (p : LanePoll) → slot ≡ frontSlot t → ring ≡ ringOf slot (capacity t) → l ≡ laneAt t slot
+pub polled-as : (t r : List ℕ) (fair : Bool) (slot : ℕ) (ring : Ring) (l : Lane) (p : LanePoll) → slot ≡ frontSlot t → ring ≡ newRing slot (capacity t) → l ≡ laneAt t slot
     → p ≡ poll ring r fair l → p ≡ polledFront t r fair
-polled-as t r fair slot ring l p a b c e = e ∙ ap₂ (λ (x : Ring) (m : Lane). poll x r fair m) (b ∙ ap (λ (x : ℕ). ringOf x (capacity t)) a) (c ∙ ap (laneAt t) a)
+polled-as t r fair slot ring l p a b c e = e ∙ ap₂ (λ (x : Ring) (m : Lane). poll x r fair m) (b ∙ ap (λ (x : ℕ). newRing x (capacity t)) a) (c ∙ ap (laneAt t) a)
 
 pub record Turned (t : List ℕ) (o : Turn × List ℕ) : Type 0 where
   pub keeps : Keeps t (o .1)
@@ -258,7 +258,7 @@ ends-not-left e = let z : _≡_ {A = ℕ} 0 1 = cc in absurd (omega arith)
 module _ (t r : List ℕ) (fair : Bool) (k : Turning t) where
   module _ (some : queueCount t ≡ 0 → ⊥) where
     poll-ordered : InOrder (capacity t) (polledLane (polledFront t r fair))
-    poll-ordered = poll-keeps (ringOf (frontSlot t) (capacity t)) (k .power .most) r (laneAt t (frontSlot t)) (front-ordered t k some) fair
+    poll-ordered = poll-keeps (newRing (frontSlot t) (capacity t)) (k .power .most) r (laneAt t (frontSlot t)) (front-ordered t k some) fair
 
     turned-by : (p : LanePoll) → PollKept (laneAt t (frontSlot t)) p → InOrder (capacity t) (polledLane p) → Turned t (turnBy t p)
     unfolding turnBy
@@ -275,19 +275,19 @@ module _ (t r : List ℕ) (fair : Bool) (k : Turning t) where
     turned-by (LanePoll.Idle found) e o =
         record {
           keeps = record {
-            turning = turning-met (leftFront t found) (turning-left t k some found e o);
-            long = length-met (leftFront t found) ∙ length-left t found;
-            same-slots = head-met (leftFront t found) 4 refl ∙ head-left t found 4 refl refl refl refl refl;
-            same-capacity = head-met (leftFront t found) 8 refl ∙ head-left t found 8 refl refl refl refl refl;
+            turning = turning-met (settleEmptyFront t found) (turning-left t k some found e o);
+            long = length-met (settleEmptyFront t found) ∙ length-left t found;
+            same-slots = head-met (settleEmptyFront t found) 4 refl ∙ head-left t found 4 refl refl refl refl refl;
+            same-capacity = head-met (settleEmptyFront t found) 8 refl ∙ head-left t found 8 refl refl refl refl refl;
           };
-          fewer = λ z. omega (arith, head-met (leftFront t found) 2 refl, count-left t found (k .shaped), some);
+          fewer = λ z. omega (arith, head-met (settleEmptyFront t found) 2 refl, count-left t found (k .shaped), some);
         }
 
     -- what the two cases ask of the code
     pub left-room : (found : EmptyLane) → polledFront t r fair ≡ LanePoll.Idle found
         → Shaped t × (found .lane .key .slot < slots t) × (0 < queueCount t) × (freeCount t < slots t) × (0 < laneCount t)
     left-room found e =
-        let i = subst (PollKept (laneAt t (frontSlot t))) e (poll-kept (ringOf (frontSlot t) (capacity t)) r fair (laneAt t (frontSlot t))) in
+        let i = subst (PollKept (laneAt t (frontSlot t))) e (poll-kept (newRing (frontSlot t) (capacity t)) r fair (laneAt t (frontSlot t))) in
         let o = subst (λ (p : LanePoll). InOrder (capacity t) (polledLane p)) e poll-ordered in
         let h = front-issued t k some in (
           k .shaped,
@@ -300,13 +300,13 @@ module _ (t r : List ℕ) (fair : Bool) (k : Turning t) where
     pub gave-room : (item : ℕ) (rotate released : Bool) (l : Lane) → polledFront t r fair ≡ LanePoll.Item item rotate released l
         → Shaped t × (l .key .slot < slots t) × (0 < queueCount t)
     gave-room item rotate released l e =
-        let i = subst (PollKept (laneAt t (frontSlot t))) e (poll-kept (ringOf (frontSlot t) (capacity t)) r fair (laneAt t (frontSlot t))) in
+        let i = subst (PollKept (laneAt t (frontSlot t))) e (poll-kept (newRing (frontSlot t) (capacity t)) r fair (laneAt t (frontSlot t))) in
         let o = subst (λ (p : LanePoll). InOrder (capacity t) (polledLane p)) e poll-ordered in
         (k .shaped, rw (gave-slot t k some rotate l i o) (slot-below t k (frontSlot t) (front-issued t k some)), omega (arith, some))
 
-    pub shaped-left : (found : EmptyLane) → polledFront t r fair ≡ LanePoll.Idle found → Shaped (leftFront t found)
+    pub shaped-left : (found : EmptyLane) → polledFront t r fair ≡ LanePoll.Idle found → Shaped (settleEmptyFront t found)
     shaped-left found e =
-        let i = subst (PollKept (laneAt t (frontSlot t))) e (poll-kept (ringOf (frontSlot t) (capacity t)) r fair (laneAt t (frontSlot t))) in
+        let i = subst (PollKept (laneAt t (frontSlot t))) e (poll-kept (newRing (frontSlot t) (capacity t)) r fair (laneAt t (frontSlot t))) in
         turning-left t k some found i (subst (λ (p : LanePoll). InOrder (capacity t) (polledLane p)) e poll-ordered) .shaped
 
     pub front-is : (p : LanePoll) → polledFront t r fair ≡ p → turnBy t p ≡ pollFront t r fair
@@ -320,7 +320,7 @@ module _ (t r : List ℕ) (fair : Bool) (k : Turning t) where
       (λ e. record { keeps = keeps-self t k; fewer = λ z. ends-not-left z })
       (λ e.
       let some = eqb-false (queueCount t) 0 e in
-      turned-by some (polledFront t r fair) (poll-kept (ringOf (frontSlot t) (capacity t)) r fair (laneAt t (frontSlot t))) (poll-ordered some))
+      turned-by some (polledFront t r fair) (poll-kept (newRing (frontSlot t) (capacity t)) r fair (laneAt t (frontSlot t))) (poll-ordered some))
 
 -- ---- turn after turn
 
@@ -331,15 +331,15 @@ none-queued t r fair e = rw (eq-eqb (queueCount t) 0 e)
 module _ (t r : List ℕ) (fair : Bool) (k : Turning t) (u : List ℕ) where
   -- a turn that ends the take
   pub turns-end : (took : Took) → (Turn.Ends took, u) ≡ pollFront t r fair → (took, u) ≡ turns t r fair
-  unfolding turns turnsWithin after
+  unfolding turns turnsWithin afterTurn
   turns-end took e = go (queueCount t) refl
     where
       pairs : _≡_ {A = Turn × List ℕ} (Turn.Ends took, u) (Turn.Ends Took.Nothing, t) → _≡_ {A = Took × List ℕ} (took, u) (Took.Nothing, t)
-      pairs p = ap (λ (o : Turn × List ℕ). after o (Took.Nothing, t)) p
+      pairs p = ap (λ (o : Turn × List ℕ). afterTurn o (Took.Nothing, t)) p
 
       go : (n : ℕ) → queueCount t ≡ n → (took, u) ≡ turnsWithin n t r fair
       go zero z = pairs (e ∙ none-queued t r fair z)
-      go (suc n) z = ap (λ (o : Turn × List ℕ). after o (turnsWithin n (pollFront t r fair .1) r fair)) e
+      go (suc n) z = ap (λ (o : Turn × List ℕ). afterTurn o (turnsWithin n (pollFront t r fair .1) r fair)) e
 
   -- a turn whose lane left
   module _ (e : (Turn.Left, u) ≡ pollFront t r fair) where
@@ -350,14 +350,14 @@ module _ (t r : List ℕ) (fair : Bool) (k : Turning t) (u : List ℕ) where
     turn-fewer = subst (λ (o : Turn × List ℕ). o .0 ≡ Turn.Left → queueCount (o .1) + 1 ≡ queueCount t) (sym e) (poll-front-turned t r fair k .fewer) refl
 
     pub turns-on : turns u r fair ≡ turns t r fair
-    unfolding turns turnsWithin after
+    unfolding turns turnsWithin afterTurn
     turns-on = go (queueCount t) (queueCount u) turn-fewer
       where
         go : (n m : ℕ) → m + 1 ≡ n → turnsWithin m u r fair ≡ turnsWithin n t r fair
         go zero m z = absurd (omega arith)
         go (suc n) m z =
             let q : m ≡ n = omega arith in
-            rw q (ap (λ (o : Turn × List ℕ). after o (turnsWithin n (o .1) r fair)) e)
+            rw q (ap (λ (o : Turn × List ℕ). afterTurn o (turnsWithin n (o .1) r fair)) e)
 
 -- the front lane gives an item, which ends the take
 pub gave-ends : (t r : List ℕ) (fair : Bool) (k : Turning t) → (queueCount t ≡ 0 → ⊥) → (item : ℕ) (rotate released : Bool) (l : Lane)
@@ -367,13 +367,13 @@ gave-ends t r fair k some item rotate released l e = turns-end t r fair k _ _ (f
 
 -- turns keep what a turn keeps
 turns-within-keep : (n : ℕ) (t r : List ℕ) (fair : Bool) → Turning t → Keeps t ((turnsWithin n t r fair) .1)
-unfolding turnsWithin after
+unfolding turnsWithin afterTurn
 turns-within-keep zero t r fair k = keeps-self t k
 turns-within-keep (suc n) t r fair k =
     let s = poll-front-turned t r fair k .keeps in
     go (pollFront t r fair) s (turns-within-keep n (pollFront t r fair .1) r fair (s .turning))
   where
-    go : (o : Turn × List ℕ) → Keeps t (o .1) → Keeps (o .1) ((turnsWithin n (o .1) r fair) .1) → Keeps t ((after o (turnsWithin n (o .1) r fair)) .1)
+    go : (o : Turn × List ℕ) → Keeps t (o .1) → Keeps (o .1) ((turnsWithin n (o .1) r fair) .1) → Keeps t ((afterTurn o (turnsWithin n (o .1) r fair)) .1)
     go (Turn.Ends took, u) a b = a
     go (Turn.Left, u) a b = keeps-then a b
 

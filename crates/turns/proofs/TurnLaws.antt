@@ -11,15 +11,15 @@ use borrow.Author.Tests.{eq-eqb}
 use lib.Dec.{eqb}
 use lib.ListN.{length}
 use Rattle.model.specs.Lists.{count}
-use Rattle.model.proofs.Counting.{equal, other, same?, same-self}
+use Rattle.demands.proofs.Counting.{equal, other, same?, same-self}
 use Rattle.lane.specs.declared.lane.Lane.{Lane}
-use Rattle.yring.specs.Ring.{ringOf, Within}
+use Rattle.yring.specs.Ring.{newRing, Within}
 use Rattle.lane.specs.Order.{InOrder}
 use Rattle.lane.specs.Table.{setHead, laneAt}
 use Rattle.lane.proofs.OrderLaws.{cond-holds}
 use Rattle.lane.proofs.TableLaws.{frames}
 use Rattle.queues.specs.Header.{Shaped, issued, slots, queueCount, freeCount, budget, capacity, laneCount}
-use Rattle.queues.specs.Queue.{QueueNames, queueOf, frontSlot, poppedFront}
+use Rattle.queues.specs.Queue.{QueueNames, queueOf, frontSlot, popFront}
 use Rattle.queues.specs.Registry.{freeOf}
 use Rattle.ready.specs.Ready.{Linked}
 use Rattle.queues.proofs.Pigeonhole.{pigeonhole-less}
@@ -27,7 +27,7 @@ use Rattle.queues.proofs.QueueLaws.{queue-frames, queue-front, shaped-setHead}
 use Rattle.queues.proofs.NamesLaws.{names-same}
 use Rattle.queues.proofs.RegistryLaws.{registry-frames, length-free}
 use Rattle.store.specs.View.{flag}
-use Rattle.turns.specs.Turn.{registeredIn, Turning, Ringed, budgetMet}
+use Rattle.turns.specs.Turn.{registeredIn, Turning, Ringed, meetBudget}
 use Rattle.store.proofs.CountLaws.{one, passing-same, passing-but, passing-some}
 use Rattle.store.proofs.StepLaws.{Step, linked-by}
 
@@ -37,7 +37,7 @@ module _ (t : List ℕ) (k : Turning t) (x : ℕ) (h : x < issued t) where
   pub slot-below : x < slots t
   slot-below = omega (arith, k .shaped .issued-most)
 
-  pub ring-in : (r : List ℕ) → Ringed t r → Within (ringOf x (capacity t)) (length r)
+  pub ring-in : (r : List ℕ) → Ringed t r → Within (newRing x (capacity t)) (length r)
   ring-in r g = record { power = k .power; fits = omega (arith, fits x (slots t) (capacity t) slot-below, g) }
     where
       fits : (x s c : ℕ) → x < s → x * c + c ≤ s * c
@@ -62,7 +62,7 @@ module _ (t : List ℕ) (k : Turning t) (x : ℕ) (h : x < issued t) where
 -- ---- the front lane
 
 module _ (t : List ℕ) (k : Turning t) (some : queueCount t ≡ 0 → ⊥) where
-  pub queue-is : queueOf t ≡ frontSlot t ∷ queueOf (poppedFront t)
+  pub queue-is : queueOf t ≡ frontSlot t ∷ queueOf (popFront t)
   queue-is = queue-front t (k .shaped) (omega (arith, some))
 
   named : 1 ≤ count (frontSlot t) (queueOf t)
@@ -75,7 +75,7 @@ module _ (t : List ℕ) (k : Turning t) (some : queueCount t ≡ 0 → ⊥) wher
   pub front-registered : laneAt t (frontSlot t) .registered ≡ 1
   front-registered = k .queued-registered (frontSlot t) named
 
-  pub front-alone : count (frontSlot t) (queueOf (poppedFront t)) ≡ 0
+  pub front-alone : count (frontSlot t) (queueOf (popFront t)) ≡ 0
   unfolding count
   front-alone = omega (arith, ap (count (frontSlot t)) queue-is, same-self (frontSlot t), k .names .once (frontSlot t))
 
@@ -199,8 +199,8 @@ module _ (t : List ℕ) (k : Turning t) (v : ℕ) where
       (linked-by t (setHead t 12 v) (simp frames) (λ y. simp frames) (λ y. simp frames) (k .linked)) (simp frames) (simp registry-frames) (simp frames)
       (λ y e o. simp frames o) (simp (frames, queue-frames) (k .queued-registered))
 
-pub turning-met : (t : List ℕ) → Turning t → Turning (budgetMet t)
-unfolding budgetMet
+pub turning-met : (t : List ℕ) → Turning t → Turning (meetBudget t)
+unfolding meetBudget
 turning-met t k =
     cond-holds Turning (eqb (queueCount t) 0) t (cond (eqb (budget t) 0) (setHead t 5 64) t) (λ e. k)
     (λ e. cond-holds Turning (eqb (budget t) 0) (setHead t 5 64) t (λ f. turning-budget t k 64) (λ f. k))

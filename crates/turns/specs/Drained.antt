@@ -12,8 +12,8 @@ use Rattle.lane.specs.Table.{laneAt}
 use Rattle.queues.specs.Header.{issued, queueCount, laneCount, livingCount}
 use Rattle.turns.specs.declared.turn.Took.{Took}
 use Rattle.turns.specs.declared.turn.Took.the-variants as Took
-use Rattle.all_lanes.specs.Batch.{forSlots}
-use Rattle.turns.specs.Turn.{Turning, retiredIf}
+use Rattle.all_lanes.specs.AllLanes.{forSlots}
+use Rattle.turns.specs.Turn.{Turning, retireIf}
 
 -- what is asked of the table where nothing was taken: no lane is queued
 pub record Idle (t : List ℕ) : Type 0 where
@@ -28,7 +28,7 @@ Rests (Took.Nothing, t) = Idle t
 unfoldable pub retireEmptyPaused : List ℕ → ℕ → List ℕ
 retireEmptyPaused t x =
     cond (eqb (laneAt t x .registered) 1)
-    (cond (eqb (laneAt t x .paused) 1) (retiredIf (reloadIsEmpty (laneAt t x) .empty) t (reloadIsEmpty (laneAt t x) .lane)) t)
+    (cond (eqb (laneAt t x .paused) 1) (retireIf (reloadIsEmpty (laneAt t x) .empty) t (reloadIsEmpty (laneAt t x) .lane)) t)
     t
 
 -- "after empty paused lanes are retired". Reading: by ascending slot.

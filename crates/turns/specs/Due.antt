@@ -8,5 +8,5 @@ use Rattle.queues.specs.Header.{setBudget, queueCount, budget}
 use Rattle.ready.specs.Ready.{collectReady}
 
 -- "else, budget 0 and queue non-empty, collect one group and set the budget to 64"
-unfoldable pub collectedIfDue : List ℕ → List ℕ
-collectedIfDue t = cond (eqb (budget t) 0) (cond (eqb (queueCount t) 0) t (setBudget (collectReady false t) 64)) t
+unfoldable pub collectIfDue : List ℕ → List ℕ
+collectIfDue t = cond (eqb (budget t) 0) (cond (eqb (queueCount t) 0) t (setBudget (collectReady false t) 64)) t

@@ -4,7 +4,7 @@ ghost use mathlib.Core.Bool.{true};
 ghost use Prim.Native.Nat.{_*_, _≤_, _<_};
 ghost use lib.ListN.{length};
 ghost use Rattle.queues.specs.Header.{Shaped, slots, queueCount, freeCount, laneCount, capacity};
-ghost use Rattle.turns.specs.Turn.{Turning, Ringed, retiredIf, leftFront, budgetMet, lessOne, rotatedIf, gaveFront, pollFront, turns};
+ghost use Rattle.turns.specs.Turn.{Turning, Ringed, retireIf, settleEmptyFront, meetBudget, lessOne, rotateIf, gaveFront, pollFront, turns};
 use lane::lane::EmptyLane;
 use lane::lane::Lane;
 use lane::lane::LanePoll;
@@ -29,7 +29,7 @@ pub enum Turn {
 // A lane whose sender is dropped retires.
 pub fn retire_if(t: &mut [u64], l: Lane, dropped: bool)
     requires { ⌜ Shaped (now t) × (l .key .slot < slots (now t)) × (freeCount (now t) < slots (now t)) × (0 < laneCount (now t)) ⌝ }
-    ensures { λ _. ⌜ now (t .exit) ≡ retiredIf dropped (now (t .entry)) l ⌝ }
+    ensures { λ _. ⌜ now (t .exit) ≡ retireIf dropped (now (t .entry)) l ⌝ }
 {
     if dropped {
         registry::retire_lane(t, l);
@@ -39,7 +39,7 @@ pub fn retire_if(t: &mut [u64], l: Lane, dropped: bool)
 // The front lane was found empty: it leaves the queue.
 pub fn settle_empty_front(t: &mut [u64], found: EmptyLane)
     requires { ⌜ Shaped (now t) × (found .lane .key .slot < slots (now t)) × (0 < queueCount (now t)) × (freeCount (now t) < slots (now t)) × (0 < laneCount (now t)) ⌝ }
-    ensures { λ _. ⌜ now (t .exit) ≡ leftFront (now (t .entry)) found ⌝ }
+    ensures { λ _. ⌜ now (t .exit) ≡ settleEmptyFront (now (t .entry)) found ⌝ }
 {
     let l = found.lane;
     l.store(t);
@@ -50,7 +50,7 @@ pub fn settle_empty_front(t: &mut [u64], found: EmptyLane)
 // Before every turn but the first a budget of 0 becomes 64.
 pub fn meet_budget(t: &mut [u64])
     requires { ⌜ Shaped (now t) ⌝ }
-    ensures { λ _. ⌜ now (t .exit) ≡ budgetMet (now (t .entry)) ⌝ }
+    ensures { λ _. ⌜ now (t .exit) ≡ meetBudget (now (t .entry)) ⌝ }
 {
     if t[Header::QUEUED] == 0 {
         return;
@@ -72,10 +72,10 @@ fn less_one(budget: u64) -> u64
 
 pub fn rotate_if(t: &mut [u64], rotate: bool)
     requires { ⌜ Shaped (now t) × (0 < queueCount (now t)) ⌝ }
-    ensures { λ _. ⌜ now (t .exit) ≡ rotatedIf rotate (now (t .entry)) ⌝ }
+    ensures { λ _. ⌜ now (t .exit) ≡ rotateIf rotate (now (t .entry)) ⌝ }
 {
     if rotate {
-        queue::rotate(t);
+        queue::rotate_left(t);
     }
 }
 
@@ -100,7 +100,7 @@ fn poll_front(t: &mut [u64], r: &[u64], fair: bool) -> Turn
             took: Took::Nothing,
         };
     }
-    let slot = queue::front(t);
+    let slot = queue::front_slot(t);
     let ring = Ring::new(slot, t[Header::CAPACITY]);
     match Lane::load(t, slot).poll(ring, r, fair) {
         LanePoll::Idle { found } => {
@@ -149,7 +149,7 @@ pub fn fair_turns(t: &mut [u64], r: &[u64]) -> Took
     if t[Header::QUEUED] == 0 {
         return Took::Nothing;
     }
-    let slot = queue::front(t);
+    let slot = queue::front_slot(t);
     let capacity = t[Header::CAPACITY];
     let l = Lane::load(t, slot);
     if l.is_at_hand(capacity) {

@@ -103,6 +103,6 @@ parseAs (some k) b =
 
 -- The record at the head of the bytes. "Malformed is a kind not listed, a length that is not its kind's, or input ending inside a record":
 -- the first two are told as soon as the four bytes of length and kind are there, whatever follows them, and not before; fewer bytes, and bytes that end inside a record
--- whose length is its kind's, are incomplete: more bytes may make them a record, and where the input ends there it is malformed (`records`).
+-- whose length is its kind's, are incomplete: more bytes may make them a record, and where the input ends there it is malformed (`stream`).
 unfoldable pub parse : List ℕ → Parsed
 parse b = cond (ltb (length b) 4) Incomplete (parseAs (kindOf b) b)

@@ -10,8 +10,8 @@ use lib.Dec.{eqb}
 use lib.ListN.{set}
 use Rattle.model.specs.State.{releaseBatch}
 use Rattle.yring.specs.Cursor.{after, distance}
-use Rattle.yring.specs.Ring.{place, push}
-use Rattle.lane.specs.Lane.{pushAndFlush, sent, poll, pollRefilled, pollItem, polled, popTargeted, targeted, refill, readyOrIdle, reload, prefetch, closeFast, settleEmpty, emptied, settled, releasePending, releaseAny, released, releaseAtBatch, charged, headOn, addBurst, endBurst, endFullBurst, chunkLimit, moveChunk}
+use Rattle.yring.specs.Ring.{index, pushItem}
+use Rattle.lane.specs.Lane.{pushAndFlushItem, sent, poll, pollRefilled, pollItem, polled, popTargeted, targeted, refill, readyOrIdle, reload, prefetch, closeFast, settleEmpty, emptied, settled, releasePending, releaseAny, release, releaseAtBatch, charge, advance, addBurst, endBurst, endFullBurst, chunkLimit, moveChunk}
 use Rattle.lane.specs.Order.{Counts, InOrder, Filled, sentLane, polledLane, refilledLane}
 use Rattle.yring.specs.declared.ring.Ring.{Ring}
 use Rattle.yring.specs.declared.ring.Push.the-variants.{Pushed, Full}
@@ -22,8 +22,8 @@ use Rattle.lane.specs.declared.lane.Refill.{Refill}
 use Rattle.lane.specs.declared.lane.Refill.the-variants as Refill
 use Rattle.lane.specs.declared.lane.LanePoll.{LanePoll}
 use Rattle.lane.specs.declared.lane.LanePoll.the-variants as LanePoll
-use Rattle.lane.specs.declared.consumer.Sent.{Sent}
-use Rattle.lane.specs.declared.consumer.Sent.the-variants as Sent
+use Rattle.lane.specs.declared.producer.Sent.{Sent}
+use Rattle.lane.specs.declared.producer.Sent.the-variants as Sent
 use Rattle.yring.proofs.CursorLaws.{behind-after, ahead-after}
 use Rattle.lane.proofs.CursorOrder.{held-adds}
 use Rattle.lane.proofs.OrderLaws.{closed-reload-keeps, reload-window, refill-fills, push-and-flush-keeps, poll-keeps, refill-keeps, move-chunk-keeps, chunk-within}
@@ -49,16 +49,16 @@ either P false x y f g = g
 
 module _ (ring : Ring) (small : ring .capacity ≤ 65536) (store : List ℕ) (item : ℕ) (l : Lane) (o : InOrder (ring .capacity) l) (m : Lane) (after-store : List ℕ) where
   -- a send keeps the lane in order
-  sent-keeps : (s : Sent) → (s, after-store) ≡ pushAndFlush ring store item l → InOrder (ring .capacity) (sentLane s)
+  sent-keeps : (s : Sent) → (s, after-store) ≡ pushAndFlushItem ring store item l → InOrder (ring .capacity) (sentLane s)
   sent-keeps s e = rw (ap (λ (p : Sent × List ℕ). p .0) e) (push-and-flush-keeps ring small store item l o)
 
   -- after a refused send the ring is full
-  pub refused : (Sent.Full m, after-store) ≡ pushAndFlush ring store item l → InOrder (ring .capacity) m × (distance (m .tail) (m .released) ≡ ring .capacity)
-  unfolding pushAndFlush sent push
+  pub refused : (Sent.Full m, after-store) ≡ pushAndFlushItem ring store item l → InOrder (ring .capacity) m × (distance (m .tail) (m .released) ≡ ring .capacity)
+  unfolding pushAndFlushItem sent pushItem
   refused e = (sent-keeps (Sent.Full m) e, go (eqb (distance (l .tail) (l .released)) (ring .capacity)) refl e)
     where
       go : (t : Bool) → eqb (distance (l .tail) (l .released)) (ring .capacity) ≡ t
-          → (Sent.Full m, after-store) ≡ sent l (cond t (Full, store) (Pushed (after (l .tail) 1), set store (place ring (l .tail)) item))
+          → (Sent.Full m, after-store) ≡ sent l (cond t (Full, store) (Pushed (after (l .tail) 1), set store (index ring (l .tail)) item))
           → distance (m .tail) (m .released) ≡ ring .capacity
       go true s f = rw (ap (λ (p : Sent × List ℕ). sentLane (p .0)) f) (eqb-true (distance (l .tail) (l .released)) (ring .capacity) s)
       go false s f =
@@ -66,15 +66,15 @@ module _ (ring : Ring) (small : ring .capacity ≤ 65536) (store : List ℕ) (it
           let z : _≡_ {A = ℕ} 0 1 = cc in absurd (omega arith)
 
   -- a send that is taken leaves less room
-  pub taken : (Sent.Taken m, after-store) ≡ pushAndFlush ring store item l → InOrder (ring .capacity) m × (room (ring .capacity) m < room (ring .capacity) l)
-  unfolding pushAndFlush sent push
+  pub taken : (Sent.Taken m, after-store) ≡ pushAndFlushItem ring store item l → InOrder (ring .capacity) m × (room (ring .capacity) m < room (ring .capacity) l)
+  unfolding pushAndFlushItem sent pushItem
   taken e = (sent-keeps (Sent.Taken m) e, go (eqb (distance (l .tail) (l .released)) (ring .capacity)) refl e)
     where
       less : (C a b : ℕ) → C ≤ 65536 → a ≤ C → (a ≡ C → ⊥) → b ≡ a + 1 → C - b < C - a
       less C a b h k n f = omega arith
 
       go : (t : Bool) → eqb (distance (l .tail) (l .released)) (ring .capacity) ≡ t
-          → (Sent.Taken m, after-store) ≡ sent l (cond t (Full, store) (Pushed (after (l .tail) 1), set store (place ring (l .tail)) item))
+          → (Sent.Taken m, after-store) ≡ sent l (cond t (Full, store) (Pushed (after (l .tail) 1), set store (index ring (l .tail)) item))
           → room (ring .capacity) m < room (ring .capacity) l
       go true s f =
           let g = ap (λ (p : Sent × List ℕ). p .0) f in
@@ -98,7 +98,7 @@ settle-still : (l : Lane) → Still l (settleEmpty l .lane)
 unfolding settleEmpty emptied releasePending releaseAny
 settle-still l =
     either (λ (r : Released). Still l (settled (r .lane))) (eqb (closeFast l .unreleased) 0)
-    (record { lane = closeFast l; released = false }) (record { lane = released (closeFast l); released = true }) (refl, refl) (refl, refl)
+    (record { lane = closeFast l; released = false }) (record { lane = release (closeFast l); released = true }) (refl, refl) (refl, refl)
 
 -- a look that finds nothing knows the whole ring
 found-nothing : (l : Lane) → reload l .cached ≡ 0 → reload l .known ≡ l .tail
@@ -154,7 +154,7 @@ at-batch-still : (C : ℕ) (l : Lane) → Still l (releaseAtBatch C l .lane)
 unfolding releaseAtBatch
 at-batch-still C l =
     either (λ (r : Released). Still l (r .lane)) (eqb (l .unreleased) (releaseBatch C))
-    (record { lane = released l; released = true }) (record { lane = l; released = false }) (refl, refl) (refl, refl)
+    (record { lane = release l; released = true }) (record { lane = l; released = false }) (refl, refl) (refl, refl)
 
 end-burst-still : (t : Bool) (l : Lane) → Still l (endBurst t l)
 end-burst-still true l = (refl, refl)
@@ -181,7 +181,7 @@ module _ (ring : Ring) (small : ring .capacity ≤ 65536) (store : List ℕ) (l 
   item-less : (m : Lane) (item : ℕ) (rotate credit : Bool) → pollItem ring store false l ≡ LanePoll.Item item rotate credit m → held m < held l
   unfolding pollItem polled popTargeted targeted
   item-less m item rotate credit e =
-      let x : Lane = charged 1 (headOn 1 l) in
+      let x : Lane = charge 1 (advance 1 l) in
       let y : Lane = addBurst 1 (releaseAtBatch (ring .capacity) x .lane) in
       let ends : Bool = eqb (y .burst) 64 in
       let same : endBurst ends y ≡ m = ap polledLane e in
@@ -202,7 +202,7 @@ module _ (ring : Ring) (small : ring .capacity ≤ 65536) (store : List ℕ) (l 
   unfolding moveChunk endFullBurst
   chunk-less =
       let take : ℕ = chunkLimit (ring .capacity) l in
-      let x : Lane = addBurst take (charged take (headOn take l)) in
+      let x : Lane = addBurst take (charge take (advance take l)) in
       let y : Lane = releaseAtBatch (ring .capacity) x .lane in
       let a : Still x y = at-batch-still (ring .capacity) x in
       let b : Still y (endBurst (eqb (y .burst) 64) y) = end-burst-still (eqb (y .burst) 64) y in

@@ -9,7 +9,7 @@ use lib.Arith.{digits-div}
 use lib.ListN.{length, getD, set, drop, List·getD-append}
 use Rattle.yring.specs.Lists.{tab, written}
 use Rattle.yring.specs.Cursor.{after, Capacity}
-use Rattle.yring.specs.Ring.{Within, ringOf, place, itemAt, items, run}
+use Rattle.yring.specs.Ring.{Within, newRing, index, itemAt, items, run}
 use Rattle.yring.specs.declared.ring.Ring.{Ring}
 use Rattle.yring.proofs.ListLaws.{length-tab, tab-ext, tab-self, tab-add, tab-out, tab-push, tab-more, tab-pop, apart, written-step, written-twice}
 use Rattle.yring.proofs.CursorLaws.{wraps, some}
@@ -58,21 +58,21 @@ items-split ring store head m n =
     further i = omega arith
 
 -- a store outside the live places
-pub outside-kept : (ring : Ring) (store : List ℕ) (head n j v : ℕ) → ((i : ℕ) → i < n → place ring (after head i) ≡ j → ⊥)
+pub outside-kept : (ring : Ring) (store : List ℕ) (head n j v : ℕ) → ((i : ℕ) → i < n → index ring (after head i) ≡ j → ⊥)
     → items ring (set store j v) head n ≡ items ring store head n
 unfolding items
-outside-kept ring store head n j v h = tab-out store (λ i. place ring (after head i)) n j v h
+outside-kept ring store head n j v h = tab-out store (λ i. index ring (after head i)) n j v h
 
 -- a store in another slot's ring
 pub other-ring-kept : (C : ℕ) → Capacity C → (store : List ℕ) (slot slot′ head c n v : ℕ) → (slot ≡ slot′ → ⊥)
-    → items (ringOf slot C) (set store (place (ringOf slot′ C) c) v) head n ≡ items (ringOf slot C) store head n
+    → items (newRing slot C) (set store (index (newRing slot′ C) c) v) head n ≡ items (newRing slot C) store head n
 other-ring-kept C k store slot slot′ head c n v d =
-    outside-kept (ringOf slot C) store head n (place (ringOf slot′ C) c) v
+    outside-kept (newRing slot C) store head n (index (newRing slot′ C) c) v
     (λ i l e. d (sym (digits-div slot (mod-lt (after head i) (some C k))) ∙ ap (λ (x : ℕ). x / C) e ∙ digits-div slot′ (mod-lt c (some C k))))
 
 module _ (ring : Ring) (k : Capacity (ring .capacity)) (store : List ℕ) (head n : ℕ) where
   -- two cursors less than a capacity apart name two places
-  places-differ : (i j : ℕ) → i < j → j < ring .capacity → place ring (after head i) ≡ place ring (after head j) → ⊥
+  places-differ : (i j : ℕ) → i < j → j < ring .capacity → index ring (after head i) ≡ index ring (after head j) → ⊥
   places-differ i j h l e =
       apart (ring .capacity) head i j h (omega arith)
       (sym (wraps (ring .capacity) k (head + i)) ∙ same (ring .base) e ∙ wraps (ring .capacity) k (head + j))
@@ -82,10 +82,10 @@ module _ (ring : Ring) (k : Capacity (ring .capacity)) (store : List ℕ) (head 
 
   -- push appends
   pub push-appends : (v : ℕ) → n < ring .capacity → ring .base + ring .capacity ≤ length store
-      → items ring (set store (place ring (after head n)) v) head (n + 1) ≡ items ring store head n ++ (v ∷ [])
+      → items ring (set store (index ring (after head n)) v) head (n + 1) ≡ items ring store head n ++ (v ∷ [])
   unfolding items
   push-appends v h r =
-      tab-push store (λ i. place ring (after head i)) n v (omega (arith, mod-lt (after head n) (some (ring .capacity) k)))
+      tab-push store (λ i. index ring (after head i)) n v (omega (arith, mod-lt (after head n) (some (ring .capacity) k)))
       (λ i b e. places-differ i n b h e)
 
   -- pop takes the first
@@ -103,7 +103,7 @@ module _ (ring : Ring) (k : Capacity (ring .capacity)) (store : List ℕ) (head 
       next i = omega arith
 
   -- the items as one run, up to the ring's end
-  pub one-run : head % ring .capacity + n ≤ ring .capacity → items ring store head n ≡ run store (place ring head) n
+  pub one-run : head % ring .capacity + n ≤ ring .capacity → items ring store head n ≡ run store (index ring head) n
   unfolding items run
   one-run h =
       tab-ext n _ _
@@ -118,7 +118,7 @@ module _ (ring : Ring) (k : Capacity (ring .capacity)) (store : List ℕ) (head 
 
 -- the items as two runs: to the ring's end, and from its start
 module _ (ring : Ring) (k : Capacity (ring .capacity)) (store : List ℕ) (head m n : ℕ) (e : head % ring .capacity + m ≡ ring .capacity) (h : n ≤ ring .capacity) where
-  pub two-runs : items ring store head (m + n) ≡ run store (place ring head) m ++ run store (ring .base) n
+  pub two-runs : items ring store head (m + n) ≡ run store (index ring head) m ++ run store (ring .base) n
   unfolding items run
   two-runs =
       tab-add m n (λ i. itemAt ring store (after head i))
@@ -131,11 +131,11 @@ module _ (ring : Ring) (k : Capacity (ring .capacity)) (store : List ℕ) (head 
           sym (mod-add-mod head (ring .capacity) (m + i)) ∙ ap (λ (x : ℕ). x % ring .capacity) f ∙ add-mod-left (ring .capacity) i ∙ mod-eq-of-lt l
 
   -- what two moves leave
-  pub two-moves : (o u v : List ℕ) (at from : ℕ) → from ≡ place ring head → at + m ≤ length o → u ≡ written o at (run store from m) → v ≡ written u (at + m) (run store (ring .base) n)
+  pub two-moves : (o u v : List ℕ) (at from : ℕ) → from ≡ index ring head → at + m ≤ length o → u ≡ written o at (run store from m) → v ≡ written u (at + m) (run store (ring .base) n)
       → v ≡ written o at (items ring store head (m + n))
   two-moves o u v at from f r p q =
-      let ws : List ℕ = run store (place ring head) m in
+      let ws : List ℕ = run store (index ring head) m in
       let vs : List ℕ = run store (ring .base) n in
-      let l : length ws ≡ m = length-run store (place ring head) m in
+      let l : length ws ≡ m = length-run store (index ring head) m in
       q ∙ ap (λ (x : List ℕ). written x (at + m) vs) (p ∙ ap (λ (x : ℕ). written o at (run store x m)) f) ∙ ap (λ (x : ℕ). written (written o at ws) (at + x) vs) (sym l)
       ∙ written-twice o ws vs at (rw l r) ∙ ap (written o at) (sym two-runs)

@@ -12,8 +12,8 @@ use Rattle.yring.specs.declared.ring.Push.{Push}
 use Rattle.yring.specs.declared.ring.Push.the-variants.{Pushed, Full}
 
 -- the ring of a slot: "a ring store of at least S × C u64 words", C of them for each slot
-abbrev pub ringOf : ℕ → ℕ → Ring
-ringOf slot C = record { base = slot * C; capacity = C }
+abbrev pub newRing : ℕ → ℕ → Ring
+newRing slot C = record { base = slot * C; capacity = C }
 
 -- the ring lies within a store of so many words
 pub record Within (ring : Ring) (words : ℕ) : Type 0 where
@@ -21,31 +21,31 @@ pub record Within (ring : Ring) (words : ℕ) : Type 0 where
   pub fits : ring .base + ring .capacity ≤ words
 
 -- "place = cursor mod C"
-abbrev pub place : Ring → ℕ → ℕ
-place ring cursor = ring .base + cursor % ring .capacity
+abbrev pub index : Ring → ℕ → ℕ
+index ring cursor = ring .base + cursor % ring .capacity
 
 -- the item at a cursor
 abbrev pub itemAt : Ring → List ℕ → ℕ → ℕ
-itemAt ring store cursor = getD store (place ring cursor) 0
+itemAt ring store cursor = getD store (index ring cursor) 0
 
 -- the n items from a cursor on
 unfoldable pub items : Ring → List ℕ → ℕ → ℕ → List ℕ
 items ring store head n = tab n (λ i. itemAt ring store (after head i))
 
 -- "push refuses exactly if the cursor's wrapped distance from the released head is C; flush publishes everything pushed"
-unfoldable pub push : Ring → List ℕ → ℕ → ℕ → ℕ → Push × List ℕ
-push ring store cursor released item =
+unfoldable pub pushItem : Ring → List ℕ → ℕ → ℕ → ℕ → Push × List ℕ
+pushItem ring store cursor released item =
     cond (eqb (distance cursor released) (ring .capacity))
     (Full, store)
-    (Pushed (after cursor 1), set store (place ring cursor) item)
+    (Pushed (after cursor 1), set store (index ring cursor) item)
 
 -- what a push answers, before the item's word is stored
-unfoldable pub pushCursor : Ring → ℕ → ℕ → Push
-pushCursor ring cursor released = cond (eqb (distance cursor released) (ring .capacity)) Full (Pushed (after cursor 1))
+unfoldable pub push : Ring → ℕ → ℕ → Push
+push ring cursor released = cond (eqb (distance cursor released) (ring .capacity)) Full (Pushed (after cursor 1))
 
 -- an item's word stored at a cursor
-abbrev pub putItem : Ring → List ℕ → ℕ → ℕ → List ℕ
-putItem ring store cursor item = set store (place ring cursor) item
+abbrev pub put : Ring → List ℕ → ℕ → ℕ → List ℕ
+put ring store cursor item = set store (index ring cursor) item
 
 -- the output with the n items from the head on, from place `at` on
 unfoldable pub popInto : Ring → List ℕ → ℕ → ℕ → List ℕ → ℕ → List ℕ

@@ -4,7 +4,7 @@ ghost use Prim.Native.Nat.{_+_, _^_, _≤_, _<_};
 ghost use lib.ListN.{length, set};
 ghost use Rattle.yring.specs.Lists.{written};
 ghost use Rattle.yring.specs.Cursor.{after, distance, Capacity};
-ghost use Rattle.yring.specs.Ring.{Within, ringOf, place, itemAt, run, pushCursor, putItem, popInto};
+ghost use Rattle.yring.specs.Ring.{Within, newRing, index, itemAt, run, push, put, popInto};
 
 // Where a lane's ring lies in the ring store.
 pub struct Ring {
@@ -35,7 +35,7 @@ impl Ring {
     // The ring of a slot.
     pub fn new(slot: u64, capacity: u64) -> Self
         requires { ⌜ (slot < 8192) × (capacity ≤ 65536) ⌝ }
-        ensures { λ r. ⌜ r ≡ ringOf slot capacity ⌝ }
+        ensures { λ r. ⌜ r ≡ newRing slot capacity ⌝ }
     {
         Ring {
             base: slot * capacity,
@@ -46,7 +46,7 @@ impl Ring {
     // Where a cursor's item stands. The capacity is a power of two, so the mask is the remainder.
     pub fn index(self, cursor: u64) -> usize
         requires { ⌜ Capacity (self .capacity) × (self .base + self .capacity < 2 ^ 64) ⌝ }
-        ensures { λ r. ⌜ (r ≡ place self cursor) × (r < self .base + self .capacity) ⌝ }
+        ensures { λ r. ⌜ (r ≡ index self cursor) × (r < self .base + self .capacity) ⌝ }
     {
         (self.base + (cursor & (self.capacity - 1))) as usize
     }
@@ -54,7 +54,7 @@ impl Ring {
     // The cursor after a push, unless the ring is full. The item's word is `put` once the cursor is
     // stored: the compiler then sees which words of the lane did not change.
     pub fn push(self, cursor: u64, released: u64) -> Push
-        ensures { λ r. ⌜ r ≡ pushCursor self cursor released ⌝ }
+        ensures { λ r. ⌜ r ≡ push self cursor released ⌝ }
     {
         if distance(cursor, released) == self.capacity {
             return Push::Full;
@@ -67,7 +67,7 @@ impl Ring {
     // Stores an item at a cursor.
     pub fn put(self, store: &mut [u64], cursor: u64, item: u64)
         requires { ⌜ Within self (length (now store)) ⌝ }
-        ensures { λ _. ⌜ now (store .exit) ≡ putItem self (now (store .entry)) cursor item ⌝ }
+        ensures { λ _. ⌜ now (store .exit) ≡ put self (now (store .entry)) cursor item ⌝ }
     {
         put_at(store, self.index(cursor), item);
     }

@@ -1,7 +1,7 @@
 -- `capacity4::send` meets its contract.
 -- Assumes nothing.
 use mathlib.Core.Path.{refl, sym, _∙_}
-use Rattle.lane.specs.declared.consumer.Sent.the-variants as Sent
+use Rattle.lane.specs.declared.producer.Sent.the-variants as Sent
 use Rattle.lane.proofs.FlushLaws.{flush-taken, flush-full}
 use Rattle.capacity4.proofs.Four.{four, sends}
 use borrow.Author.Needs.{needs}

@@ -2,7 +2,7 @@
 -- Assumes nothing.
 use Rattle.control.proofs.ResumeCases.{resumed-paused}
 use Rattle.store.proofs.SignalFrames.{shaped-marked-if-idle, head-marked-if-idle}
-use Rattle.control.specs.Control.{resumed}
+use Rattle.control.specs.Control.{resumeLane}
 use Rattle.queues.proofs.QueueLaws.{shaped-putLane}
 use Rattle.lane.proofs.TableLaws.{frames}
 use borrow.Author.Tests.{ne-eqb}
@@ -12,7 +12,7 @@ use Rattle.control.proofs.lane_control.resume_lane.Statement.{statement
 use Rattle.control.proofs.lane_control.resume_lane.Tie as tie
 
 returns : tie.Need-returns
-unfolding resumed
+unfolding resumeLane
 returns c = simp (ne-eqb _ _ (c .if1 .taken))
 
 mark-if-idle-requires : tie.Need-mark-if-idle-requires

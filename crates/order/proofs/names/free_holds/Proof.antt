@@ -4,7 +4,7 @@ use Prim.Native.Nat.{_-_}
 use mathlib.Core.Path.{refl}
 use borrow.Author.Tests.{not-true, not-false}
 use borrow.Author.Needs.{needs}
-use Rattle.model.proofs.Counting as counting
+use Rattle.demands.proofs.Counting as counting
 use Rattle.order_slot.specs.Tells.{yes, no}
 use Rattle.order_slot.proofs.TellsLaws.{told, untold}
 use Rattle.order.proofs.NamesLaws.{FreeScan, free-start, free-next, free-no, free-all}

@@ -3,7 +3,7 @@
 use mathlib.Core.Path.{refl}
 use native.Mathlib.Omega.{arith}
 use borrow.Author.Needs.{needs}
-use Rattle.model.proofs.Counting as counting
+use Rattle.demands.proofs.Counting as counting
 use Rattle.order_slot.specs.Tells.{yes, no}
 use Rattle.order.proofs.seen.note.Statement.{statement}
 use Rattle.order.proofs.seen.note.Tie as tie

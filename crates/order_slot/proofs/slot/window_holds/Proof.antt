@@ -15,7 +15,7 @@ returns-3 : tie.Need-returns-3
 returns-3 c = no (λ p. no-front _ (c .if3 .taken) (p (omega (arith, c .before .before .before .before .if1 .left)) .in-front))
 
 returns-4 : tie.Need-returns-4
-returns-4 c = no (λ p. not-front _ (c .before .before .before .before .before .before .before .before .pre) (omega (arith, c .before .before .if3 .left)) (c .before .front .ensures) (λ e. omega (arith, e, c .if4 .taken)) (p (omega (arith, c .before .before .before .before .before .before .if1 .left)) .in-front))
+returns-4 c = no (λ p. not-front _ (c .before .before .before .before .before .before .before .before .pre) (omega (arith, c .before .before .if3 .left)) (c .before .front-slot .ensures) (λ e. omega (arith, e, c .if4 .taken)) (p (omega (arith, c .before .before .before .before .before .before .if1 .left)) .in-front))
 
 returns-5 : tie.Need-returns-5
 returns-5 c = no (λ p. omega (arith, p (omega (arith, c .before .before .before .before .before .before .before .before .if1 .left)) .within, c .if5 .taken))
@@ -25,7 +25,7 @@ returns-6 c =
     yes
     (λ h. record {
       at-fast = omega (arith, c .before .before .before .before .before .before .if2 .left);
-      in-front = front-alone _ (c .before .before .before .before .before .before .before .before .before .before .pre) (omega (arith, c .before .before .before .before .if3 .left)) (sym (c .before .before .before .front .ensures) ∙ omega (arith, c .before .before .if4 .left));
+      in-front = front-alone _ (c .before .before .before .before .before .before .before .before .before .before .pre) (omega (arith, c .before .before .before .before .if3 .left)) (sym (c .before .before .before .front-slot .ensures) ∙ omega (arith, c .before .before .if4 .left));
       within = omega (arith, c .if5 .left);
     })
 

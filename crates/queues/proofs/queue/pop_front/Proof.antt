@@ -2,13 +2,13 @@
 -- Assumes nothing.
 use native.Mathlib.Omega.{arith}
 use lib.ListN.{length-set}
-use Rattle.queues.specs.Queue.{poppedFront}
+use Rattle.queues.specs.Queue.{popFront}
 use borrow.Author.Needs.{needs}
 use Rattle.queues.proofs.queue.pop_front.Statement.{statement}
 use Rattle.queues.proofs.queue.pop_front.Tie as tie
 
 returns : tie.Need-returns
-unfolding poppedFront
+unfolding popFront
 returns c = simp (c .row-of .ensures .0)
 
 pub pop-front-spec : {M : Type 1} → statement M

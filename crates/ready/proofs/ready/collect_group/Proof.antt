@@ -11,7 +11,7 @@ use borrow.Author.Needs.{needs}
 use Rattle.ready.specs.declared.ready.Group.{Group}
 use Rattle.queues.specs.Header.{issued}
 use Rattle.ready.specs.Bits.{bitsFrom}
-use Rattle.ready.specs.Ready.{groupColumn, putGroup, collectedPage, collectedGroup}
+use Rattle.ready.specs.Ready.{groupColumn, putGroup, collectPage, collectGroup}
 use Rattle.ready.proofs.BitLaws.{clear-less}
 use Rattle.ready.proofs.CollectLaws.{Kept, kept-setCell, kept-page, pages-of-group}
 use Rattle.ready.proofs.Walk.{Walk, walk-start, walk-next, walk-end, walk-place}
@@ -19,7 +19,7 @@ use Rattle.ready.proofs.ready.collect_group.Statement.{statement}
 use Rattle.ready.proofs.ready.collect_group.Tie as tie
 
 abbrev Inv-loop : tie.InvT-loop
-Inv-loop t₀ id bits₀ t bits = Walk collectedPage (λ x. 64 * x < issued t₀) (64 * id) t₀ bits₀ t bits
+Inv-loop t₀ id bits₀ t bits = Walk collectPage (λ x. 64 * x < issued t₀) (64 * id) t₀ bits₀ t bits
 
 abbrev μ-loop : tie.MeasureT-loop
 μ-loop t₀ id bits₀ t bits = bits
@@ -52,12 +52,12 @@ same-length c =
     c .before .loop .inv .kept .long ∙ ap length (c .before .before .before .before .store .ensures ∙ ap (putGroup t) (c .before .before .before .before .before .before .new .ensures)) ∙ simp length-set
 
 returns : tie.Need-returns Inv-loop μ-loop
-unfolding collectedGroup
+unfolding collectGroup
 returns c =
     let t = c .before .before .before .before .before .before .before .before .before .before .args .t .now in
     let id = c .before .before .before .before .before .before .before .before .before .before .args .id in
     walk-end (c .before .loop .inv) (c .loop-test .left)
-    ∙ ap₂ (λ (u : List ℕ) (w : ℕ). foldl collectedPage u (bitsFrom 64 (64 * id) w))
+    ∙ ap₂ (λ (u : List ℕ) (w : ℕ). foldl collectPage u (bitsFrom 64 (64 * id) w))
     (c .before .before .before .before .store .ensures ∙ ap (putGroup t) (c .before .before .before .before .before .before .new .ensures)) (ap (λ (p : Group). p .bits) (c .before .before .before .before .before .before .before .load .ensures))
 
 pub collect-group-spec : {M : Type 1} → statement M

@@ -10,7 +10,7 @@ use lib.Count.{trailing-le}
 use borrow.Author.Needs.{needs}
 use Rattle.ready.specs.declared.ready.Page.{Page}
 use Rattle.ready.specs.Bits.{bitsFrom}
-use Rattle.ready.specs.Ready.{pageColumn, putPage, offered, collectedPage}
+use Rattle.ready.specs.Ready.{pageColumn, putPage, offer, collectPage}
 use Rattle.ready.proofs.BitLaws.{clear-less, bits-each}
 use Rattle.ready.proofs.CollectLaws.{Kept, kept-setCell, kept-offered}
 use Rattle.ready.proofs.Walk.{Walk, walk-start, walk-next, walk-end}
@@ -18,7 +18,7 @@ use Rattle.ready.proofs.ready.collect_page.Statement.{statement}
 use Rattle.ready.proofs.ready.collect_page.Tie as tie
 
 abbrev Inv-loop : tie.InvT-loop
-Inv-loop t₀ id bits₀ t bits = Walk offered (λ x. 64 * id ≤ x) (64 * id) t₀ bits₀ t bits
+Inv-loop t₀ id bits₀ t bits = Walk offer (λ x. 64 * id ≤ x) (64 * id) t₀ bits₀ t bits
 
 abbrev μ-loop : tie.MeasureT-loop
 μ-loop t₀ id bits₀ t bits = bits
@@ -44,12 +44,12 @@ same-length c =
     c .before .loop .inv .kept .long ∙ ap length (c .before .before .before .before .store .ensures ∙ ap (putPage t) (c .before .before .before .before .before .before .new .ensures)) ∙ simp length-set
 
 returns : tie.Need-returns Inv-loop μ-loop
-unfolding collectedPage
+unfolding collectPage
 returns c =
     let t = c .before .before .before .before .before .before .before .before .before .before .args .t .now in
     let id = c .before .before .before .before .before .before .before .before .before .before .args .id in
     walk-end (c .before .loop .inv) (c .loop-test .left)
-    ∙ ap₂ (λ (u : List ℕ) (w : ℕ). foldl offered u (bitsFrom 64 (64 * id) w))
+    ∙ ap₂ (λ (u : List ℕ) (w : ℕ). foldl offer u (bitsFrom 64 (64 * id) w))
     (c .before .before .before .before .store .ensures ∙ ap (putPage t) (c .before .before .before .before .before .before .new .ensures)) (ap (λ (p : Page). p .bits) (c .before .before .before .before .before .before .before .load .ensures))
 
 pub collect-page-spec : {M : Type 1} → statement M

@@ -1,6 +1,6 @@
 -- `receive_from::target::queue_target` meets its contract.
 -- Assumes nothing.
-use Rattle.receive_from.specs.Target.{targetQueued}
+use Rattle.receive_from.specs.Target.{queueTarget}
 use Rattle.store.proofs.SignalFrames.{shaped-marked-if-idle, head-marked-if-idle}
 use Rattle.queues.proofs.QueueLaws.{shaped-putLane}
 use Rattle.lane.proofs.TableLaws.{frames}
@@ -27,7 +27,7 @@ same-length : tie.Need-same-length
 same-length c = search needs
 
 returns : tie.Need-returns
-unfolding targetQueued
+unfolding queueTarget
 returns c = rw (c .before .before .push-back .ensures, c .before .before .before .before .before .before .mark-if-idle .ensures, c .before .before .before .before .before .before .before .before .before .before .store .ensures, c .before .before .before .before .before .before .before .before .before .before .before .before .with-turn .ensures)
 
 pub queue-target-spec : {M : Type 1} → statement M

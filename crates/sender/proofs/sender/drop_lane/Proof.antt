@@ -3,7 +3,7 @@
 use native.Mathlib.Omega.{arith}
 use lib.ListN.{length-set}
 use Rattle.lane.proofs.TableLaws.{frames}
-use Rattle.sender.specs.Sender.{dropped}
+use Rattle.sender.specs.Sender.{dropLane}
 use borrow.Author.Needs.{needs}
 use Rattle.sender.proofs.sender.drop_lane.Statement.{statement}
 use Rattle.sender.proofs.sender.drop_lane.Tie as tie
@@ -12,7 +12,7 @@ mark-if-idle-requires : tie.Need-mark-if-idle-requires
 mark-if-idle-requires c κs = rw (c .before .before .before .store .ensures) (simp (frames, c .before .before .before .before .before .with-sender .ensures) (c .before .before .before .before .before .before .before .before .pre .0, c .before .before .before .before .before .before .before .before .pre .1))
 
 returns : tie.Need-returns
-unfolding dropped
+unfolding dropLane
 returns c = rw (c .before .before .mark-if-idle .ensures, c .before .before .before .before .before .before .store .ensures, c .before .before .before .before .before .before .before .before .with-sender .ensures)
 
 pub drop-lane-spec : {M : Type 1} → statement M

@@ -2,7 +2,7 @@
 -- Assumes nothing.
 use native.Mathlib.Omega.{arith}
 use Rattle.lane.proofs.TableLaws.{frames}
-use Rattle.sender.specs.Sender.{takenSignaled}
+use Rattle.sender.specs.Sender.{takeSignaled}
 use borrow.Author.Needs.{needs}
 use Rattle.sender.proofs.sender.take_signaled.Statement.{statement}
 use Rattle.sender.proofs.sender.take_signaled.Tie as tie
@@ -11,7 +11,7 @@ mark-if-idle-requires : tie.Need-mark-if-idle-requires
 mark-if-idle-requires c κs = rw (c .before .before .before .store .ensures) (simp frames (c .before .before .before .before .before .before .before .before .pre))
 
 returns : tie.Need-returns
-unfolding takenSignaled
+unfolding takeSignaled
 returns c = rw (c .before .before .mark-if-idle .ensures, c .before .before .before .before .before .before .store .ensures, c .before .before .before .before .before .before .before .before .with-sender .ensures)
 
 pub take-signaled-spec : {M : Type 1} → statement M

@@ -2,7 +2,7 @@
 -- Assumes nothing.
 use native.Mathlib.Omega.{arith}
 use borrow.Author.Tests.{eq-eqb, ne-eqb}
-use Rattle.sender.specs.Sender.{slotTaken}
+use Rattle.sender.specs.Sender.{takeSlot}
 use borrow.Author.Needs.{needs}
 use Rattle.sender.proofs.sender.take_slot.Statement.{statement}
 use Rattle.sender.proofs.sender.take_slot.Tie as tie
@@ -11,11 +11,11 @@ open-page-requires : tie.Need-open-page-requires
 open-page-requires c κs = omega (arith, c .before .before .before .before .before .pre .1 (c .before .before .if1 .taken), c .before .before .before .before .before .pre .0 .room)
 
 returns : tie.Need-returns
-unfolding slotTaken
+unfolding takeSlot
 returns c = simp (eq-eqb _ _ (c .before .before .before .before .before .if1 .taken), c .before .before .open-page .ensures)
 
 returns-2 : tie.Need-returns-2
-unfolding slotTaken
+unfolding takeSlot
 returns-2 c = simp (ne-eqb _ _ (c .before .before .before .before .if1 .left), c .before .before .reissue .ensures)
 
 pub take-slot-spec : {M : Type 1} → statement M

@@ -1,6 +1,6 @@
 -- `turns::turn::settle_empty_front` meets its contract.
 -- Assumes nothing.
-use Rattle.turns.specs.Turn.{leftFront}
+use Rattle.turns.specs.Turn.{settleEmptyFront}
 use Rattle.queues.proofs.QueueLaws.{queue-frames, shaped-putLane, shaped-popped-front}
 use Rattle.lane.proofs.TableLaws.{frames}
 use borrow.Author.Needs.{needs}
@@ -22,7 +22,7 @@ same-length : tie.Need-same-length
 same-length c = search needs
 
 returns : tie.Need-returns
-unfolding leftFront
+unfolding settleEmptyFront
 returns c = rw (c .before .before .retire-if .ensures, c .before .before .before .before .before .before .pop-front .ensures, c .before .before .before .before .before .before .before .before .before .before .store .ensures)
 
 pub settle-empty-front-spec : {M : Type 1} → statement M

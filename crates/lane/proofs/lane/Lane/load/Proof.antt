@@ -9,7 +9,7 @@ use borrow.Author.Tests.{ltb-true}
 use lib.Dec.{ltb}
 use lib.ListN.{getD, take, drop}
 use lib.Seq.{getD-drop, getD-take}
-use Rattle.lane.specs.Table.{headerWords, rowWords, laneWords, cell, laneBy, laneAt}
+use Rattle.lane.specs.Table.{headerWords, rowWords, laneWords, cell, ofWords, laneAt}
 use borrow.Author.Needs.{needs}
 use Rattle.lane.proofs.lane.Lane.load.Statement.{statement}
 use Rattle.lane.proofs.lane.Lane.load.Tie as tie
@@ -23,7 +23,7 @@ module _ (t : List ℕ) (slot n : ℕ) (enough : laneWords ≤ n) where
   word : (i : ℕ) → ltb i laneWords ≡ true → getD (take n (drop (rowAt slot) t)) i 0 ≡ cell t i slot
   word i l = getD-take n (drop (rowAt slot) t) i 0 (omega (arith, ltb-true i laneWords l)) ∙ getD-drop (rowAt slot) t i 0
 
-  lane-of-part : laneBy slot (λ i. getD (take n (drop (rowAt slot) t)) i 0) ≡ laneAt t slot
+  lane-of-part : ofWords slot (λ i. getD (take n (drop (rowAt slot) t)) i 0) ≡ laneAt t slot
   unfolding laneAt
   lane-of-part = simp word
 

@@ -2,7 +2,7 @@
 -- Assumes nothing.
 use Rattle.lane.proofs.OrderLaws.{chunk-within}
 use Rattle.yring.proofs.ReleaseLaws.{batch-most}
-use Rattle.lane.specs.Lane.{releaseAtBatch, charged, addBurst, moveChunk}
+use Rattle.lane.specs.Lane.{releaseAtBatch, charge, addBurst, moveChunk}
 use Rattle.lane.specs.declared.lane.Lane.{Lane}
 use Rattle.lane.specs.declared.lane.Released.{Released}
 use mathlib.Core.Path.{_≡_, _∙_, ap}
@@ -29,7 +29,7 @@ unfolding moveChunk
 returns c =
     let a = c .before .before .before .before .before .args in
     ap (λ (r : Released). r .lane) (c .before .release-at-batch .ensures)
-    ∙ ap (λ (l : Lane). releaseAtBatch (a .capacity) l .lane) (c .before .before .add-burst .ensures ∙ ap (addBurst (a .take)) (c .before .before .before .charge .ensures ∙ ap (charged (a .take)) (c .before .before .before .before .advance .ensures)))
+    ∙ ap (λ (l : Lane). releaseAtBatch (a .capacity) l .lane) (c .before .before .add-burst .ensures ∙ ap (addBurst (a .take)) (c .before .before .before .charge .ensures ∙ ap (charge (a .take)) (c .before .before .before .before .advance .ensures)))
 
 pub move-chunk-spec : {M : Type 1} → statement M
 move-chunk-spec =

@@ -1,6 +1,6 @@
 -- `yring::ring::Ring::push` meets its contract.
 -- Assumes nothing.
-use Rattle.yring.specs.Ring.{pushCursor}
+use Rattle.yring.specs.Ring.{push}
 use mathlib.Core.Path.{_≡_, _∙_, ap, sym}
 use borrow.Author.Tests.{eq-eqb, ne-eqb}
 use borrow.Author.Needs.{needs}
@@ -8,11 +8,11 @@ use Rattle.yring.proofs.ring.Ring.push.Statement.{statement}
 use Rattle.yring.proofs.ring.Ring.push.Tie as tie
 
 returns : tie.Need-returns
-unfolding pushCursor
+unfolding push
 returns c = simp (eq-eqb _ _ (sym (c .before .before .distance .ensures) ∙ c .if1 .taken))
 
 returns-2 : tie.Need-returns-2
-unfolding pushCursor
+unfolding push
 returns-2 c = simp (ne-eqb _ _ (λ e. c .before .if1 .left (c .before .before .before .distance .ensures ∙ e)), c .after .ensures)
 
 pub push-spec : {M : Type 1} → statement M

@@ -1,0 +1,436 @@
+-- Held answers the number of items that, by the calls and their answers, unclosed lanes hold.
+-- Assumes nothing.
+use mathlib.Core.Path.{_≡_, refl, ap, sym, _∙_}
+use mathlib.Core.Bool.{Bool, true, false}
+use mathlib.Core.Option.{some}
+use mathlib.Core.List.{List, [], _∷_, _++_, map, tail}
+use Prim.Native.Nat.{ℕ, zero, suc, _+_, _≤_, _<_}
+use native.Mathlib.Omega.{arith}
+use lib.ListN.{length, length-map}
+use lib.Dec.{eqb, leb}
+use Rattle.model.specs.declared.LaneKey.{LaneKey}
+use Rattle.model.specs.declared.Opening.{Opening}
+use Rattle.model.specs.declared.ReceiveCall.{ReceiveCall}
+use Rattle.model.specs.declared.ControlCall.the-variants.{Pause, Resume, CloseLane, ReleaseConsumed, PollAllLanes, CloseReceiver, CountHeld}
+use Rattle.model.specs.declared.Call.{Call}
+use Rattle.model.specs.declared.Call.the-variants.{Sender, Receive, Control}
+use Rattle.model.specs.declared.Answer.{Answer}
+use Rattle.model.specs.declared.Answer.the-variants.{Held}
+use Rattle.model.specs.Lists.{if, either, count, keep, from, without, total}
+use Rattle.model.specs.State.{Slot, State, mayQueue, keyOf}
+use Rattle.model.specs.Changes.{withQueue, put, newLane, signalled, pushed, senderDropped, popped, withPaused, credited, retired}
+use Rattle.model.specs.Turn.{retireLane, unreleasedAfterOne, giveItem}
+use Rattle.model.specs.Runs.{accepted, Tick, gives, ends, handed, ticks, trace, countTicks}
+use Rattle.model.specs.Receive.{queueLaneIf}
+use Rattle.model.specs.Control.{controlOutcome, countHeld}
+use Rattle.model.specs.Opening.{openedState, openingOutcome}
+use Rattle.model.specs.Rules.{outcome, theRules}
+use Rattle.model.specs.Order.{Ordered}
+use Rattle.model.specs.Ledger.{Lane, Ledger, atOpening, changeLane, removeOldest, setPaused, setClosed, setDropped, addRegistered, applyCall, note, ledgerAfter}
+use Rattle.model.specs.Held.{heldBy, heldByLanes, HeldAsCountedIn, HeldAsCounted}
+use Rattle.demands.proofs.Counting.{Same, equal, other, same?, self, from-in}
+use Rattle.demands.proofs.OrderKept.{first-own, front-registered}
+use Rattle.demands.proofs.Quiet.{Quiet, stays, goes, Quietly, trans, poll, poll-quiet, poll-ordered, release-all-quiet, settle-empty-quiet}
+use Rattle.demands.proofs.Moves.{Moves, stays-put, credits, registers-new, registers-old, sends, posts, drops-it, pauses-it, resumes, resumes-not, closes-it, polls-all, shuts-it, takes, stops, aims, aims-none, Chain, stay, move, call-chain}
+use Rattle.demands.proofs.Opened.{opened-ordered}
+use Rattle.demands.proofs.MovesKeepOrder.{has-lane-parts, unissued, move-ordered}
+use Rattle.demands.proofs.LedgerLaws.{alike, unlike, keys?, look, times, changeIn, look-changed, times-changed, held-changed}
+use Rattle.demands.proofs.Demand2.{sender-parts, queue-lane-slot, queue-lane-parts, give-item-slot, opens-as}
+use Rattle.demands.proofs.LedgerAgrees.{Agrees, agrees-quiet, move-agrees, key-path, add-item-key, remove-oldest-key, set-dropped-key, set-paused-key, set-closed-key, retire-lane-slot, retire-lane-issued, give-item-issued, queue-lane-more, again-put}
+use Rattle.demands.proofs.Grows.{Grows, grows-quiet, move-grows}
+use Rattle.demands.proofs.Demand3.{opened-agrees}
+
+-- sums over slots
+module _ (f g : ℕ → ℕ) where
+  total-ext : ((y : ℕ) → g y ≡ f y) → (l : List ℕ) → total g l ≡ total f l
+  unfolding total
+  total-ext e [] = refl
+  total-ext e (x ∷ l) = omega (arith, e x, total-ext e l)
+
+  module _ (x v : ℕ) (at : (y : ℕ) → g y ≡ if (eqb x y) v (f y)) where
+    total-absent : (l : List ℕ) → count x l ≡ 0 → total g l ≡ total f l
+    unfolding total count
+    total-absent [] h = refl
+    total-absent (y ∷ l) h = elim (same? x y) [
+      | equal p e i ↦ absurd (omega arith)
+      | other d e i ↦ (let w : g y ≡ f y = at y ∙ rw e in omega (arith, total-absent l (omega arith)))
+    ]
+
+    total-put : (l : List ℕ) → count x l ≡ 1 → total g l + f x ≡ total f l + v
+    unfolding total count
+    total-put [] h = absurd (omega arith)
+    total-put (y ∷ l) h = elim (same? x y) [
+      | equal p e i ↦ (let w : g y ≡ v = at y ∙ rw e in omega (arith, total-absent l (omega arith), ap f p))
+      | other d e i ↦ (let w : g y ≡ f y = at y ∙ rw e in omega (arith, total-put l (omega arith)))
+    ]
+
+total-keep : (p : ℕ → Bool) (f : ℕ → ℕ) (l : List ℕ) → total f (keep p l) ≡ total (λ x. if (p x) (f x) 0) l
+unfolding total keep
+total-keep p f [] = refl
+total-keep p f (x ∷ l) = go (p x) (total-keep p f l)
+  where
+    go : (b : Bool) → total f (keep p l) ≡ total (λ x. if (p x) (f x) 0) l → total f (if b (x ∷ keep p l) (keep p l)) ≡ if b (f x) 0 + total (λ x. if (p x) (f x) 0) l
+    go true e = omega arith
+    go false e = omega arith
+
+total-last : (f : ℕ → ℕ) (a n : ℕ) → total f (from a (suc n)) ≡ total f (from a n) + f (a + n)
+unfolding total from
+total-last f a zero = omega (arith, ap f (plus-none a))
+  where
+    plus-none : (a : ℕ) → a + 0 ≡ a
+    plus-none a = omega arith
+total-last f a (suc n) = omega (arith, total-last f (suc a) n, ap f (plus-one a n))
+  where
+    plus-one : (a n : ℕ) → suc a + n ≡ a + suc n
+    plus-one a n = omega arith
+
+-- the items in the rings of registered lanes
+unfoldable ringCount : Slot → ℕ
+ringCount l = if (l .registered) (length (l .ring)) 0
+
+unfoldable heldOf : State → ℕ
+heldOf s = total (λ x. ringCount (s .slotOf x)) (from 0 (s .issued))
+
+held-answer : (s : State) → (outcome s (Control CountHeld)) .1 .0 ≡ Held (heldOf s)
+unfolding outcome controlOutcome countHeld heldOf ringCount
+held-answer s = ap Held (total-keep (λ x. s .slotOf x .registered) (λ x. length (s .slotOf x .ring)) (from 0 (s .issued)))
+
+count-unregistered : (l : Slot) → l .registered ≡ false → ringCount l ≡ 0
+unfolding ringCount
+count-unregistered l e = rw e
+
+count-alike : (l m : Slot) → m .registered ≡ l .registered → m .ring ≡ l .ring → ringCount m ≡ ringCount l
+unfolding ringCount
+count-alike l m r e = rw (r, e)
+
+count-quiet : (l m : Slot) → Quiet l m → ringCount m ≡ ringCount l
+unfolding ringCount
+count-quiet l m (stays a) = rw (a .registers, a .rings)
+count-quiet l m (goes e r g) = rw (r, e) (go (l .registered))
+  where
+    go : (b : Bool) → _≡_ {A = ℕ} 0 (if b 0 0)
+    go true = refl
+    go false = refl
+
+held-alike : (s u : State) → u .issued ≡ s .issued → ((y : ℕ) → ringCount (u .slotOf y) ≡ ringCount (s .slotOf y)) → heldOf u ≡ heldOf s
+unfolding heldOf
+held-alike s u i e = rw i (total-ext (λ x. ringCount (s .slotOf x)) (λ x. ringCount (u .slotOf x)) e (from 0 (s .issued)))
+
+held-quiet : (s u : State) → Quietly s u → heldOf u ≡ heldOf s
+held-quiet s u q = held-alike s u (q .issues) (λ y. count-quiet _ _ (q .each y))
+
+-- one slot changes
+module _ (s u : State) (x : ℕ) (m : Slot) (at : (y : ℕ) → u .slotOf y ≡ if (eqb x y) m (s .slotOf y)) (i : u .issued ≡ s .issued) where
+  count-at : (y : ℕ) → ringCount (u .slotOf y) ≡ if (eqb x y) (ringCount m) (ringCount (s .slotOf y))
+  count-at y = ap ringCount (at y) ∙ go (eqb x y)
+    where
+      go : (b : Bool) → ringCount (if b m (s .slotOf y)) ≡ if b (ringCount m) (ringCount (s .slotOf y))
+      go true = refl
+      go false = refl
+
+  held-put : x < s .issued → heldOf u + ringCount (s .slotOf x) ≡ heldOf s + ringCount m
+  unfolding heldOf
+  held-put h = rw i (total-put (λ y. ringCount (s .slotOf y)) (λ y. ringCount (u .slotOf y)) x (ringCount m) count-at (from 0 (s .issued)) (from-in x 0 (s .issued) (omega arith) (omega arith)))
+
+  held-put-alike : ringCount m ≡ ringCount (s .slotOf x) → heldOf u ≡ heldOf s
+  held-put-alike e = held-alike s u i (λ y. count-at y ∙ go y (same? x y))
+    where
+      go : (y : ℕ) → Same x y → if (eqb x y) (ringCount m) (ringCount (s .slotOf y)) ≡ ringCount (s .slotOf y)
+      go y (equal p b j) = rw b (e ∙ ap (λ (z : ℕ). ringCount (s .slotOf z)) p)
+      go y (other d b j) = rw b
+
+-- an entry of the ledger holds what the ring of its lane does
+some-path : {a b : Lane} → some a ≡ some b → a ≡ b
+some-path e = cc
+
+entry-count : (L : Ledger) (s : State) (y : ℕ) (l : Lane) → Agrees L s → s .slotOf y .registered ≡ true → look (keyOf s y) (L .lanes) ≡ some l → heldBy l ≡ ringCount (s .slotOf y)
+unfolding heldBy ringCount
+entry-count L s y l h r e =
+    let f = h .lane-of y r in
+    let q : l ≡ f .entry = some-path (sym e ∙ f .looked) in
+    ap heldBy q ∙ rw (f .matches .unclosed, r) (sym (length-map (f .entry .holds) (λ v. v .value)) ∙ ap length (f .matches .values-same))
+
+-- a key stands once in the ledger; its slot is issued, and the slot's generation has reached the key's
+record KeysOnce (L : Ledger) (s : State) : Type 0 where
+  once : (k : LaneKey) → times k (L .lanes) ≤ 1
+  known : (k : LaneKey) → 1 ≤ times k (L .lanes) → (k .slot < s .issued) × (k .generation ≤ s .slotOf (k .slot) .generation)
+
+keys-on : (L M : Ledger) {s u : State} → ((k : LaneKey) → times k (M .lanes) ≡ times k (L .lanes)) → Grows s u → KeysOnce L s → KeysOnce M u
+keys-on L M e g h = record {
+  once = λ k. omega (arith, e k, h .once k);
+  known = λ k n. let p = h .known k (omega (arith, e k)) in (omega (arith, p .0, g .issues), omega (arith, p .1, g .slots (k .slot) (p .0) .gens));
+}
+
+keys-same : (L M : Ledger) {s u : State} → M ≡ L → Grows s u → KeysOnce L s → KeysOnce M u
+keys-same L M e = keys-on L M (λ k. ap (λ (N : Ledger). times k (N .lanes)) e)
+
+keys-changed : (L : Ledger) (j : LaneKey) (f : Lane → Lane) {s u : State} → ((l : Lane) → (f l) .key ≡ l .key) → Grows s u → KeysOnce L s → KeysOnce (changeLane j f L) u
+unfolding changeLane
+keys-changed L j f keeps = keys-on L (changeLane j f L) (λ k. times-changed j f keeps k (L .lanes))
+
+keys-new : (L M : Ledger) (s u : State) (n : Lane) → M .lanes ≡ n ∷ L .lanes → times (n .key) (L .lanes) ≡ 0 → n .key .slot < u .issued → n .key .generation ≤ u .slotOf (n .key .slot) .generation → Grows s u → KeysOnce L s
+    → KeysOnce M u
+unfolding times
+keys-new L M s u n e z i le g h = record {
+  once = λ k. rw e (elim (keys? (n .key) k) [
+    | alike p b ↦ rw b (omega (arith, ap (λ (j : LaneKey). times j (L .lanes)) p))
+    | unlike d b ↦ rw b (omega (arith, h .once k))
+  ]);
+  known = λ k o. elim (keys? (n .key) k) [
+    | alike p b ↦ (omega (arith, ap (λ (j : LaneKey). j .slot) p), omega (arith, ap (λ (j : LaneKey). j .generation) p, ap (λ (j : LaneKey). u .slotOf (j .slot) .generation) p))
+    | unlike d b ↦ (let c = h .known k (omega (arith, rw (e, b) at o)) in (omega (arith, c .0, g .issues), omega (arith, c .1, g .slots (k .slot) (c .0) .gens)))
+  ];
+}
+
+none-yet : (n : ℕ) → (1 ≤ n → ⊥) → n ≡ 0
+none-yet zero h = refl
+none-yet (suc n) h = absurd (h (omega arith))
+
+record Tallied (L : Ledger) (s : State) : Type 0 where
+  ord : Ordered s
+  agrees : Agrees L s
+  keys : KeysOnce L s
+  sum : heldByLanes (L .lanes) ≡ heldOf s
+
+-- one lane changes, and what it holds
+module _ (L : Ledger) (s u : State) (j : LaneKey) (f : Lane → Lane) (keeps : (l : Lane) → (f l) .key ≡ l .key) (m : Slot)
+    (at : (y : ℕ) → u .slotOf y ≡ if (eqb (j .slot) y) m (s .slotOf y)) (r : s .slotOf (j .slot) .registered ≡ true) (g : s .slotOf (j .slot) .generation ≡ j .generation)
+    (i : u .issued ≡ s .issued) (low : j .slot < s .issued) (h : Agrees L s) (k : KeysOnce L s) (e : heldByLanes (L .lanes) ≡ heldOf s) where
+  own-look : look j (L .lanes) ≡ some (h .lane-of (j .slot) r .entry)
+  own-look = ap (λ (k : LaneKey). look k (L .lanes)) (key-path j (keyOf s (j .slot)) refl (sym g)) ∙ h .lane-of (j .slot) r .looked
+
+  sum-entry : heldBy (f (h .lane-of (j .slot) r .entry)) ≡ ringCount m → heldByLanes ((changeLane j f L) .lanes) ≡ heldOf u
+  unfolding changeLane
+  sum-entry w =
+      let l = h .lane-of (j .slot) r .entry in
+      omega (arith, w, e, held-changed j f keeps (L .lanes) l own-look (k .once j), held-put s u (j .slot) m at i low, entry-count L s (j .slot) l h r (h .lane-of (j .slot) r .looked))
+
+  -- the lane is registered after it, too
+  sum-changed : m .registered ≡ true → m .generation ≡ j .generation → Agrees (changeLane j f L) u → heldByLanes ((changeLane j f L) .lanes) ≡ heldOf u
+  unfolding changeLane
+  sum-changed mr mg a =
+      let l = h .lane-of (j .slot) r .entry in
+      let o : u .slotOf (j .slot) ≡ m = at (j .slot) ∙ rw (self (j .slot)) in
+      let q : keyOf u (j .slot) ≡ j = key-path (keyOf u (j .slot)) j refl (ap (λ (n : Slot). n .generation) o ∙ mg) in
+      sum-entry
+      (entry-count (changeLane j f L) u (j .slot) (f l) a (ap (λ (n : Slot). n .registered) o ∙ mr)
+      (ap (λ (n : LaneKey). look n ((changeLane j f L) .lanes)) q ∙ look-changed j f keeps (L .lanes) l own-look) ∙ ap ringCount o)
+
+-- a change of the ledger that leaves what each lane holds
+held-same : (j : LaneKey) (f : Lane → Lane) → ((l : Lane) → heldBy (f l) ≡ heldBy l) → (L : Ledger) → heldByLanes ((changeLane j f L) .lanes) ≡ heldByLanes (L .lanes)
+unfolding changeLane heldByLanes
+held-same j f e L = go (L .lanes)
+  where
+    go : (ls : List Lane) → heldByLanes (changeIn j f ls) ≡ heldByLanes ls
+    go [] = refl
+    go (l ∷ ls) = elim (keys? (l .key) j) [
+      | alike p b ↦ rw b (omega (arith, e l, go ls))
+      | unlike d b ↦ rw b (omega (arith, go ls))
+    ]
+
+dropped-same : (l : Lane) → heldBy (setDropped l) ≡ heldBy l
+unfolding setDropped heldBy
+dropped-same l = refl
+
+paused-same : (b : Bool) (l : Lane) → heldBy (setPaused b l) ≡ heldBy l
+unfolding setPaused heldBy
+paused-same b l = refl
+
+closed-none : (l : Lane) → heldBy (setClosed l) ≡ 0
+unfolding setClosed heldBy
+closed-none l = refl
+
+-- a registration adds an entry that holds nothing
+new-sum : (ls : List Lane) (k : LaneKey) → heldByLanes (record { key = k; holds = []; paused = false; closed = false; dropped = false } ∷ ls) ≡ heldByLanes ls
+unfolding heldByLanes heldBy
+new-sum ls k = omega arith
+
+new-count : (g : ℕ) (l : Slot) → ringCount (newLane g l) ≡ 0
+unfolding ringCount
+new-count g l = refl
+
+held-one-more : (s u : State) → u .issued ≡ suc (s .issued) → ((y : ℕ) → ringCount (u .slotOf y) ≡ ringCount (s .slotOf y)) → ringCount (s .slotOf (s .issued)) ≡ 0 → heldOf u ≡ heldOf s
+unfolding heldOf
+held-one-more s u i e z = rw i (omega (arith, total-ext (λ x. ringCount (s .slotOf x)) (λ x. ringCount (u .slotOf x)) e (from 0 (suc (s .issued))), total-last (λ x. ringCount (s .slotOf x)) 0 (s .issued), ap (λ (x : ℕ). ringCount (s .slotOf x)) (none-plus (s .issued))))
+  where
+    none-plus : (n : ℕ) → 0 + n ≡ n
+    none-plus n = omega arith
+
+-- every move
+move-keys : (L : Ledger) {s u : State} {t : Tick} → Ordered s → KeysOnce L s → Moves s t u → KeysOnce (note L t) u
+unfolding note accepted applyCall addRegistered
+move-keys L o h (stays-put s c a n) = keys-same L _ (n .noted L) (move-grows (stays-put s c a n)) h
+move-keys L o h (credits s c a n) = keys-same L _ (n .noted L) (move-grows (credits s c a n)) h
+move-keys L o h (registers-new s m e lt) =
+    let k : LaneKey = record { slot = s .issued; generation = s .firstGeneration } in
+    keys-new L _ s _ record { key = k; holds = []; paused = false; closed = false; dropped = false } refl
+    (none-yet (times k (L .lanes)) (λ n. omega (arith, h .known k n .0))) (omega arith) (rw (self (s .issued)) (omega arith)) (move-grows (registers-new s m e lt)) h
+move-keys L o h (registers-old s m x f e) =
+    let k : LaneKey = record { slot = x; generation = s .slotOf x .generation + 1 } in
+    keys-new L _ s _ record { key = k; holds = []; paused = false; closed = false; dropped = false } refl
+    (none-yet (times k (L .lanes)) (λ n. omega (arith, h .known k n .1))) (o .each-slot x .free-issued (omega (arith, ap (count x) e, first-own x f))) (rw (self x) (omega arith)) (move-grows (registers-old s m x f e)) h
+move-keys L o h (sends s k v w a r nf) = keys-changed L k _ (add-item-key record { value = v; ordinary = true }) (move-grows (sends s k v w a r nf)) h
+move-keys L o h (posts s k v w a r nf) = keys-changed L k _ (add-item-key record { value = v; ordinary = false }) (move-grows (posts s k v w a r nf)) h
+move-keys L o h (drops-it s k a) = keys-changed L k _ set-dropped-key (move-grows (drops-it s k a)) h
+move-keys L o h (pauses-it s i c) = keys-changed L (i .key) _ (set-paused-key true) (move-grows (pauses-it s i c)) h
+move-keys L o h (resumes s i c p) = keys-changed L (i .key) _ (set-paused-key false) (move-grows (resumes s i c p)) h
+move-keys L o h (resumes-not s i c p) = keys-changed L (i .key) _ (set-paused-key false) (move-grows (resumes-not s i c p)) h
+move-keys L o h (closes-it s i c) = keys-changed L (i .key) _ set-closed-key (move-grows (closes-it s i c)) h
+move-keys L o h (polls-all s) = keys-on L _ (λ k. refl) (move-grows (polls-all s)) h
+move-keys L o h (shuts-it s) = keys-on L _ (λ k. refl) (move-grows (shuts-it s)) h
+move-keys L o h (takes f r s y v q vs w e g) = keys-changed L _ _ remove-oldest-key (move-grows (takes f r s y v q vs w e g)) h
+move-keys L o h (stops f r s u a w e q k n) = keys-same L _ (n L) (move-grows (stops f r s u a w e q k n)) h
+move-keys L o h (aims s i v vs c g) = keys-changed L _ _ remove-oldest-key (move-grows (aims s i v vs c g)) h
+move-keys L o h (aims-none s i a c g n) = keys-same L _ (n .noted L) (move-grows (aims-none s i a c g n)) h
+
+noted-sum : (L M : Ledger) (s u : State) → M ≡ L → heldOf u ≡ heldOf s → heldByLanes (L .lanes) ≡ heldOf s → heldByLanes (M .lanes) ≡ heldOf u
+noted-sum L M s u e h w = ap (λ (N : Ledger). heldByLanes (N .lanes)) e ∙ w ∙ sym h
+
+move-sum : (L : Ledger) {s u : State} {t : Tick} → Tallied L s → Moves s t u → heldByLanes ((note L t) .lanes) ≡ heldOf u
+unfolding note accepted applyCall addRegistered
+move-sum L h (stays-put s c a n) = noted-sum L _ s s (n .noted L) refl (h .sum)
+move-sum L h (credits s c a n) = noted-sum L _ s _ (n .noted L) (held-quiet s _ (release-all-quiet s)) (h .sum)
+move-sum L h (registers-new s m e lt) =
+    let z = count-unregistered (s .slotOf (s .issued)) (unissued s (h .ord)) in
+    new-sum (L .lanes) _ ∙ h .sum ∙ sym (held-one-more s _ refl (λ y. count-at s (put (s .issued) (newLane (s .firstGeneration) (s .slotOf (s .issued))) s) (s .issued) _ (λ y. refl) refl y ∙ go y (same? (s .issued) y) z) z)
+  where
+    go : (y : ℕ) → Same (s .issued) y → ringCount (s .slotOf (s .issued)) ≡ 0 → if (eqb (s .issued) y) (ringCount (newLane (s .firstGeneration) (s .slotOf (s .issued)))) (ringCount (s .slotOf y)) ≡ ringCount (s .slotOf y)
+    go y (equal p b j) z = rw b (new-count _ (s .slotOf (s .issued)) ∙ sym z ∙ ap (λ (x : ℕ). ringCount (s .slotOf x)) p)
+    go y (other d b j) z = rw b
+move-sum L h (registers-old s m x f e) =
+    let z = count-unregistered (s .slotOf x) (h .ord .each-slot x .free-unregistered (omega (arith, ap (count x) e, first-own x f))) in
+    new-sum (L .lanes) _ ∙ h .sum ∙ sym (held-put-alike s _ x (newLane (s .slotOf x .generation + 1) (s .slotOf x)) (λ y. refl) refl (new-count _ (s .slotOf x) ∙ sym z))
+move-sum L h (sends s k v w a r nf) =
+    let g = sender-parts s k a in
+    sum-changed L s _ k _ (add-item-key record { value = v; ordinary = true }) (signalled (pushed v (s .slotOf (k .slot)))) (λ y. refl) r (g .1) refl (h .ord .each-slot (k .slot) .registered-issued r) (h .agrees) (h .keys) (h .sum) r (g .1)
+    (move-agrees L (h .ord) (h .agrees) (sends s k v w a r nf))
+move-sum L h (posts s k v w a r nf) =
+    let g = sender-parts s k a in
+    sum-changed L s _ k _ (add-item-key record { value = v; ordinary = false }) (pushed v (s .slotOf (k .slot))) (λ y. refl) r (g .1) refl (h .ord .each-slot (k .slot) .registered-issued r) (h .agrees) (h .keys) (h .sum) r (g .1)
+    (move-agrees L (h .ord) (h .agrees) (posts s k v w a r nf))
+move-sum L h (drops-it s k a) =
+    held-same k setDropped dropped-same L ∙ h .sum ∙ sym (held-put-alike s _ (k .slot) (signalled (senderDropped (s .slotOf (k .slot)))) (λ y. refl) refl (count-alike (s .slotOf (k .slot)) _ refl refl))
+move-sum L h (pauses-it s i c) =
+    held-same (i .key) (setPaused true) (paused-same true) L ∙ h .sum ∙ sym (held-put-alike s _ (i .key .slot) (withPaused true (credited (s .slotOf (i .key .slot)))) (λ y. refl) refl (count-alike (s .slotOf (i .key .slot)) _ refl refl))
+move-sum L h (resumes s i c p) =
+    held-same (i .key) (setPaused false) (paused-same false) L ∙ h .sum ∙ sym (held-put-alike s _ (i .key .slot) (signalled (withPaused false (s .slotOf (i .key .slot)))) (λ y. refl) refl (count-alike (s .slotOf (i .key .slot)) _ refl refl))
+move-sum L h (resumes-not s i c p) = held-same (i .key) (setPaused false) (paused-same false) L ∙ h .sum
+move-sum L h (closes-it s i c) =
+    let p = has-lane-parts s (i .key) c in
+    sum-entry L s (retireLane (i .key .slot) (withQueue (without (i .key .slot) (s .queue)) s)) (i .key) setClosed set-closed-key (retired (s .slotOf (i .key .slot))) (λ y. retire-lane-slot (i .key .slot) s _ y) (p .0) (p .1) (retire-lane-issued _ _)
+    (h .ord .each-slot (i .key .slot) .registered-issued (p .0)) (h .agrees) (h .keys) (h .sum) (closed-none _ ∙ sym (count-unregistered (retired (s .slotOf (i .key .slot))) refl))
+move-sum L h (polls-all s) = h .sum ∙ sym (held-alike s _ refl (λ y. refl))
+move-sum L h (shuts-it s) = h .sum ∙ sym (held-alike s _ refl (λ y. refl))
+move-sum L h (takes f r s y v q vs w e g) =
+    let p = poll f s in
+    let back = either f (leb 63 (p .slotOf y .burst)) in
+    let m = popped vs (unreleasedAfterOne p y) (if back 0 (p .slotOf y .burst + 1)) (p .slotOf y) in
+    let po = poll-ordered f s (h .ord) in
+    let reg = front-registered p y q e po in
+    sum-changed L p (giveItem p y q vs back) (keyOf p y) removeOldest remove-oldest-key m (give-item-slot p y q vs back) reg refl (give-item-issued p y q vs back) (po .each-slot y .registered-issued reg)
+    (agrees-quiet L s p (poll-quiet f s) (h .agrees)) (keys-on L L (λ k. refl) (grows-quiet s p (poll-quiet f s)) (h .keys)) (h .sum ∙ sym (held-quiet s p (poll-quiet f s))) reg refl
+    (move-agrees L (h .ord) (h .agrees) (takes f r s y v q vs w e g))
+move-sum L h (stops f r s u a w e q k n) = noted-sum L _ s u (n L) (held-quiet s u (trans (poll-quiet f s) q)) (h .sum)
+move-sum L h (aims s i v vs c g) =
+    let x = i .key .slot in
+    let p = has-lane-parts s (i .key) c in
+    let m = popped vs (unreleasedAfterOne s x) (s .slotOf x .burst) (s .slotOf x) in
+    let t = put x m s in
+    let u = queueLaneIf (mayQueue s x) x t in
+    let b = queue-lane-parts (mayQueue s x) x t in
+    let at-x : t .slotOf x ≡ m = rw (self x) in
+    sum-changed L s u (keyOf s x) removeOldest remove-oldest-key (u .slotOf x) (λ y. queue-lane-slot (mayQueue s x) x t y ∙ again-put x m s (u .slotOf x) y) (p .0) refl (queue-lane-more (mayQueue s x) x t .3)
+    (h .ord .each-slot x .registered-issued (p .0)) (h .agrees) (h .keys) (h .sum) (b .0 ∙ ap (λ (l : Slot). l .registered) at-x ∙ p .0) (b .1 ∙ ap (λ (l : Slot). l .generation) at-x)
+    (move-agrees L (h .ord) (h .agrees) (aims s i v vs c g))
+move-sum L h (aims-none s i a c g n) = noted-sum L _ s _ (n .noted L) (held-quiet s _ (settle-empty-quiet (i .key .slot) (without (i .key .slot) (s .queue)) s g)) (h .sum)
+
+chain-tallied : (L : Ledger) {s u : State} {ts : List Tick} → Chain s ts u → Tallied L s → Tallied (ledgerAfter L ts) u
+unfolding ledgerAfter
+chain-tallied L (stay s) h = h
+chain-tallied L (move {t = t} m c) h =
+    chain-tallied (note L t) c record { ord = move-ordered (h .ord) m; agrees = move-agrees L (h .ord) (h .agrees) m; keys = move-keys L (h .ord) (h .keys) m; sum = move-sum L h m }
+
+opened-tallied : (o : Opening) → Ordered (openedState o) → Tallied atOpening (openedState o)
+unfolding atOpening openedState heldByLanes heldOf from total times
+opened-tallied o h = record { ord = h; agrees = opened-agrees o; keys = record { once = λ k. omega arith; known = λ k n. absurd (omega arith) }; sum = refl }
+
+-- a call to count what is held, in the ticks of a run
+isCount : Tick → Bool
+isCount (gives r k v) = false
+isCount (ends (Control CountHeld) a) = true
+isCount (ends (Control (Pause i)) a) = false
+isCount (ends (Control (Resume i)) a) = false
+isCount (ends (Control (CloseLane i)) a) = false
+isCount (ends (Control ReleaseConsumed) a) = false
+isCount (ends (Control PollAllLanes) a) = false
+isCount (ends (Control CloseReceiver) a) = false
+isCount (ends (Sender c) a) = false
+isCount (ends (Receive r) a) = false
+
+-- it stands among the first ones, or after them
+data Split (ts us before : List Tick) (x : Tick) (rest : List Tick) : Type 0 where
+  later : (more : List Tick) → before ≡ ts ++ more → us ≡ more ++ (x ∷ rest) → Split ts us before x rest
+  within : (more : List Tick) → ts ≡ before ++ (x ∷ more) → Split ts us before x rest
+
+split : (ts us before : List Tick) (x : Tick) (rest : List Tick) → ts ++ us ≡ before ++ (x ∷ rest) → Split ts us before x rest
+split [] us before x rest e = later before refl e
+split (t ∷ ts) us [] x rest e = let h : t ≡ x = cc in within ts (ap (λ (y : Tick). y ∷ ts) h)
+split (t ∷ ts) us (b ∷ before) x rest e = let h : t ≡ b = cc in go h (split ts us before x rest (ap tail e))
+  where
+    go : t ≡ b → Split ts us before x rest → Split (t ∷ ts) us (b ∷ before) x rest
+    go h (later more p q) = later more (λ i. sym h i ∷ p i) q
+    go h (within more p) = within more (λ i. h i ∷ p i)
+
+not-there : (before : List Tick) (x : Tick) (more : List Tick) → [] ≡ before ++ (x ∷ more) → ⊥
+not-there [] x more e = let z : _≡_ {A = ℕ} 0 1 = cc in omega arith
+not-there (b ∷ before) x more e = let z : _≡_ {A = ℕ} 0 1 = cc in omega arith
+
+none-counts : (ts before : List Tick) (x : Tick) (more : List Tick) → countTicks isCount ts ≡ 0 → isCount x ≡ true → ts ≡ before ++ (x ∷ more) → ⊥
+unfolding countTicks
+none-counts ts before x more z c e = omega (arith, ap (countTicks isCount) e, at-least before)
+  where
+    at-least : (l : List Tick) → 1 ≤ countTicks isCount (l ++ (x ∷ more))
+    at-least [] = rw c (omega arith)
+    at-least (t ∷ l) = omega (arith, at-least l)
+
+receive-counts : (s : State) (r : ReceiveCall) → countTicks isCount (ticks theRules s (Receive r)) ≡ 0
+unfolding ticks handed countTicks isCount
+receive-counts s r = go (theRules .hands s r)
+  where
+    go : (l : List (LaneKey × ℕ)) → countTicks isCount (map (λ g. gives r (g .0) (g .1)) l ++ (ends (Receive r) ((theRules .step s (Receive r)) .0) ∷ [])) ≡ 0
+    go [] = refl
+    go (g ∷ l) = omega (arith, go l)
+
+held-within : (L : Ledger) (s : State) (c : Call) → Tallied L s → (before more : List Tick) (a : Answer) → ticks theRules s c ≡ before ++ (ends (Control CountHeld) a ∷ more) → a ≡ Held (heldByLanes ((ledgerAfter L before) .lanes))
+unfolding ticks handed countTicks isCount ledgerAfter
+held-within L s (Sender c) h before more a e = absurd (none-counts _ before (ends (Control CountHeld) a) more refl refl e)
+held-within L s (Receive r) h before more a e = absurd (none-counts _ before (ends (Control CountHeld) a) more (receive-counts s r) refl e)
+held-within L s (Control (Pause i)) h before more a e = absurd (none-counts _ before (ends (Control CountHeld) a) more refl refl e)
+held-within L s (Control (Resume i)) h before more a e = absurd (none-counts _ before (ends (Control CountHeld) a) more refl refl e)
+held-within L s (Control (CloseLane i)) h before more a e = absurd (none-counts _ before (ends (Control CountHeld) a) more refl refl e)
+held-within L s (Control ReleaseConsumed) h before more a e = absurd (none-counts _ before (ends (Control CountHeld) a) more refl refl e)
+held-within L s (Control PollAllLanes) h before more a e = absurd (none-counts _ before (ends (Control CountHeld) a) more refl refl e)
+held-within L s (Control CloseReceiver) h before more a e = absurd (none-counts _ before (ends (Control CountHeld) a) more refl refl e)
+held-within L s (Control CountHeld) h [] more a e = let w : a ≡ (outcome s (Control CountHeld)) .1 .0 = cc in w ∙ held-answer s ∙ ap Held (sym (h .sum))
+held-within L s (Control CountHeld) h (b ∷ before) more a e = absurd (not-there before (ends (Control CountHeld) a) more (ap tail e))
+
+after-append : (L : Ledger) (a b : List Tick) → ledgerAfter L (a ++ b) ≡ ledgerAfter (ledgerAfter L a) b
+unfolding ledgerAfter
+after-append L [] b = refl
+after-append L (t ∷ a) b = after-append (note L t) a b
+
+held-at : (calls : List Call) (L : Ledger) (s : State) → Tallied L s → (before rest : List Tick) (a : Answer) → trace theRules s calls ≡ before ++ (ends (Control CountHeld) a ∷ rest) → a ≡ Held (heldByLanes ((ledgerAfter L before) .lanes))
+unfolding trace
+held-at [] L s h before rest a e = absurd (not-there before (ends (Control CountHeld) a) rest e)
+held-at (c ∷ cs) L s h before rest a e = go (split (ticks theRules s c) _ before (ends (Control CountHeld) a) rest e) (λ b. held-at cs (ledgerAfter L (ticks theRules s c)) ((outcome s c) .1 .1) (chain-tallied L (call-chain s c) h) b rest a)
+  where
+    go : Split (ticks theRules s c) (trace theRules ((outcome s c) .1 .1) cs) before (ends (Control CountHeld) a) rest
+        → ((b : List Tick) → trace theRules ((outcome s c) .1 .1) cs ≡ b ++ (ends (Control CountHeld) a ∷ rest) → a ≡ Held (heldByLanes ((ledgerAfter (ledgerAfter L (ticks theRules s c)) b) .lanes)))
+        → a ≡ Held (heldByLanes ((ledgerAfter L before) .lanes))
+    go (later more p q) ih = ih more q ∙ ap (λ (M : Ledger). Held (heldByLanes (M .lanes))) (sym (ap (ledgerAfter L) p ∙ after-append L (ticks theRules s c) more))
+    go (within more p) ih = held-within L s c h before more a p
+
+pub held-as-counted : HeldAsCounted theRules
+unfolding HeldAsCounted HeldAsCountedIn
+held-as-counted o lent d calls t before rest a e =
+    held-at calls atOpening ((openingOutcome o lent) .1 .1) (rw (opens-as o lent) (opened-tallied o (opened-ordered o lent d))) before rest a e
