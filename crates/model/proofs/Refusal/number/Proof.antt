@@ -2,7 +2,6 @@
 -- Assumes nothing.
 use mathlib.Core.Path.{sym, ap}
 use Rattle.model.specs.Answers.{number}
-use borrow.Author.Needs.{needs}
 use Rattle.model.proofs.Refusal.number.Statement.{statement}
 use Rattle.model.proofs.Refusal.number.Tie as tie
 
@@ -11,21 +10,21 @@ unfolding number
 number-spec =
     tie.close
     (tie.spec
-    (λ c. search needs)
-    (λ c. search needs)
-    (λ c. search needs)
-    (λ c. search needs)
-    (λ c. search needs)
-    (λ c. search needs)
-    (λ c. search needs)
-    (λ c. search needs)
-    (λ c. search needs)
-    (λ c. search needs)
-    (λ c. search needs)
-    (λ c. search needs)
-    (λ c. search needs)
-    (λ c. search needs)
-    (λ c. search needs)
+    (λ c. c .match .keys1)
+    (λ c. c .match .keys2)
+    (λ c. c .match .keys3)
+    (λ c. c .match .keys4)
+    (λ c. c .match .keys5)
+    (λ c. c .match .keys6)
+    (λ c. c .match .keys7)
+    (λ c. c .match .keys8)
+    (λ c. c .match .keys9)
+    (λ c. c .match .keys10)
+    (λ c. c .match .keys11)
+    (λ c. c .match .keys12)
+    (λ c. c .match .keys13)
+    (λ c. c .match .keys14)
+    (λ c. c .match .keys15)
     (λ c. sym (ap number (c .enum-told .given .1)))
     (λ c. sym (ap number (c .enum-told2 .given .1)))
     (λ c. sym (ap number (c .enum-told3 .given .1)))
