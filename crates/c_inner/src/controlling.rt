@@ -4,7 +4,6 @@ ghost use Rattle.store.specs.Order.{StoreInOrder};
 ghost use Rattle.control.specs.Control.{pause, resume, closeLane, closeReceiver};
 ghost use Rattle.all_lanes.specs.AllLanes.{releaseConsumed, pollAllLanes, countHeld};
 ghost use Rattle.c_answer.specs.Answer.{told};
-use all_lanes::all_lanes;
 use c_answer::answer;
 use control::lane_control;
 use model::LaneId;
@@ -101,7 +100,7 @@ pub extern "C" fn fanring_inner_release_consumed(
     requires { ⌜ StoreInOrder (now table) (now rings) ⌝ }
     ensures { λ a. ⌜ (a, now (words .exit), now (table .exit), now (rings .entry)) ≡ told (now (words .entry)) (releaseConsumed (now (table .entry)) (now (rings .entry))) ⌝ }
 {
-    let done = all_lanes::release_consumed(table, rings);
+    let done = all_lanes::all_lanes::release_consumed(table, rings);
     answer::tell(done, words)
 }
 
@@ -115,7 +114,7 @@ pub extern "C" fn fanring_inner_poll_all_lanes(
     requires { ⌜ StoreInOrder (now table) (now rings) ⌝ }
     ensures { λ a. ⌜ (a, now (words .exit), now (table .exit), now (rings .entry)) ≡ told (now (words .entry)) (pollAllLanes (now (table .entry)) (now (rings .entry))) ⌝ }
 {
-    let done = all_lanes::poll_all_lanes(table, rings);
+    let done = all_lanes::all_lanes::poll_all_lanes(table, rings);
     answer::tell(done, words)
 }
 
@@ -139,6 +138,6 @@ pub extern "C" fn fanring_inner_held(table: &[u64], rings: &[u64], words: &mut [
     requires { ⌜ StoreInOrder (now table) (now rings) ⌝ }
     ensures { λ a. ⌜ (a, now (words .exit), now (table .entry), now (rings .entry)) ≡ told (now (words .entry)) (countHeld (now (table .entry)) (now (rings .entry))) ⌝ }
 {
-    let done = all_lanes::held(table, rings);
+    let done = all_lanes::all_lanes::held(table, rings);
     answer::tell(done, words)
 }
