@@ -5,7 +5,6 @@ ghost use lib.ListN.{set};
 use model::Answer;
 use model::LaneId;
 use model::LaneKey;
-use wire::line;
 
 fn put_key(words: &mut [u64; 4], key: LaneKey) -> u64
     ensures { λ r. ⌜ r ≡ 1 ⌝ }
@@ -50,6 +49,6 @@ pub fn tell(answer: Answer, words: &mut [u64; 4]) -> u64
         Answer::Empty => 5,
         Answer::Disconnected => 6,
         Answer::Held { count } => put_one(words, count, 7),
-        Answer::Refused { why } => put_one(words, line::number_of(why), 8),
+        Answer::Refused { why } => put_one(words, why.number(), 8),
     }
 }
