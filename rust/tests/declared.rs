@@ -1,5 +1,5 @@
-//! The functions that this crate declares are those of include/fanring.h, parameter by parameter. tests/header of the
-//! repository holds that file to crates `cfanring` and `cinner`.
+//! The functions that this crate declares are those of include/fanring.h, parameter by parameter, and it lends as many
+//! words for an answer. tests/header of the repository holds that file to crates `c_checked` and `c_inner`.
 
 use std::collections::BTreeMap;
 use std::fs;
@@ -28,9 +28,10 @@ fn items(parameters: &str) -> Vec<String> {
 /// A parameter of C as Rust has it.
 fn in_rust(parameter: &str) -> String {
     let (kind, name) = parameter.rsplit_once(' ').expect("a type and a name");
-    match (kind, name.strip_prefix('*'), name.strip_suffix("[4]")) {
+    match (kind, name.strip_prefix('*'), name.strip_suffix("[FANRING_WORDS]")) {
         ("const uint64_t", Some(name), None) => format!("{name}: *const u64"),
-        ("uint64_t", Some(name), None) | ("uint64_t", None, Some(name)) => format!("{name}: *mut u64"),
+        ("uint64_t", Some(name), None) => format!("{name}: *mut u64"),
+        ("uint64_t", None, Some(name)) => format!("{name}: *mut Words"),
         ("uint64_t", None, None) => format!("{name}: u64"),
         ("size_t", None, None) => format!("{name}: usize"),
         _ => panic!("no such parameter: {parameter}"),
@@ -47,4 +48,15 @@ fn as_in_the_header() {
         let expected: Vec<String> = header[&name].iter().map(|parameter| in_rust(parameter)).collect();
         assert_eq!(parameters, expected, "of {name}");
     }
+}
+
+#[test]
+fn as_many_words() {
+    let lent = |path: &str, before: &str, after: &str| {
+        let text = read(path);
+        let (_, rest) = text.split_once(before).expect("the number is there");
+        rest.split_once(after).expect("it ends").0.to_string()
+    };
+    let header = lent("../include/fanring.h", "#define FANRING_WORDS ", "\n");
+    assert_eq!(lent("src/calls/library.rs", "type Words = [u64; ", "]"), header);
 }

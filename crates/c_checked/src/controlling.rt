@@ -19,7 +19,7 @@ pub extern "C" fn fanring_pause(
     channel: u64,
     slot: u64,
     generation: u64,
-    words: &mut [u64; 4],
+    words: &mut [u64; 8],
 ) -> u64
     ensures { λ a. ⌜ (a, now (words .exit), now (table .exit), now (rings .entry)) ≡ told (now (words .entry)) (checkedWords (now (table .entry)) (now (rings .entry)) (Control (Pause (record { channel = channel; key = record { slot = slot; generation = generation } })))) ⌝ }
 {
@@ -45,7 +45,7 @@ pub extern "C" fn fanring_resume(
     channel: u64,
     slot: u64,
     generation: u64,
-    words: &mut [u64; 4],
+    words: &mut [u64; 8],
 ) -> u64
     ensures { λ a. ⌜ (a, now (words .exit), now (table .exit), now (rings .entry)) ≡ told (now (words .entry)) (checkedWords (now (table .entry)) (now (rings .entry)) (Control (Resume (record { channel = channel; key = record { slot = slot; generation = generation } })))) ⌝ }
 {
@@ -71,7 +71,7 @@ pub extern "C" fn fanring_close_lane(
     channel: u64,
     slot: u64,
     generation: u64,
-    words: &mut [u64; 4],
+    words: &mut [u64; 8],
 ) -> u64
     ensures { λ a. ⌜ (a, now (words .exit), now (table .exit), now (rings .entry)) ≡ told (now (words .entry)) (checkedWords (now (table .entry)) (now (rings .entry)) (Control (CloseLane (record { channel = channel; key = record { slot = slot; generation = generation } })))) ⌝ }
 {
@@ -94,7 +94,7 @@ pub extern "C" fn fanring_close_lane(
 pub extern "C" fn fanring_release_consumed(
     table: &mut [u64],
     rings: &[u64],
-    words: &mut [u64; 4],
+    words: &mut [u64; 8],
 ) -> u64
     ensures { λ a. ⌜ (a, now (words .exit), now (table .exit), now (rings .entry)) ≡ told (now (words .entry)) (checkedWords (now (table .entry)) (now (rings .entry)) (Control ReleaseConsumed)) ⌝ }
 {
@@ -107,7 +107,7 @@ pub extern "C" fn fanring_release_consumed(
 pub extern "C" fn fanring_poll_all_lanes(
     table: &mut [u64],
     rings: &[u64],
-    words: &mut [u64; 4],
+    words: &mut [u64; 8],
 ) -> u64
     ensures { λ a. ⌜ (a, now (words .exit), now (table .exit), now (rings .entry)) ≡ told (now (words .entry)) (checkedWords (now (table .entry)) (now (rings .entry)) (Control PollAllLanes)) ⌝ }
 {
@@ -120,7 +120,7 @@ pub extern "C" fn fanring_poll_all_lanes(
 pub extern "C" fn fanring_close_receiver(
     table: &mut [u64],
     rings: &[u64],
-    words: &mut [u64; 4],
+    words: &mut [u64; 8],
 ) -> u64
     ensures { λ a. ⌜ (a, now (words .exit), now (table .exit), now (rings .entry)) ≡ told (now (words .entry)) (checkedWords (now (table .entry)) (now (rings .entry)) (Control CloseReceiver)) ⌝ }
 {
@@ -130,7 +130,7 @@ pub extern "C" fn fanring_close_receiver(
 
 // The number of items in rings of registered lanes.
 #[no_mangle]
-pub extern "C" fn fanring_held(table: &[u64], rings: &[u64], words: &mut [u64; 4]) -> u64
+pub extern "C" fn fanring_held(table: &[u64], rings: &[u64], words: &mut [u64; 8]) -> u64
     ensures { λ a. ⌜ (a, now (words .exit), now (table .entry), now (rings .entry)) ≡ told (now (words .entry)) (checkedWords (now (table .entry)) (now (rings .entry)) (Control CountHeld)) ⌝ }
 {
     let done = recv::held(table, rings);

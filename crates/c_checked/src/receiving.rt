@@ -15,7 +15,7 @@ use model::LaneKey;
 
 // Receives one item.
 #[no_mangle]
-pub extern "C" fn fanring_try_recv(table: &mut [u64], rings: &[u64], words: &mut [u64; 4]) -> u64
+pub extern "C" fn fanring_try_recv(table: &mut [u64], rings: &[u64], words: &mut [u64; 8]) -> u64
     ensures { λ a. ⌜ (a, now (words .exit), now (table .exit), now (rings .entry)) ≡ told (now (words .entry)) (checkedWords (now (table .entry)) (now (rings .entry)) (Receive TryRecv)) ⌝ }
 {
     let done = recv::try_recv(table, rings);
@@ -27,7 +27,7 @@ pub extern "C" fn fanring_try_recv(table: &mut [u64], rings: &[u64], words: &mut
 pub extern "C" fn fanring_try_recv_fair(
     table: &mut [u64],
     rings: &[u64],
-    words: &mut [u64; 4],
+    words: &mut [u64; 8],
 ) -> u64
     ensures { λ a. ⌜ (a, now (words .exit), now (table .exit), now (rings .entry)) ≡ told (now (words .entry)) (checkedWords (now (table .entry)) (now (rings .entry)) (Receive TryRecvFair)) ⌝ }
 {
@@ -43,7 +43,7 @@ pub extern "C" fn fanring_try_recv_from(
     channel: u64,
     slot: u64,
     generation: u64,
-    words: &mut [u64; 4],
+    words: &mut [u64; 8],
 ) -> u64
     ensures { λ a. ⌜ (a, now (words .exit), now (table .exit), now (rings .entry)) ≡ told (now (words .entry)) (checkedWords (now (table .entry)) (now (rings .entry)) (Receive (TryRecvFrom (record { channel = channel; key = record { slot = slot; generation = generation } })))) ⌝ }
 {
@@ -68,7 +68,7 @@ pub extern "C" fn fanring_try_recv_batch_into(
     rings: &[u64],
     out: &mut [u64],
     limit: u64,
-    words: &mut [u64; 4],
+    words: &mut [u64; 8],
 ) -> u64
     ensures { λ a. ⌜ (a, now (words .exit), now (table .exit), now (rings .entry), now (out .exit)) ≡ toldInto (now (words .entry)) (checkedInto (now (table .entry)) (now (rings .entry)) (now (out .entry)) (batchInto (now (table .entry)) (now (rings .entry)) (now (out .entry)) limit)) ⌝ }
 {

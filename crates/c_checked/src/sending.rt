@@ -21,7 +21,7 @@ pub extern "C" fn fanring_open(
     channel: u64,
     cursor: u64,
     generation: u64,
-    words: &mut [u64; 4],
+    words: &mut [u64; 8],
 ) -> u64
     ensures { λ a. ⌜ (a, now (words .exit), now (table .exit), now (rings .entry)) ≡ told (now (words .entry)) (openStore (record { capacity = capacity; slots = slots; channel = channel; cursor = cursor; generation = generation }) (now (table .entry)) (now (rings .entry))) ⌝ }
 {
@@ -45,7 +45,7 @@ pub extern "C" fn fanring_register_sender(
     table: &mut [u64],
     rings: &[u64],
     most: u64,
-    words: &mut [u64; 4],
+    words: &mut [u64; 8],
 ) -> u64
     ensures { λ a. ⌜ (a, now (words .exit), now (table .exit), now (rings .entry)) ≡ told (now (words .entry)) (checkedWords (now (table .entry)) (now (rings .entry)) (Sender (RegisterSender most))) ⌝ }
 {
@@ -61,7 +61,7 @@ pub extern "C" fn fanring_try_send(
     slot: u64,
     generation: u64,
     item: u64,
-    words: &mut [u64; 4],
+    words: &mut [u64; 8],
 ) -> u64
     ensures { λ a. ⌜ (a, now (words .exit), now (table .exit), now (rings .exit)) ≡ told (now (words .entry)) (checkedWords (now (table .entry)) (now (rings .entry)) (Sender (TrySend (record { slot = slot; generation = generation }) item))) ⌝ }
 {
@@ -85,7 +85,7 @@ pub extern "C" fn fanring_try_send_unsignaled(
     slot: u64,
     generation: u64,
     item: u64,
-    words: &mut [u64; 4],
+    words: &mut [u64; 8],
 ) -> u64
     ensures { λ a. ⌜ (a, now (words .exit), now (table .exit), now (rings .exit)) ≡ told (now (words .entry)) (checkedWords (now (table .entry)) (now (rings .entry)) (Sender (TrySendUnsignaled (record { slot = slot; generation = generation }) item))) ⌝ }
 {
@@ -108,7 +108,7 @@ pub extern "C" fn fanring_drop_sender(
     rings: &[u64],
     slot: u64,
     generation: u64,
-    words: &mut [u64; 4],
+    words: &mut [u64; 8],
 ) -> u64
     ensures { λ a. ⌜ (a, now (words .exit), now (table .exit), now (rings .entry)) ≡ told (now (words .entry)) (checkedWords (now (table .entry)) (now (rings .entry)) (Sender (DropSender (record { slot = slot; generation = generation })))) ⌝ }
 {

@@ -18,7 +18,7 @@ pub extern "C" fn fanring_inner_pause(
     channel: u64,
     slot: u64,
     generation: u64,
-    words: &mut [u64; 4],
+    words: &mut [u64; 8],
 ) -> u64
     requires { ⌜ StoreInOrder (now table) (now rings) ⌝ }
     ensures { λ a. ⌜ (a, now (words .exit), now (table .exit), now (rings .entry)) ≡ told (now (words .entry)) (pause (now (table .entry)) (now (rings .entry)) (record { channel = channel; key = record { slot = slot; generation = generation } })) ⌝ }
@@ -45,7 +45,7 @@ pub extern "C" fn fanring_inner_resume(
     channel: u64,
     slot: u64,
     generation: u64,
-    words: &mut [u64; 4],
+    words: &mut [u64; 8],
 ) -> u64
     requires { ⌜ StoreInOrder (now table) (now rings) ⌝ }
     ensures { λ a. ⌜ (a, now (words .exit), now (table .exit), now (rings .entry)) ≡ told (now (words .entry)) (resume (now (table .entry)) (now (rings .entry)) (record { channel = channel; key = record { slot = slot; generation = generation } })) ⌝ }
@@ -72,7 +72,7 @@ pub extern "C" fn fanring_inner_close_lane(
     channel: u64,
     slot: u64,
     generation: u64,
-    words: &mut [u64; 4],
+    words: &mut [u64; 8],
 ) -> u64
     requires { ⌜ StoreInOrder (now table) (now rings) ⌝ }
     ensures { λ a. ⌜ (a, now (words .exit), now (table .exit), now (rings .entry)) ≡ told (now (words .entry)) (closeLane (now (table .entry)) (now (rings .entry)) (record { channel = channel; key = record { slot = slot; generation = generation } })) ⌝ }
@@ -96,7 +96,7 @@ pub extern "C" fn fanring_inner_close_lane(
 pub extern "C" fn fanring_inner_release_consumed(
     table: &mut [u64],
     rings: &[u64],
-    words: &mut [u64; 4],
+    words: &mut [u64; 8],
 ) -> u64
     requires { ⌜ StoreInOrder (now table) (now rings) ⌝ }
     ensures { λ a. ⌜ (a, now (words .exit), now (table .exit), now (rings .entry)) ≡ told (now (words .entry)) (releaseConsumed (now (table .entry)) (now (rings .entry))) ⌝ }
@@ -110,7 +110,7 @@ pub extern "C" fn fanring_inner_release_consumed(
 pub extern "C" fn fanring_inner_poll_all_lanes(
     table: &mut [u64],
     rings: &[u64],
-    words: &mut [u64; 4],
+    words: &mut [u64; 8],
 ) -> u64
     requires { ⌜ StoreInOrder (now table) (now rings) ⌝ }
     ensures { λ a. ⌜ (a, now (words .exit), now (table .exit), now (rings .entry)) ≡ told (now (words .entry)) (pollAllLanes (now (table .entry)) (now (rings .entry))) ⌝ }
@@ -124,7 +124,7 @@ pub extern "C" fn fanring_inner_poll_all_lanes(
 pub extern "C" fn fanring_inner_close_receiver(
     table: &mut [u64],
     rings: &[u64],
-    words: &mut [u64; 4],
+    words: &mut [u64; 8],
 ) -> u64
     requires { ⌜ StoreInOrder (now table) (now rings) ⌝ }
     ensures { λ a. ⌜ (a, now (words .exit), now (table .exit), now (rings .entry)) ≡ told (now (words .entry)) (closeReceiver (now (table .entry)) (now (rings .entry))) ⌝ }
@@ -135,7 +135,7 @@ pub extern "C" fn fanring_inner_close_receiver(
 
 // The number of items in rings of registered lanes.
 #[no_mangle]
-pub extern "C" fn fanring_inner_held(table: &[u64], rings: &[u64], words: &mut [u64; 4]) -> u64
+pub extern "C" fn fanring_inner_held(table: &[u64], rings: &[u64], words: &mut [u64; 8]) -> u64
     requires { ⌜ StoreInOrder (now table) (now rings) ⌝ }
     ensures { λ a. ⌜ (a, now (words .exit), now (table .entry), now (rings .entry)) ≡ told (now (words .entry)) (countHeld (now (table .entry)) (now (rings .entry))) ⌝ }
 {

@@ -17,7 +17,7 @@ use receive_from::target;
 pub extern "C" fn fanring_inner_try_recv(
     table: &mut [u64],
     rings: &[u64],
-    words: &mut [u64; 4],
+    words: &mut [u64; 8],
 ) -> u64
     requires { ⌜ StoreInOrder (now table) (now rings) ⌝ }
     ensures { λ a. ⌜ (a, now (words .exit), now (table .exit), now (rings .entry)) ≡ told (now (words .entry)) (tryRecv (now (table .entry)) (now (rings .entry))) ⌝ }
@@ -31,7 +31,7 @@ pub extern "C" fn fanring_inner_try_recv(
 pub extern "C" fn fanring_inner_try_recv_fair(
     table: &mut [u64],
     rings: &[u64],
-    words: &mut [u64; 4],
+    words: &mut [u64; 8],
 ) -> u64
     requires { ⌜ StoreInOrder (now table) (now rings) ⌝ }
     ensures { λ a. ⌜ (a, now (words .exit), now (table .exit), now (rings .entry)) ≡ told (now (words .entry)) (tryRecvFair (now (table .entry)) (now (rings .entry))) ⌝ }
@@ -48,7 +48,7 @@ pub extern "C" fn fanring_inner_try_recv_from(
     channel: u64,
     slot: u64,
     generation: u64,
-    words: &mut [u64; 4],
+    words: &mut [u64; 8],
 ) -> u64
     requires { ⌜ StoreInOrder (now table) (now rings) ⌝ }
     ensures { λ a. ⌜ (a, now (words .exit), now (table .exit), now (rings .entry)) ≡ told (now (words .entry)) (tryRecvFrom (now (table .entry)) (now (rings .entry)) (record { channel = channel; key = record { slot = slot; generation = generation } })) ⌝ }
@@ -74,7 +74,7 @@ pub extern "C" fn fanring_inner_try_recv_batch_into(
     rings: &[u64],
     out: &mut [u64],
     limit: u64,
-    words: &mut [u64; 4],
+    words: &mut [u64; 8],
 ) -> u64
     requires { ⌜ StoreInOrder (now table) (now rings) ⌝ }
     ensures { λ a. ⌜ (a, now (words .exit), now (table .exit), now (rings .entry), now (out .exit)) ≡ toldInto (now (words .entry)) (batchInto (now (table .entry)) (now (rings .entry)) (now (out .entry)) limit) ⌝ }

@@ -13,7 +13,7 @@ pub extern "C" fn fanring_inner_register_sender(
     table: &mut [u64],
     rings: &[u64],
     most: u64,
-    words: &mut [u64; 4],
+    words: &mut [u64; 8],
 ) -> u64
     requires { ⌜ StoreInOrder (now table) (now rings) ⌝ }
     ensures { λ a. ⌜ (a, now (words .exit), now (table .exit), now (rings .entry)) ≡ told (now (words .entry)) (registerSender (now (table .entry)) (now (rings .entry)) most) ⌝ }
@@ -30,7 +30,7 @@ pub extern "C" fn fanring_inner_try_send(
     slot: u64,
     generation: u64,
     item: u64,
-    words: &mut [u64; 4],
+    words: &mut [u64; 8],
 ) -> u64
     requires { ⌜ StoreInOrder (now table) (now rings) ⌝ }
     ensures { λ a. ⌜ (a, now (words .exit), now (table .exit), now (rings .exit)) ≡ told (now (words .entry)) (trySend (now (table .entry)) (now (rings .entry)) (record { slot = slot; generation = generation }) item) ⌝ }
@@ -55,7 +55,7 @@ pub extern "C" fn fanring_inner_try_send_unsignaled(
     slot: u64,
     generation: u64,
     item: u64,
-    words: &mut [u64; 4],
+    words: &mut [u64; 8],
 ) -> u64
     requires { ⌜ StoreInOrder (now table) (now rings) ⌝ }
     ensures { λ a. ⌜ (a, now (words .exit), now (table .exit), now (rings .exit)) ≡ told (now (words .entry)) (trySendUnsignaled (now (table .entry)) (now (rings .entry)) (record { slot = slot; generation = generation }) item) ⌝ }
@@ -79,7 +79,7 @@ pub extern "C" fn fanring_inner_drop_sender(
     rings: &[u64],
     slot: u64,
     generation: u64,
-    words: &mut [u64; 4],
+    words: &mut [u64; 8],
 ) -> u64
     requires { ⌜ StoreInOrder (now table) (now rings) ⌝ }
     ensures { λ a. ⌜ (a, now (words .exit), now (table .exit), now (rings .entry)) ≡ told (now (words .entry)) (dropSender (now (table .entry)) (now (rings .entry)) (record { slot = slot; generation = generation })) ⌝ }
