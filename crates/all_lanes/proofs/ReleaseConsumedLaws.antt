@@ -15,7 +15,7 @@ use Rattle.model.specs.Outcome.{says}
 use Rattle.model.specs.Receive as receives
 use Rattle.model.specs.Control as rules
 use Rattle.demands.proofs.Counting.{equal, other, same?}
-use Rattle.demands.proofs.Words.{state-path}
+use Rattle.demands.proofs.Simulation.{state-path}
 use Rattle.lane.specs.declared.lane.Lane.{Lane}
 use Rattle.lane.specs.Lane.{releasePending}
 use Rattle.lane.specs.Table.{laneAt, putLane}

@@ -16,7 +16,7 @@ use Rattle.model.specs.Changes.{put, newLane, signalled, pushed, senderDropped,
 use Rattle.model.specs.Turn.{retireLane, unreleasedAfterOne, giveItem}
 use Rattle.model.specs.Runs.{Tick}
 use Rattle.model.specs.Receive.{queueLaneIf}
-use Rattle.model.specs.Opening.{doubledUntil, opened}
+use Rattle.model.specs.Opening.{doubledUntil, openedState}
 use Rattle.model.specs.Order.{LaneFits, RingsFit}
 use Rattle.demands.proofs.Counting.{no, Same, equal, other, same?, self}
 use Rattle.demands.proofs.Quiet.{Quiet, stays, goes, Quietly, trans, poll, poll-quiet, release-all-quiet, settle-empty-quiet}
@@ -138,8 +138,8 @@ doubled-pos (suc n) p c h = go (leb c p) (doubled-pos n (p + p) c (omega arith))
     go true k = h
     go false k = k
 
-pub opened-rings-fit : (o : Opening) → RingsFit (opened o)
-unfolding opened vacant
+pub opened-rings-fit : (o : Opening) → RingsFit (openedState o)
+unfolding openedState vacant
 opened-rings-fit o =
     let c = doubled-pos 16 1 (o .capacity) (omega arith) in
     record { positive = c; each-fits = λ y h. record { inside = omega (arith, c); below-batch = omega (arith, batch-pos (doubledUntil 16 1 (o .capacity)) c) } }

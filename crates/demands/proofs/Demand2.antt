@@ -25,7 +25,7 @@ use Rattle.model.specs.Turn.{retireLane, unreleasedAfterOne, giveItem}
 use Rattle.model.specs.Outcome.{unless, says}
 use Rattle.model.specs.Runs.{sameKey, accepted, Tick, gives, ends, trace, countTicks, Lent}
 use Rattle.model.specs.Receive.{queueLaneIf}
-use Rattle.model.specs.Opening.{opened, openingOutcome}
+use Rattle.model.specs.Opening.{openedState, openingOutcome}
 use Rattle.model.specs.Rules.{theRules}
 use Rattle.model.specs.Order.{Ordered}
 use Rattle.model.specs.Demand2.{outOf, into, shuts, values, Demand2In, Demand2}
@@ -231,16 +231,16 @@ unless-state (c ∷ cs) s r = go (c .0) (unless-state cs s r)
     go true h = refl
     go false h = h
 
-pub opens-as : (o : Opening) (lent : Lent) → (openingOutcome o lent) .1 .1 ≡ opened o
+pub opens-as : (o : Opening) (lent : Lent) → (openingOutcome o lent) .1 .1 ≡ openedState o
 unfolding openingOutcome
-opens-as o lent = unless-state _ (opened o) Done
+opens-as o lent = unless-state _ (openedState o) Done
 
 pub demand2 : Demand2 theRules ringOf
-unfolding Demand2 Demand2In opened vacant
+unfolding Demand2 Demand2In openedState vacant
 demand2 o lent a calls t k z =
     let s = (openingOutcome o lent) .1 .1 in
     let c = chain-kept k (trace-chain s calls) (rw (opens-as o lent) (opened-ordered o lent a)) z in
-    c ∙ ap (λ (l : List ℕ). l ++ values (into k) (trace theRules s calls)) (ap (λ (t : State). ringOf t k) (opens-as o lent) ∙ ring-at (opened o) k ∙ ring-none ((opened o) .slotOf (k .slot)) (k .generation) (closed-slot o (k .slot)))
+    c ∙ ap (λ (l : List ℕ). l ++ values (into k) (trace theRules s calls)) (ap (λ (t : State). ringOf t k) (opens-as o lent) ∙ ring-at (openedState o) k ∙ ring-none ((openedState o) .slotOf (k .slot)) (k .generation) (closed-slot o (k .slot)))
   where
-    closed-slot : (o : Opening) (x : ℕ) → (opened o) .slotOf x .registered ≡ false
+    closed-slot : (o : Opening) (x : ℕ) → (openedState o) .slotOf x .registered ≡ false
     closed-slot o x = refl

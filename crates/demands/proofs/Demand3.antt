@@ -15,7 +15,7 @@ use Rattle.model.specs.Lists.{if}
 use Rattle.model.specs.State.{State, vacant, keyOf}
 use Rattle.model.specs.Ready.{groupsIn}
 use Rattle.model.specs.Runs.{Tick, ofLane, countTicks}
-use Rattle.model.specs.Opening.{opened, openingOutcome}
+use Rattle.model.specs.Opening.{openedState, openingOutcome}
 use Rattle.model.specs.Rules.{theRules}
 use Rattle.model.specs.Order.{Ordered}
 use Rattle.model.specs.Ledger.{Lane, Ledger, atOpening, note, ledgerAfter, anyOrdinary, waitsIn, waits}
@@ -138,8 +138,8 @@ hold-start L s K a w =
       some-item = omega (arith, some-held (f .entry .holds) (p .1), ap length (f .matches .values-same));
     }
 
-pub opened-agrees : (o : Opening) → Agrees atOpening (opened o)
-unfolding atOpening opened vacant waitsIn
+pub opened-agrees : (o : Opening) → Agrees atOpening (openedState o)
+unfolding atOpening openedState vacant waitsIn
 opened-agrees o = record { shut-same = refl; issued-same = refl; lane-of = λ y e. absurd (no e refl); is-current = λ k e. absurd (no e refl) }
 
 -- fair receives

@@ -21,9 +21,9 @@ use Rattle.model.specs.State.{Slot, State, vacant, mayQueue, registeredLanes, l
 use Rattle.model.specs.Changes.{withQueue, withFree, withIssued, put, newLane, signalled, pushed, senderDropped, popped, withPaused, credited}
 use Rattle.model.specs.Turn.{unreleasedAfterOne}
 use Rattle.model.specs.Outcome.{Outcome, says}
-use Rattle.model.specs.Runs.{Lent, accepted, ends, after}
+use Rattle.model.specs.Runs.{Lent, accepted, ends, afterList}
 use Rattle.model.specs.Receive.{retireEmptyPausedLanes, emptyOrDrained, nothingTaken, answerOne, queueLaneIf, takeFrom, releaseAll, answerItems, receiveOutcome, tryRecv, tryRecvFair, tryRecvFrom, tryRecvBatchInto}
-use Rattle.model.specs.Opening.{opened, openingOutcome}
+use Rattle.model.specs.Opening.{openedState, openingOutcome}
 use Rattle.model.specs.Rules.{outcome, theRules}
 use Rattle.model.specs.Order.{Ordered, InOrder}
 use Rattle.model.specs.Events.{Event, takeFromEvents, receiveEvents, callEvents, eventsFrom, runEvents, countEvents}
@@ -176,8 +176,8 @@ module _ (k : LaneKey) (T : Tally) where
   call-pass s (Control c) o d = no-event (control-counted k T (control-move s c) d)
   call-pass s (Receive r) o d = receive-pass s r o d
 
-calls-pass : (k : LaneKey) (T : Tally) (s : State) (calls : List Call) → InOrder s → Counted k T s → Pass k (Counted k) T (eventsFrom s calls) (after theRules s calls)
-unfolding eventsFrom after
+calls-pass : (k : LaneKey) (T : Tally) (s : State) (calls : List Call) → InOrder s → Counted k T s → Pass k (Counted k) T (eventsFrom s calls) (afterList theRules s calls)
+unfolding eventsFrom afterList
 calls-pass k T s [] i d = no-event d
 calls-pass k T s (c ∷ cs) i d = bind (call-pass k T s c (i .ordered) d) (λ U e. calls-pass k U ((outcome s c) .1 .1) cs (call-keeps-order s c i) e)
 
@@ -185,12 +185,12 @@ calls-pass k T s (c ∷ cs) i d = bind (call-pass k T s c (i .ordered) d) (λ U 
 abbrev pub zeros : Tally
 zeros = record { sinceSet = 0; sinceCollected = 0; inTurn = 0 }
 
-opened-counted : (k : LaneKey) (o : Opening) → Counted k zeros (opened o)
-unfolding opened vacant
+opened-counted : (k : LaneKey) (o : Opening) → Counted k zeros (openedState o)
+unfolding openedState vacant
 opened-counted k o = record { by-budget = refl; fewer = omega arith; turn-most = omega arith; by-burst = λ h. omega arith; known = λ h. absurd (omega arith) }
 
 pub run-pass : (k : LaneKey) (o : Opening) (lent : Lent) → (openingOutcome o lent) .1 .0 ≡ Done → (calls : List Call)
-    → Pass k (Counted k) zeros (runEvents o lent calls) (after theRules ((openingOutcome o lent) .1 .1) calls)
+    → Pass k (Counted k) zeros (runEvents o lent calls) (afterList theRules ((openingOutcome o lent) .1 .1) calls)
 unfolding runEvents tally next
 run-pass k o lent a calls =
     let c : Counted k zeros ((openingOutcome o lent) .1 .1) = rw (opens-as o lent) (opened-counted k o) in

@@ -16,7 +16,7 @@ use Rattle.model.specs.Lists.{if, from}
 use Rattle.model.specs.State.{State, registeredLanes, livingSenders}
 use Rattle.model.specs.Turn.{takeOne}
 use Rattle.model.specs.Outcome.{Outcome, says}
-use Rattle.model.specs.Receive.{retireEmptyPausedLanes, emptyOrDrained, nothingTaken, answerOne, answerItems, andMore, takeUpTo, takeFrom, written, receiveOutcome, outputAfter, tryRecv, tryRecvFair, tryRecvFrom, tryRecvBatchInto}
+use Rattle.model.specs.Receive.{retireEmptyPausedLanes, emptyOrDrained, nothingTaken, answerOne, answerItems, andMore, takeUpTo, takeFrom, writtenTo, receiveOutcome, outputAfter, tryRecv, tryRecvFair, tryRecvFrom, tryRecvBatchInto}
 use Rattle.model.specs.Rules.{outcome, theRules}
 use Rattle.model.specs.Demand2.{Tells, OutputInOrder, Writes, AsAnswered, HasRoom, HandsAsAnswered}
 use Rattle.demands.proofs.Moves.{unless-law}
@@ -74,22 +74,22 @@ after-written : (l : List (LaneKey × ℕ)) (b : List ℕ) → drop (length l) (
 after-written [] b = refl
 after-written (g ∷ l) b = after-written l b
 
-written-in-order : (l : List (LaneKey × ℕ)) (out : List ℕ) → length l ≤ length out → OutputInOrder (length l) l out (written l out)
-unfolding written
+written-in-order : (l : List (LaneKey × ℕ)) (out : List ℕ) → length l ≤ length out → OutputInOrder (length l) l out (writtenTo l out)
+unfolding writtenTo
 written-in-order l out h = record {
   first-words = first-written l (drop (length l) out);
   other-words = after-written l (drop (length l) out);
   same-length = omega (arith, length-append (map (λ g. g .1) l) (drop (length l) out), length-map l (λ g. g .1), length-drop (length l) out);
 }
 
-written-none : (out : List ℕ) → written [] out ≡ out
-unfolding written
+written-none : (out : List ℕ) → writtenTo [] out ≡ out
+unfolding writtenTo
 written-none out = refl
 
-answer-items-told : (out : List ℕ) (m : ℕ) (l : List (LaneKey × ℕ)) (s : State) → length l ≤ length out → Told out (λ l. written l out) (answerItems m l s)
+answer-items-told : (out : List ℕ) (m : ℕ) (l : List (LaneKey × ℕ)) (s : State) → length l ≤ length out → Told out (λ l. writtenTo l out) (answerItems m l s)
 unfolding Tells Writes answerItems
 answer-items-told out zero l s h = record { tells = refl; writes = written-in-order l out h }
-answer-items-told out (suc m) [] s h = nothing-taken-told out (λ l. written l out) (written-none out) s
+answer-items-told out (suc m) [] s h = nothing-taken-told out (λ l. writtenTo l out) (written-none out) s
 answer-items-told out (suc m) (g ∷ l) s h = record { tells = refl; writes = written-in-order (g ∷ l) out h }
 
 pub hands-as-answered : HandsAsAnswered theRules
@@ -98,5 +98,5 @@ hands-as-answered s TryRecv out h = unless-law (Told out (λ l. out)) _ s _ (ref
 hands-as-answered s TryRecvFair out h = unless-law (Told out (λ l. out)) _ s _ (refused-told out (λ l. out) refl s) (λ p. answer-one-told out _ _)
 hands-as-answered s (TryRecvFrom i) out h = unless-law (Told out (λ l. out)) _ s _ (refused-told out (λ l. out) refl s) (λ p. take-from-told out _ _ s)
 hands-as-answered s (TryRecvBatchInto m n) out h =
-    unless-law (Told out (λ l. written l out)) _ s _ (refused-told out (λ l. written l out) (written-none out) s)
+    unless-law (Told out (λ l. writtenTo l out)) _ s _ (refused-told out (λ l. writtenTo l out) (written-none out) s)
     (λ p. answer-items-told out m _ _ (omega (arith, h, take-up-to-most m s, ltb-false n m (p .1 .0))))

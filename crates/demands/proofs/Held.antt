@@ -23,7 +23,7 @@ use Rattle.model.specs.Turn.{retireLane, unreleasedAfterOne, giveItem}
 use Rattle.model.specs.Runs.{accepted, Tick, gives, ends, handed, ticks, trace, countTicks}
 use Rattle.model.specs.Receive.{queueLaneIf}
 use Rattle.model.specs.Control.{controlOutcome, countHeld}
-use Rattle.model.specs.Opening.{opened, openingOutcome}
+use Rattle.model.specs.Opening.{openedState, openingOutcome}
 use Rattle.model.specs.Rules.{outcome, theRules}
 use Rattle.model.specs.Order.{Ordered}
 use Rattle.model.specs.Ledger.{Lane, Ledger, atOpening, changeLane, removeOldest, setPaused, setClosed, setDropped, addRegistered, applyCall, note, ledgerAfter}
@@ -350,8 +350,8 @@ chain-tallied L (stay s) h = h
 chain-tallied L (move {t = t} m c) h =
     chain-tallied (note L t) c record { ord = move-ordered (h .ord) m; agrees = move-agrees L (h .ord) (h .agrees) m; keys = move-keys L (h .ord) (h .keys) m; sum = move-sum L h m }
 
-opened-tallied : (o : Opening) → Ordered (opened o) → Tallied atOpening (opened o)
-unfolding atOpening opened heldByLanes heldOf from total times
+opened-tallied : (o : Opening) → Ordered (openedState o) → Tallied atOpening (openedState o)
+unfolding atOpening openedState heldByLanes heldOf from total times
 opened-tallied o h = record { ord = h; agrees = opened-agrees o; keys = record { once = λ k. omega arith; known = λ k n. absurd (omega arith) }; sum = refl }
 
 -- a call to count what is held, in the ticks of a run

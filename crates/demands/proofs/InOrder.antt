@@ -6,7 +6,7 @@ use Rattle.model.specs.declared.Opening.{Opening}
 use Rattle.model.specs.declared.Call.{Call}
 use Rattle.model.specs.declared.Answer.the-variants.{Done}
 use Rattle.model.specs.State.{State}
-use Rattle.model.specs.Runs.{Lent, Tick, after}
+use Rattle.model.specs.Runs.{Lent, Tick, afterList}
 use Rattle.model.specs.Opening.{openingOutcome}
 use Rattle.model.specs.Rules.{outcome, theRules}
 use Rattle.model.specs.Order.{InOrder}
@@ -27,10 +27,10 @@ call-keeps-order s c i = chain-in-order (call-chain s c) i
 pub opening-in-order : (o : Opening) (lent : Lent) → (openingOutcome o lent) .1 .0 ≡ Done → InOrder ((openingOutcome o lent) .1 .1)
 opening-in-order o lent a = rw (opens-as o lent) record { ordered = opened-ordered o lent a; rings-fit = opened-rings-fit o }
 
-calls-keep-order : (s : State) (calls : List Call) → InOrder s → InOrder (after theRules s calls)
-unfolding after
+calls-keep-order : (s : State) (calls : List Call) → InOrder s → InOrder (afterList theRules s calls)
+unfolding afterList
 calls-keep-order s [] i = i
 calls-keep-order s (c ∷ cs) i = calls-keep-order ((outcome s c) .1 .1) cs (call-keeps-order s c i)
 
-pub run-in-order : (o : Opening) (lent : Lent) → (openingOutcome o lent) .1 .0 ≡ Done → (calls : List Call) → InOrder (after theRules ((openingOutcome o lent) .1 .1) calls)
+pub run-in-order : (o : Opening) (lent : Lent) → (openingOutcome o lent) .1 .0 ≡ Done → (calls : List Call) → InOrder (afterList theRules ((openingOutcome o lent) .1 .1) calls)
 run-in-order o lent a calls = calls-keep-order ((openingOutcome o lent) .1 .1) calls (opening-in-order o lent a)

@@ -20,7 +20,7 @@ pub mod Demand3
 pub mod Grows
 pub mod Closed
 pub mod Held
-pub mod Words
+pub mod Simulation
 pub mod Pages
 pub mod Capacity
 pub mod InOrder

@@ -27,7 +27,7 @@ use Rattle.model.specs.Changes.{withQueue, withFree, withBudget, withIssued, wi
 use Rattle.model.specs.Ready.{collectReady}
 use Rattle.model.specs.Turn.{retireLane, settleEmpty, unreleasedAfterOne, giveItem, Took, giveOldest, giveFront, runDown, polled, takeOne, takeFair}
 use Rattle.model.specs.Outcome.{Outcome, unless, says}
-use Rattle.model.specs.Runs.{accepted, Tick, gives, ends, handed, ticks, trace, after}
+use Rattle.model.specs.Runs.{accepted, Tick, gives, ends, handed, ticks, trace, afterList}
 use Rattle.model.specs.Sender.{issueSlot, olderLives, senderOutcome, registerSender, trySend, trySendUnsignaled, dropSender}
 use Rattle.model.specs.Receive.{retireEmptyPausedLanes, emptyOrDrained, nothingTaken, answerOne, andMore, takeUpTo, releaseAll, answerItems, queueLaneIf, takeFrom, receiveOutcome, tryRecv, tryRecvFair, tryRecvFrom, tryRecvBatchInto}
 use Rattle.model.specs.Control.{resumeIf, controlOutcome, pause, resume, closeLane, releaseConsumed, pollAllLanes, closeReceiver, countHeld}
@@ -299,7 +299,7 @@ call-chain s (Sender c) = move (sender-move s c) (stay _)
 call-chain s (Control c) = move (control-move s c) (stay _)
 call-chain s (Receive r) = receive-chain s r
 
-pub trace-chain : (s : State) (cs : List Call) → Chain s (trace theRules s cs) (after theRules s cs)
-unfolding trace after
+pub trace-chain : (s : State) (cs : List Call) → Chain s (trace theRules s cs) (afterList theRules s cs)
+unfolding trace afterList
 trace-chain s [] = stay s
 trace-chain s (c ∷ cs) = chain (call-chain s c) (trace-chain ((outcome s c) .1 .1) cs)

@@ -14,7 +14,7 @@ use Rattle.model.specs.Lists.{if, either, count}
 use Rattle.model.specs.State.{State, vacant}
 use Rattle.model.specs.Outcome.{Outcome, unless}
 use Rattle.model.specs.Runs.{Lent}
-use Rattle.model.specs.Opening.{doubledUntil, opened, openingOutcome}
+use Rattle.model.specs.Opening.{doubledUntil, openedState, openingOutcome}
 use Rattle.model.specs.Order.{Ordered}
 use Rattle.demands.proofs.Counting.{no}
 use Rattle.demands.proofs.Moves.{Pass, unless-law}
@@ -47,8 +47,8 @@ taken-slots o lent a =
     let e = either-false (ltb (o .slots) 1) (ltb 8192 (o .slots)) (p .1 .0) in
     (omega (arith, ltb-false (o .slots) 1 (e .0)), omega (arith, ltb-false 8192 (o .slots) (e .1)))
 
-pub opened-ordered : (o : Opening) (lent : Lent) → (openingOutcome o lent) .1 .0 ≡ Done → Ordered (opened o)
-unfolding opened vacant count
+pub opened-ordered : (o : Opening) (lent : Lent) → (openingOutcome o lent) .1 .0 ≡ Done → Ordered (openedState o)
+unfolding openedState vacant count
 opened-ordered o lent a = record {
   each-slot = λ y. record {
     queued-once = omega arith;

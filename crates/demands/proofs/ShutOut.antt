@@ -17,7 +17,7 @@ use Rattle.model.specs.declared.Answer.{Answer}
 use Rattle.model.specs.declared.Answer.the-variants.{Done, Registered, Taken, Item, Items, Empty, Disconnected, Held, Refused}
 use Rattle.model.specs.Lists.{Each}
 use Rattle.model.specs.State.{State, ringOf}
-use Rattle.model.specs.Runs.{Lent, accepted, Tick, handed, ticks, trace, after, sameKey, countTicks, ofLane}
+use Rattle.model.specs.Runs.{Lent, accepted, Tick, handed, ticks, trace, afterList, sameKey, countTicks, ofLane}
 use Rattle.model.specs.Sender.{senderOutcome}
 use Rattle.model.specs.Receive.{receiveOutcome, outputAfter}
 use Rattle.model.specs.Control.{controlOutcome}
@@ -27,10 +27,10 @@ use Rattle.model.specs.Stretch.{endsWait, endsStretch, stretch, looks, findsNot
 use Rattle.model.specs.Demand2.{Demand2, Demand2In, outOf, into, shuts, values, Tells, HasRoom, HandsAsAnswered}
 use Rattle.model.specs.Demand3.{Demand3, Demand3In}
 use Rattle.model.specs.Held.{HeldAsCounted, HeldAsCountedIn, heldBy, heldByLanes}
-use Rattle.model.specs.Words.{Fits, numbersOfOpening, numbersOfCall, OpeningFits, CallFits, Simulation}
+use Rattle.model.specs.Simulation.{Fits, numbersOfOpening, numbersOfCall, OpeningFits, CallFits, Simulation}
 use Rattle.model.specs.Examples.{compute}
 use Rattle.model.specs.ShutOut.{callBy, outputBy, receiveBeforeLooking, emptyBeforeLooking, receiveOfFront, fairServesFrontOnly, sendRefused, sendFullAlways, sendUnstored, sendStoresNothing, batchBy, firstMoved, batchMovesFirstOnly, othersReported, batchReportsOthers, oneMoreCounted, batchCountsOneMore, receiveLeavesItem, itemForEver, countsNone, heldZero}
-use Rattle.demands.proofs.Words.{opened-trace}
+use Rattle.demands.proofs.Simulation.{opened-trace}
 
 -- the frame of the wrong rules is document 01's: with its own outcomes it is its rules
 pub frame-is-the-rules : (s : State) (c : Call) → callBy senderOutcome receiveOutcome controlOutcome s c ≡ outcome s c
@@ -73,7 +73,7 @@ held = Control CountHeld
 
 -- all that these runs compute with
 computeWrong : Unit {0}
-unfolding compute opening lent lane registers sends plain fair held accepted handed ticks trace after sameKey countTicks ofLane atOpening changeLane addItem removeOldest setPaused setClosed setDropped addRegistered applyCall note ledgerAfter waits waitsIn anyOrdinary endsWait endsStretch stretch looks findsNothing looksInVain otherReceive notFair outOf into shuts values Tells HasRoom heldBy heldByLanes callBy outputBy receiveBeforeLooking receiveOfFront sendRefused sendUnstored batchBy firstMoved othersReported oneMoreCounted receiveLeavesItem countsNone
+unfolding compute opening lent lane registers sends plain fair held accepted handed ticks trace afterList sameKey countTicks ofLane atOpening changeLane addItem removeOldest setPaused setClosed setDropped addRegistered applyCall note ledgerAfter waits waitsIn anyOrdinary endsWait endsStretch stretch looks findsNothing looksInVain otherReceive notFair outOf into shuts values Tells HasRoom heldBy heldByLanes callBy outputBy receiveBeforeLooking receiveOfFront sendRefused sendUnstored batchBy firstMoved othersReported oneMoreCounted receiveLeavesItem countsNone
 computeWrong = tt
 
 -- "Demand 3 shuts out a receiver that says Empty before looking": lane 0 has its item, and the plain receive answers Empty
@@ -141,7 +141,7 @@ first-moved-shut-out demand =
 
 -- a lane with three items
 threeSent : State
-threeSent = after theRules ((theRules .opens opening lent) .1) (registers ∷ sends 0 5 ∷ sends 0 6 ∷ sends 0 7 ∷ [])
+threeSent = afterList theRules ((theRules .opens opening lent) .1) (registers ∷ sends 0 5 ∷ sends 0 6 ∷ sends 0 7 ∷ [])
 
 -- where the others are not handed out, the answer does not tell what is
 pub others-reported-shut-out : HandsAsAnswered batchReportsOthers → ⊥

@@ -24,9 +24,9 @@ use Rattle.model.specs.Changes.{withQueue, withBudget, put, newLane, signalled,
 use Rattle.model.specs.Ready.{groupOf, groupsIn, marks, collectMarks, collectGroup, startGroup, groupsRound, collectFirst, collectEach, collectReadyGroup, collectReady}
 use Rattle.model.specs.Turn.{retireLane, retireLaneIf, settleEmpty, beforeNextTurn, runDownFrom, runDown, unreleasedAfterOne, giveItem, Took, collectIfDue, collectIfNoneQueued, polled, takeOne, takeFair}
 use Rattle.model.specs.Outcome.{says}
-use Rattle.model.specs.Runs.{Lent, ends, after}
+use Rattle.model.specs.Runs.{Lent, ends, afterList}
 use Rattle.model.specs.Receive.{retireEmptyPausedLanes, emptyOrDrained, nothingTaken, answerOne, queueLaneIf, takeFrom, andMore, takeUpTo, releaseAll, answerItems, tryRecv, tryRecvFair, tryRecvFrom, tryRecvBatchInto, receiveOutcome}
-use Rattle.model.specs.Opening.{opened, openingOutcome}
+use Rattle.model.specs.Opening.{openedState, openingOutcome}
 use Rattle.model.specs.Rules.{outcome, theRules}
 use Rattle.model.specs.Order.{Ordered}
 use Rattle.demands.proofs.Counting.{equal, other, same?, self, no, from-in, count-append}
@@ -241,16 +241,16 @@ call-signals s (Sender c) = sender-signals (sender-move s c)
 call-signals s (Control c) = control-signals (control-move s c)
 call-signals s (Receive r) = receive-signals s r
 
-calls-signals : (s : State) (calls : List Call) → SignalsKept s (after theRules s calls)
-unfolding after
+calls-signals : (s : State) (calls : List Call) → SignalsKept s (afterList theRules s calls)
+unfolding afterList
 calls-signals s [] y h = h
 calls-signals s (c ∷ cs) y h = calls-signals ((outcome s c) .1 .1) cs y (call-signals s c y h)
 
-pub run-signals : (o : Opening) (lent : Lent) (calls : List Call) (y : ℕ) → Signal ((after theRules ((openingOutcome o lent) .1 .1) calls) .slotOf y)
-unfolding opened vacant
+pub run-signals : (o : Opening) (lent : Lent) (calls : List Call) (y : ℕ) → Signal ((afterList theRules ((openingOutcome o lent) .1 .1) calls) .slotOf y)
+unfolding openedState vacant
 run-signals o lent calls y = calls-signals ((openingOutcome o lent) .1 .1) calls y (rw (opens-as o lent) (vacant-signal o y))
   where
-    vacant-signal : (o : Opening) (y : ℕ) → Signal ((opened o) .slotOf y)
+    vacant-signal : (o : Opening) (y : ℕ) → Signal ((openedState o) .slotOf y)
     vacant-signal o y = gone vacant refl
 
 -- collecting all groups leaves no page bit

@@ -17,7 +17,7 @@ use Rattle.model.specs.Turn.{refill, unreleasedAfterOne, giveItem, Took, giveOl
 use Rattle.model.specs.Receive.{andMore, takeUpTo}
 use Rattle.model.specs.Order.{Ordered}
 use Rattle.demands.proofs.Counting.{Same, equal, other, same?, self}
-use Rattle.demands.proofs.Words.{state-path}
+use Rattle.demands.proofs.Simulation.{state-path}
 use Rattle.demands.proofs.OrderKept.{give-front-ordered, take-one-ordered}
 use Rattle.demands.proofs.Quiet.{poll}
 use Rattle.demands.proofs.WaitInReceive.{Settled, nothing-queued, front, poll-settled}

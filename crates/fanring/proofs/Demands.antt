@@ -8,9 +8,9 @@ use Rattle.model.specs.declared.Refusal.{Refusal}
 use Rattle.model.specs.declared.Refusal.the-variants.{StoreNotInOrder}
 use Rattle.model.specs.declared.Answer.the-variants.{Refused}
 use Rattle.model.specs.Rules.{theRules}
-use Rattle.model.specs.Words.{Simulation}
+use Rattle.model.specs.Simulation.{Simulation}
 use Rattle.model.specs.Demand2.{Demand2In}
-use Rattle.demands.proofs.Words.{words-demand2, words-demand3, words-none-after-close, words-held-as-counted, words-hands-as-answered}
+use Rattle.demands.proofs.Simulation.{words-demand2, words-demand3, words-none-after-close, words-held-as-counted, words-hands-as-answered}
 use Rattle.store.specs.Order.{StoreInOrder}
 use Rattle.store.specs.Words.{Words}
 use Rattle.opening.specs.Opening.{openStore}

@@ -15,7 +15,7 @@ use Rattle.model.specs.declared.Answer.the-variants.{Done, Refused}
 use Rattle.model.specs.State.{State}
 use Rattle.model.specs.Runs.{RunsOf}
 use Rattle.model.specs.Rules.{outcome}
-use Rattle.model.specs.Words.{runsThatFit}
+use Rattle.model.specs.Simulation.{runsThatFit}
 use Rattle.model.specs.Demand2.{Demand2In, HasRoom, HandsAsAnsweredIn}
 use Rattle.model.specs.Demand3.{Demand3In}
 use Rattle.model.specs.Closed.{NoneAfterCloseIn}

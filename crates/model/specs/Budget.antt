@@ -13,7 +13,7 @@ use Rattle.model.specs.declared.Call.the-variants.{Receive}
 use Rattle.model.specs.declared.Answer.the-variants.{Done}
 use Rattle.model.specs.Lists.{if}
 use Rattle.model.specs.State.{State}
-use Rattle.model.specs.Runs.{Lent, after}
+use Rattle.model.specs.Runs.{Lent, afterList}
 use Rattle.model.specs.Opening.{openingOutcome}
 use Rattle.model.specs.Receive.{receiveOutcome}
 use Rattle.model.specs.Rules.{theRules}
@@ -39,7 +39,7 @@ unfoldable pub BudgetCountsItems : Type 0
 BudgetCountsItems =
     (o : Opening) (lent : Lent) → (openingOutcome o lent) .1 .0 ≡ Done
     → (calls : List Call)
-    → ((after theRules ((openingOutcome o lent) .1 .1) calls) .budget ≡ 64 - itemsSinceSet (runEvents o lent calls))
+    → ((afterList theRules ((openingOutcome o lent) .1 .1) calls) .budget ≡ 64 - itemsSinceSet (runEvents o lent calls))
     × (itemsSinceSet (runEvents o lent calls) ≤ 64)
 
 unfoldable pub isTargeted : ReceiveCall → Bool

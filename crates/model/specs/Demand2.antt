@@ -16,7 +16,7 @@ use Rattle.model.specs.declared.Call.the-variants.{Sender, Receive, Cont
 use Rattle.model.specs.declared.Answer.{Answer}
 use Rattle.model.specs.declared.Answer.the-variants.{Done, Registered, Taken, Item, Items, Empty, Disconnected, Held, Refused}
 use Rattle.model.specs.Lists.{if, both}
-use Rattle.model.specs.Runs.{Rules, RunsOf, allRuns, accepted, Tick, gives, ends, trace, after, sameKey, countTicks}
+use Rattle.model.specs.Runs.{Rules, RunsOf, allRuns, accepted, Tick, gives, ends, trace, afterList, sameKey, countTicks}
 
 -- An item handed out of lane k.
 unfoldable pub outOf : LaneKey → Tick → List ℕ
@@ -61,7 +61,7 @@ Demand2In R runs ring =
     (o : Opening) (lent : R .Stores) → (R .opens o lent) .0 ≡ Done
     → (calls : List Call) → runs o lent calls
     → (k : LaneKey) → countTicks (shuts k) (trace R ((R .opens o lent) .1) calls) ≡ 0
-    → values (outOf k) (trace R ((R .opens o lent) .1) calls) ++ ring (after R ((R .opens o lent) .1) calls) k
+    → values (outOf k) (trace R ((R .opens o lent) .1) calls) ++ ring (afterList R ((R .opens o lent) .1) calls) k
     ≡ values (into k) (trace R ((R .opens o lent) .1) calls)
 
 unfoldable pub Demand2 : (R : Rules) → (R .State → LaneKey → List ℕ) → Type 0
@@ -119,5 +119,5 @@ unfoldable pub HandsAsAnsweredIn : (R : Rules) → RunsOf R → Type 0
 HandsAsAnsweredIn R runs =
     (o : Opening) (lent : R .Stores) → (R .opens o lent) .0 ≡ Done
     → (calls : List Call) (r : ReceiveCall) → runs o lent (calls ++ (Receive r ∷ []))
-    → (s : R .State) → after R ((R .opens o lent) .1) calls ≡ s
+    → (s : R .State) → afterList R ((R .opens o lent) .1) calls ≡ s
     → (out : List ℕ) → HasRoom r out → AsAnswered ((R .step s (Receive r)) .0) (R .hands s r) out (R .output s r out)

@@ -16,7 +16,7 @@ use Rattle.model.specs.declared.Call.the-variants.{Receive}
 use Rattle.model.specs.declared.Answer.{Answer}
 use Rattle.model.specs.declared.Answer.the-variants.{Done, Empty, Disconnected}
 use Rattle.model.specs.State.{Slot, State, hasLaneId}
-use Rattle.model.specs.Runs.{Lent, accepted, after}
+use Rattle.model.specs.Runs.{Lent, accepted, afterList}
 use Rattle.model.specs.Receive.{receiveOutcome}
 use Rattle.model.specs.Opening.{openingOutcome}
 use Rattle.model.specs.Rules.{theRules}
@@ -94,7 +94,7 @@ pub record PausedWithItems (l : Slot) : Type 0 where
 unfoldable pub OnlyPausedItemsLeft : Type 0
 OnlyPausedItemsLeft =
     (o : Opening) (lent : Lent) → (openingOutcome o lent) .1 .0 ≡ Done
-    → (calls : List Call) (s : State) → after theRules ((openingOutcome o lent) .1 .1) calls ≡ s
+    → (calls : List Call) (s : State) → afterList theRules ((openingOutcome o lent) .1 .1) calls ≡ s
     → (r : ReceiveCall) → Looks s r → itemsOf s r ≡ [] → NoSenderLives (stateAfter s r)
     → (x : ℕ) → (stateAfter s r) .slotOf x .registered ≡ true → PausedWithItems ((stateAfter s r) .slotOf x)
 

@@ -12,7 +12,7 @@ use Rattle.model.specs.declared.ReceiveCall.the-variants.{TryRecv, TryRe
 use Rattle.model.specs.declared.ControlCall.the-variants.{Pause}
 use Rattle.model.specs.declared.Call.{Call}
 use Rattle.model.specs.declared.Call.the-variants.{Sender, Receive, Control}
-use Rattle.model.specs.Runs.{Lent, accepted, after, sameKey}
+use Rattle.model.specs.Runs.{Lent, accepted, afterList, sameKey}
 use Rattle.model.specs.Events.{Event, budgetSet, collected, noneMarked, foundEmpty, itemTaken, wentToBack, anyMarked, collectEvent, refillEvents, beforeNextTurnEvents, runDownFromEvents, runDownEvents, backEvents, giveOldestEvents, giveFrontEvents, collectIfDueEvents, collectIfNoneQueuedEvents, polledEvents, takeOneEvents, takeFairEvents, andMoreEvents, takeUpToEvents, takeFromEvents, receiveEvents, callEvents, eventsFrom, runEvents, collects, findsNoneMarked, takesItem, takesItemOf, findsEmpty, countEvents}
 use Rattle.model.specs.OneTurn.{endsTurnOf}
 use Rattle.model.specs.Budget.{itemsCountedFrom, itemsSinceSet}
@@ -42,7 +42,7 @@ plain : Call
 plain = Receive TryRecv
 
 computeEvents : Unit {0}
-unfolding compute twoSlots lent lane repeat registers sends plain accepted after anyMarked collectEvent refillEvents beforeNextTurnEvents runDownFromEvents runDownEvents backEvents giveOldestEvents giveFrontEvents collectIfDueEvents collectIfNoneQueuedEvents polledEvents takeOneEvents takeFairEvents andMoreEvents takeUpToEvents takeFromEvents receiveEvents callEvents eventsFrom runEvents
+unfolding compute twoSlots lent lane repeat registers sends plain accepted afterList anyMarked collectEvent refillEvents beforeNextTurnEvents runDownFromEvents runDownEvents backEvents giveOldestEvents giveFrontEvents collectIfDueEvents collectIfNoneQueuedEvents polledEvents takeOneEvents takeFairEvents andMoreEvents takeUpToEvents takeFromEvents receiveEvents callEvents eventsFrom runEvents
 computeEvents = tt
 
 -- lane 0 has 65 items, and lane 1 gets one after the first of them is taken: lane 0 gives 64 in one turn, all between two collections

@@ -21,16 +21,16 @@ use Rattle.model.specs.State.{State, vacant, mayQueue, registeredLanes, 
 use Rattle.model.specs.Ready.{groupOf, groupsIn, marks, isReady, collectMarks, collectGroup, startGroup, groupsRound, collectFirst, collectEach, collectReadyGroup, collectReady}
 use Rattle.model.specs.Turn.{retireLane, retireLaneIf, settleEmpty, refill, beforeNextTurn, runDownFrom, runDown, unreleasedAfterOne, giveItem, giveOldest, giveFront, collectIfDue, collectIfNoneQueued, polled, takeOne, takeFair}
 use Rattle.model.specs.Outcome.{unless}
-use Rattle.model.specs.Runs.{after}
+use Rattle.model.specs.Runs.{afterList}
 use Rattle.model.specs.Sender.{issueSlot, olderLives, registerSender, trySend, trySendUnsignaled, dropSender, senderOutcome}
-use Rattle.model.specs.Receive.{retireEmptyPausedLanes, emptyOrDrained, nothingTaken, answerOne, tryRecv, tryRecvFair, queueLaneIf, takeFrom, tryRecvFrom, andMore, takeUpTo, releaseAll, answerItems, tryRecvBatchInto, written, receiveOutcome, outputAfter}
+use Rattle.model.specs.Receive.{retireEmptyPausedLanes, emptyOrDrained, nothingTaken, answerOne, tryRecv, tryRecvFair, queueLaneIf, takeFrom, tryRecvFrom, andMore, takeUpTo, releaseAll, answerItems, tryRecvBatchInto, writtenTo, receiveOutcome, outputAfter}
 use Rattle.model.specs.Control.{pause, resumeIf, resume, closeLane, releaseConsumed, pollAllLanes, closeReceiver, countHeld, controlOutcome}
-use Rattle.model.specs.Opening.{doubledUntil, opened, openingOutcome}
+use Rattle.model.specs.Opening.{doubledUntil, openedState, openingOutcome}
 use Rattle.model.specs.Rules.{outcome, theRules}
 
 -- All definitions of the rules, for computing with them.
 unfoldable pub compute : Unit {0}
-unfolding same count keep without from total vacant mayQueue registeredLanes livingSenders senderLives hasLane hasLaneId isFull releaseBatch ringOf groupOf groupsIn marks isReady collectMarks collectGroup startGroup groupsRound collectFirst collectEach collectReadyGroup collectReady retireLane retireLaneIf settleEmpty refill beforeNextTurn runDownFrom runDown unreleasedAfterOne giveItem giveOldest giveFront collectIfDue collectIfNoneQueued polled takeOne takeFair unless retireEmptyPausedLanes emptyOrDrained nothingTaken answerOne tryRecv tryRecvFair queueLaneIf takeFrom tryRecvFrom andMore takeUpTo releaseAll answerItems tryRecvBatchInto receiveOutcome pause resumeIf resume closeLane releaseConsumed pollAllLanes closeReceiver countHeld controlOutcome issueSlot olderLives registerSender trySend trySendUnsignaled dropSender senderOutcome doubledUntil opened openingOutcome outcome
+unfolding same count keep without from total vacant mayQueue registeredLanes livingSenders senderLives hasLane hasLaneId isFull releaseBatch ringOf groupOf groupsIn marks isReady collectMarks collectGroup startGroup groupsRound collectFirst collectEach collectReadyGroup collectReady retireLane retireLaneIf settleEmpty refill beforeNextTurn runDownFrom runDown unreleasedAfterOne giveItem giveOldest giveFront collectIfDue collectIfNoneQueued polled takeOne takeFair unless retireEmptyPausedLanes emptyOrDrained nothingTaken answerOne tryRecv tryRecvFair queueLaneIf takeFrom tryRecvFrom andMore takeUpTo releaseAll answerItems tryRecvBatchInto receiveOutcome pause resumeIf resume closeLane releaseConsumed pollAllLanes closeReceiver countHeld controlOutcome issueSlot olderLives registerSender trySend trySendUnsignaled dropSender senderOutcome doubledUntil openedState openingOutcome outcome
 compute = tt
 
 -- An example: an opening with its first generation, calls, and what document 01 says comes of them: the answers, and the poll budget at the end.
@@ -48,11 +48,11 @@ answersFrom s (c ∷ cs) = let r = outcome s c in (r .1 .0) ∷ answersFrom (r .
 
 -- the state after an example's opening; the channel is 7, as in "Input 0 (4, 2, 7, 0, 0)"
 start : Example → State
-start e = opened record { capacity = e .capacity; slots = e .slots; channel = 7; cursor = 0; generation = e .generation }
+start e = openedState record { capacity = e .capacity; slots = e .slots; channel = 7; cursor = 0; generation = e .generation }
 
 -- what does come of it
 pub found : Example → List Answer × ℕ
-found e = (answersFrom (start e) (e .calls), (after theRules (start e) (e .calls)) .budget)
+found e = (answersFrom (start e) (e .calls), (afterList theRules (start e) (e .calls)) .budget)
 
 pub expected : Example → List Answer × ℕ
 expected e = (e .answers, e .budget)
@@ -444,7 +444,7 @@ table =
 
 -- the computed test, over the whole table
 pub table-computed : map found table ≡ map expected table
-unfolding compute after found expected answersFrom start keyAt idOn idAt registers sends sendsUnsignalled drops plain fair batch targeted pauses resumes closes pollsAll held lane gave repeat table
+unfolding compute afterList found expected answersFrom start keyAt idOn idAt registers sends sendsUnsignalled drops plain fair batch targeted pauses resumes closes pollsAll held lane gave repeat table
 table-computed = refl
 
 -- the law: at each row
@@ -464,13 +464,13 @@ examples-hold k h = at-each table table-computed k _ h
 outputOf : ℕ → List ℕ
 outputOf limit =
     outputAfter
-    (after theRules (opened record { capacity = 4; slots = 2; channel = 7; cursor = 0; generation = 0 }) (registers ∷ registers ∷ sends 1 3 ∷ sends 0 1 ∷ sends 0 2 ∷ []))
+    (afterList theRules (openedState record { capacity = 4; slots = 2; channel = 7; cursor = 0; generation = 0 }) (registers ∷ registers ∷ sends 1 3 ∷ sends 0 1 ∷ sends 0 2 ∷ []))
     (TryRecvBatchInto limit 5) (90 ∷ 91 ∷ 92 ∷ 93 ∷ 94 ∷ [])
 
 outputs-computed :
     map outputOf (0 ∷ 2 ∷ 4 ∷ 6 ∷ [])
     ≡ (90 ∷ 91 ∷ 92 ∷ 93 ∷ 94 ∷ []) ∷ (1 ∷ 2 ∷ 92 ∷ 93 ∷ 94 ∷ []) ∷ (1 ∷ 2 ∷ 3 ∷ 93 ∷ 94 ∷ []) ∷ (90 ∷ 91 ∷ 92 ∷ 93 ∷ 94 ∷ []) ∷ []
-unfolding compute written outputAfter after keyAt registers sends outputOf
+unfolding compute writtenTo outputAfter afterList keyAt registers sends outputOf
 outputs-computed = refl
 
 -- openings at the edge of each refusal: capacity, slots, words of the ring store and of the table store

@@ -20,7 +20,7 @@ pub mod Demand2
 pub mod Demand3
 pub mod Closed
 pub mod Held
-pub mod Words
+pub mod Simulation
 pub mod Events
 pub mod Budget
 pub mod OneTurn

@@ -22,8 +22,8 @@ abbrev pub nextPowerOfTwo : ℕ → ℕ
 nextPowerOfTwo c = doubledUntil 16 1 c
 
 -- "No sender yet; poll budget 64; group cursor 0."
-unfoldable pub opened : Opening → State
-opened o = record {
+unfoldable pub openedState : Opening → State
+openedState o = record {
   slotOf = λ x. vacant;
   queue = [];
   free = [];
@@ -47,4 +47,4 @@ openingOutcome o lent =
     ∷ (either (ltb (o .slots) 1) (ltb 8192 (o .slots)), SlotsOutOfRange)
     ∷ (ltb (lent .rings) (o .slots * nextPowerOfTwo (o .capacity)), RingStoreShort)
     ∷ (ltb (lent .table) (24 * o .slots + 512), TableStoreShort) ∷ [])
-    (opened o) (says Done (opened o))
+    (openedState o) (says Done (openedState o))

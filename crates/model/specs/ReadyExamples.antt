@@ -14,9 +14,9 @@ use Rattle.model.specs.declared.Call.the-variants.{Sender, Receive, Cont
 use Rattle.model.specs.Lists.{count}
 use Rattle.model.specs.State.{State}
 use Rattle.model.specs.Ready.{collectReadyGroup, collectReady}
-use Rattle.model.specs.Runs.{after}
+use Rattle.model.specs.Runs.{afterList}
 use Rattle.model.specs.Collections.{groupsBefore}
-use Rattle.model.specs.Opening.{opened}
+use Rattle.model.specs.Opening.{openedState}
 use Rattle.model.specs.Rules.{theRules}
 use Rattle.model.specs.Examples.{compute}
 
@@ -46,7 +46,7 @@ pollsAll = Control PollAllLanes
 -- a lane is registered in slot 0, and then the calls are made: whether the slot's signal is pending, and whether its page bit is set
 signalAfter : List Call → Bool × Bool
 signalAfter calls =
-    let l = (after theRules (opened record { capacity = 4; slots = 2; channel = 7; cursor = 0; generation = 0 }) (registers ∷ calls)) .slotOf 0 in
+    let l = (afterList theRules (openedState record { capacity = 4; slots = 2; channel = 7; cursor = 0; generation = 0 }) (registers ∷ calls)) .slotOf 0 in
     (l .pending, l .marked)
 
 idle : Bool × Bool
@@ -62,7 +62,7 @@ idleMarked : Bool × Bool
 idleMarked = (false, true)
 
 computeSignals : Unit {0}
-unfolding compute after firstLane registers sends drops closes plain pollsAll signalAfter idle pendingMarked pendingTaken idleMarked
+unfolding compute afterList firstLane registers sends drops closes plain pollsAll signalAfter idle pendingMarked pendingTaken idleMarked
 computeSignals = tt
 
 -- "idle to pending sets the page bit"; collecting takes it and leaves the signal pending, over the last item taken and over a further send, until the lane is found empty

@@ -91,8 +91,8 @@ tryRecvBatchInto s limit room =
     (let t = takeUpTo limit s in answerItems limit (t .0) (releaseAll (t .1)))
 
 -- "A batch hands out its output in order": the output begins with the items handed out, and the words after them are as they were.
-unfoldable pub written : List (LaneKey × ℕ) → List ℕ → List ℕ
-written l out = map (λ g. g .1) l ++ drop (length l) out
+unfoldable pub writtenTo : List (LaneKey × ℕ) → List ℕ → List ℕ
+writtenTo l out = map (λ g. g .1) l ++ drop (length l) out
 
 unfoldable pub receiveOutcome : State → ReceiveCall → Outcome
 receiveOutcome s TryRecv = tryRecv s
@@ -105,4 +105,4 @@ unfoldable pub outputAfter : State → ReceiveCall → List ℕ → List ℕ
 outputAfter s TryRecv out = out
 outputAfter s TryRecvFair out = out
 outputAfter s (TryRecvFrom i) out = out
-outputAfter s (TryRecvBatchInto limit room) out = written ((tryRecvBatchInto s limit room) .0) out
+outputAfter s (TryRecvBatchInto limit room) out = writtenTo ((tryRecvBatchInto s limit room) .0) out

@@ -69,9 +69,9 @@ trace R s [] = []
 trace R s (c ∷ cs) = ticks R s c ++ trace R ((R .step s c) .1) cs
 
 -- The state after a list of calls.
-unfoldable pub after : (R : Rules) → R .State → List Call → R .State
-after R s [] = s
-after R s (c ∷ cs) = after R ((R .step s c) .1) cs
+unfoldable pub afterList : (R : Rules) → R .State → List Call → R .State
+afterList R s [] = s
+afterList R s (c ∷ cs) = afterList R ((R .step s c) .1) cs
 
 -- Two lane keys are the same.
 unfoldable pub sameKey : LaneKey → LaneKey → Bool

@@ -24,7 +24,7 @@ use Rattle.model.specs.Turn.{runDown, giveFront, polled}
 use Rattle.model.specs.Outcome.{Outcome, says, unless}
 use Rattle.model.specs.Runs.{Lent, Rules}
 use Rattle.model.specs.Sender.{trySend, senderOutcome}
-use Rattle.model.specs.Receive.{answerOne, takeUpTo, releaseAll, answerItems, written, receiveOutcome}
+use Rattle.model.specs.Receive.{answerOne, takeUpTo, releaseAll, answerItems, writtenTo, receiveOutcome}
 use Rattle.model.specs.Control.{controlOutcome}
 use Rattle.model.specs.Opening.{openingOutcome}
 
@@ -38,7 +38,7 @@ unfoldable pub outputBy : ReceiveCall → List (LaneKey × ℕ) → List ℕ →
 outputBy TryRecv l out = out
 outputBy TryRecvFair l out = out
 outputBy (TryRecvFrom i) l out = out
-outputBy (TryRecvBatchInto limit room) l out = written l out
+outputBy (TryRecvBatchInto limit room) l out = writtenTo l out
 
 abbrev pub rulesBy : (State → SenderCall → Outcome) → (State → ReceiveCall → Outcome) → (State → ControlCall → Outcome) → Rules
 rulesBy sending receiving controlling = record {

@@ -18,9 +18,9 @@ use Rattle.model.specs.Lists.{if, either, count, keep, from}
 use Rattle.model.specs.State.{State, registeredLanes, livingSenders}
 use Rattle.model.specs.Outcome.{Outcome, says, unless}
 use Rattle.model.specs.Runs.{Lent}
-use Rattle.model.specs.Opening.{nextPowerOfTwo, opened, openingOutcome}
+use Rattle.model.specs.Opening.{nextPowerOfTwo, openedState, openingOutcome}
 use Rattle.model.specs.Order.{Ordered}
-use Rattle.demands.proofs.Words.{state-path}
+use Rattle.demands.proofs.Simulation.{state-path}
 use Rattle.demands.proofs.Opened.{opened-ordered}
 use Rattle.yring.specs.Cursor.{Capacity}
 use Rattle.lane.specs.Table.{head, cellAt, headerWords, rowWords}
@@ -80,20 +80,20 @@ module _ (o : Opening) (t r : List ℕ) where
       go false false = refl
 
   -- a call's answer after its refusals
-  answers-by : (v : Verdict) (cs : List (Bool × Refusal)) (w : Words) (a : Outcome) → v ≡ firstOf cs → w .0 ≡ a .1 .0 → (unlessRefused v t r w) .0 ≡ (unless cs (opened o) a) .1 .0
+  answers-by : (v : Verdict) (cs : List (Bool × Refusal)) (w : Words) (a : Outcome) → v ≡ firstOf cs → w .0 ≡ a .1 .0 → (unlessRefused v t r w) .0 ≡ (unless cs (openedState o) a) .1 .0
   answers-by v cs w a e f =
-      unless-refused-case (λ z. z .0 ≡ (unless cs (opened o) a) .1 .0) v t r w
-      (λ why h. sym (ap (λ (z : Answer × State). z .0) (unless-by-verdict cs (opened o) a why (sym e ∙ h))))
-      (λ h. f ∙ ap (λ (z : Outcome). z .1 .0) (sym (unless-passed cs (opened o) a (sym e ∙ h))))
+      unless-refused-case (λ z. z .0 ≡ (unless cs (openedState o) a) .1 .0) v t r w
+      (λ why h. sym (ap (λ (z : Answer × State). z .0) (unless-by-verdict cs (openedState o) a why (sym e ∙ h))))
+      (λ h. f ∙ ap (λ (z : Outcome). z .1 .0) (sym (unless-passed cs (openedState o) a (sym e ∙ h))))
 
   -- an opening answers as the rules do, whatever it is lent
   pub open-answers-alike : (openStore o t r) .0 ≡ (openingOutcome o lent) .1 .0
   unfolding openStore openSized openingOutcome
   open-answers-alike =
-      let a : Outcome = says Done (opened o) in
-      answers-by (sizesVerdict o) sizeTests _ (unless storeTests (opened o) a) sizes-alike
+      let a : Outcome = says Done (openedState o) in
+      answers-by (sizesVerdict o) sizeTests _ (unless storeTests (openedState o) a) sizes-alike
       (answers-by (storesVerdict (o .slots) C (length t) (length r)) storeTests (Done, putHeader t (newHeader o C), r) a stores-alike refl)
-      ∙ ap (λ (z : Outcome). z .1 .0) (sym (unless-append sizeTests storeTests (opened o) a))
+      ∙ ap (λ (z : Outcome). z .1 .0) (sym (unless-append sizeTests storeTests (openedState o) a))
 
   -- ---- an opening that is accepted
 
@@ -132,17 +132,17 @@ module _ (o : Opening) (t r : List ℕ) where
     none : issued u ≡ 0
     none = hd 0 refl
 
-    view-opened : view u r ≡ opened o
-    unfolding view opened
+    view-opened : view u r ≡ openedState o
+    unfolding view openedState
     view-opened =
         state-path _ _ (λ y. rw (none, le-ltb y 0 (omega arith))) (queue-opened t o C (a .sized .slots-some) (a .sized .slots-most) enough)
         (free-opened t o C (a .sized .slots-some) (a .sized .slots-most) enough) none (hd 5 refl) (hd 6 refl) (ap flag (hd 7 refl)) (hd 8 refl) (hd 4 refl) (hd 9 refl) (hd 11 refl)
 
-    ordered : Ordered (opened o)
+    ordered : Ordered (openedState o)
     ordered = opened-ordered o lent (sym open-answers-alike ∙ e)
 
     power : Capacity C
-    unfolding opened
+    unfolding openedState
     power =
         let p = ordered .sizes .power-of-two in
         record { log = p .0; small = p .1; is = p .2; most = rw (p .2) (pow-le-pow-right {n = 2} (omega arith) (p .1)) }
@@ -152,7 +152,7 @@ module _ (o : Opening) (t r : List ℕ) where
     unissued x h = absurd (omega (arith, none))
 
     stores-opened : o .cursor < 2 ^ 64 → Stores u r
-    unfolding registeredLanes livingSenders keep from count opened
+    unfolding registeredLanes livingSenders keep from count openedState
     stores-opened c =
         let q : queueOf u ≡ [] = queue-opened t o C (a .sized .slots-some) (a .sized .slots-most) enough in
         record {
@@ -173,7 +173,7 @@ module _ (o : Opening) (t r : List ℕ) where
         }
 
   -- "An accepted opening leaves a store in order, whatever the lent words held", and it shows the rules' opened state
-  pub open-view : (openStore o t r) .0 ≡ Done → view ((openStore o t r) .1) ((openStore o t r) .2) ≡ opened o
+  pub open-view : (openStore o t r) .0 ≡ Done → view ((openStore o t r) .1) ((openStore o t r) .2) ≡ openedState o
   open-view e = let a = accepted e in rw (a .leaves) (view-opened a e)
 
   pub open-in-order : o .cursor < 2 ^ 64 → (openStore o t r) .0 ≡ Done → StoreInOrder ((openStore o t r) .1) ((openStore o t r) .2)

@@ -34,7 +34,7 @@ use Rattle.turns.specs.declared.turn.Took.{Took}
 use Rattle.turns.specs.declared.turn.Took.the-variants as Took
 use Rattle.turns.specs.declared.turn.Turn.{Turn}
 use Rattle.turns.specs.declared.turn.Turn.the-variants as Turn
-use Rattle.turns.specs.Turn.{registeredIn, Turning, Ringed, frontLane, turnBy, pollFront, after, turnsWithin, turns}
+use Rattle.turns.specs.Turn.{registeredIn, Turning, Ringed, frontLane, turnBy, pollFront, afterTurn, turnsWithin, turns}
 use Rattle.turns.specs.Drained.{Idle, Rests}
 use Rattle.receive.specs.Receive.{elseTake, takeFromWindow, fastTook, Affords, takeFast, takeIfPopped, takeFrontWindow, pollLoop, tryRecvRefill, takeOne, takeLone, takeFair}
 use Rattle.store.proofs.ViewLaws.{slot-in}
@@ -169,7 +169,7 @@ poll-ending t r fair =
     go (LanePoll.Idle found) = omega arith
 
 rest-within : (n : ℕ) (t r : List ℕ) (fair : Bool) → Turning t → queueCount t ≡ n → Rests (turnsWithin n t r fair)
-unfolding turnsWithin after
+unfolding turnsWithin afterTurn
 rest-within zero t r fair k e = record { turning = k; none-queued = e }
 rest-within (suc n) t r fair k e = go (λ u m f. rest-within n u r fair m f) (pollFront t r fair) (poll-front-turned t r fair k) (poll-ending t r fair)
   where
@@ -177,7 +177,7 @@ rest-within (suc n) t r fair k e = go (λ u m f. rest-within n u r fair m f) (po
     one-less f = omega arith
 
     go : ((u : List ℕ) → Turning u → queueCount u ≡ n → Rests (turnsWithin n u r fair)) → (o : Turn × List ℕ) → Turned t o → Ending o
-        → Rests (after o (turnsWithin n (o .1) r fair))
+        → Rests (afterTurn o (turnsWithin n (o .1) r fair))
     go ih (Turn.Ends (Took.Item item key), u) a b = omega arith
     go ih (Turn.Ends Took.Nothing, u) a b = record { turning = a .keeps .turning; none-queued = b }
     go ih (Turn.Left, u) a b = ih u (a .keeps .turning) (one-less (a .fewer refl))

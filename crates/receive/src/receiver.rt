@@ -1,4 +1,8 @@
 // The plain and the fair receive: src/mpsc/receiver.rs.
+// A `take_..` function takes an item and puts its lane back; an `answer_..` function makes the call's answer of it.
+// They differ in the window that the item comes through: `take_from_window` one that is open, `take_from_new_window`
+// one that was opened for this item, `take_if_popped` the same if it gave one; `take_front_window` opens one on the
+// front lane (plain), `take_lone` on the only queued lane (fair), whose item `take_from_lone_window` takes.
 ghost use mathlib.Core.Path.{_≡_};
 ghost use Prim.Native.Nat.{_<_};
 ghost use lib.ListN.{length};

@@ -17,7 +17,7 @@ use Rattle.receive_batch.specs.declared.batch.Front.{Front}
 use Rattle.receive_batch.specs.declared.batch.Front.the-variants as Front
 use Rattle.turns.specs.Turn.{Turning}
 use Rattle.turns.specs.Drained.{Idle}
-use Rattle.receive_batch.specs.Batch.{refreshActive, Fronts, chunkSize, chunkItems, chunkGiven, giveChunk, Drained, chunkThen, drainedWithin, drained, drainInto}
+use Rattle.receive_batch.specs.Batch.{refreshActive, Fronts, chunkSize, chunkItems, chunkGiven, giveChunk, HandsAndTable, chunkThen, drainedWithin, drained, drainInto}
 use Rattle.turns.proofs.FrontLaws.{Keeps, keeps-self, keeps-then}
 use Rattle.receive_batch.proofs.LookLaws.{Searched, refresh-searched}
 use Rattle.receive_batch.proofs.ChunkLaws.{chunk-least, chunk-some, chunk-filled, chunk-keeps}
@@ -42,7 +42,7 @@ pub length-handed : (t r : List ℕ) (n : ℕ) (l : Lane) → length (chunkHande
 length-handed t r n l = length-map (chunkItems t r n l) (λ v. (l .key, v)) ∙ length-chunk t r n l
 
 -- items handed out before
-abbrev onto : Handed → Drained → Drained
+abbrev onto : Handed → HandsAndTable → HandsAndTable
 onto l d = (l ++ d .0, d .1)
 
 -- ---- the loop
@@ -90,7 +90,7 @@ module _ {t₀ r out₀ : List ℕ} {limit : ℕ} {t out : List ℕ} {received :
       ended : onto (d .handed) ([], t) ≡ drained t₀ r limit → (received, t, out) ≡ drainInto t₀ r out₀ limit
       ended e =
           let all : (d .handed, t) ≡ drained t₀ r limit = ap (λ (l : Handed). (l, t)) (sym (append-nil (d .handed))) ∙ e in
-          rw (← d .counted, d .wrote) (ap (λ (x : Drained). (length (x .0), x .1, rules.written (x .0) out₀)) all)
+          rw (← d .counted, d .wrote) (ap (λ (x : HandsAndTable). (length (x .0), x .1, rules.written (x .0) out₀)) all)
 
       go : (n left : ℕ) → left ≡ 0 → onto (d .handed) (drainedWithin n t r left) ≡ drained t₀ r limit → (received, t, out) ≡ drainInto t₀ r out₀ limit
       go zero left z e = ended e
@@ -121,7 +121,7 @@ module _ {t₀ r out₀ : List ℕ} {limit : ℕ} {t out : List ℕ} {received :
             let s : onto (d .handed) ([], u) ≡ drained t₀ r limit =
             ap (λ (o : Front × List ℕ). onto (d .handed) (chunkThen o r (limit - received) (λ u m. drainedWithin n u r m))) e ∙ step n z in
             let all : (d .handed, u) ≡ drained t₀ r limit = ap (λ (l : Handed). (l, u)) (sym (append-nil (d .handed))) ∙ s in
-            rw (← d .counted, d .wrote) (ap (λ (x : Drained). (length (x .0), x .1, rules.written (x .0) out₀)) all)
+            rw (← d .counted, d .wrote) (ap (λ (x : HandsAndTable). (length (x .0), x .1, rules.written (x .0) out₀)) all)
 
     -- a lane has items
     module _ (u : List ℕ) (l : Lane) (e : (Front.Ready l, u) ≡ refreshActive t) where
@@ -220,7 +220,7 @@ unfolding drained chunkThen
 drained-rests t r zero k h z = absurd (h refl)
 drained-rests t r (suc limit) k h z =
     let e = within-next limit t r (suc limit) (omega arith) in
-    subst (λ (d : Drained). Idle (d .1)) (sym e) (go (refreshActive t) (refresh-searched t k) (ap (λ (d : Drained). length (d .0)) (sym e) ∙ z))
+    subst (λ (d : HandsAndTable). Idle (d .1)) (sym e) (go (refreshActive t) (refresh-searched t k) (ap (λ (d : HandsAndTable). length (d .0)) (sym e) ∙ z))
   where
     go : (o : Front × List ℕ) → Searched t o → length ((chunkThen o r (suc limit) (λ u m. drainedWithin limit u r m)) .0) ≡ 0
         → Idle ((chunkThen o r (suc limit) (λ u m. drainedWithin limit u r m)) .1)

@@ -105,11 +105,11 @@ giveChunk t r out at left l = let n = chunkSize t left l in (n, chunkGiven t n l
 -- ---- chunk after chunk
 
 -- each item with its lane's key, in order, and the table
-abbrev pub Drained : Type 0
-Drained = List (LaneKey × ℕ) × List ℕ
+abbrev pub HandsAndTable : Type 0
+HandsAndTable = List (LaneKey × ℕ) × List ℕ
 
 -- "A batch hands out its output in order, each item of the lane the rules take it from"
-unfoldable pub chunkThen : Front × List ℕ → List ℕ → ℕ → (List ℕ → ℕ → Drained) → Drained
+unfoldable pub chunkThen : Front × List ℕ → List ℕ → ℕ → (List ℕ → ℕ → HandsAndTable) → HandsAndTable
 chunkThen (Front.None, t) r left more = ([], t)
 chunkThen (Front.Ready l, t) r left more =
     let n = chunkSize t left l in
@@ -117,11 +117,11 @@ chunkThen (Front.Ready l, t) r left more =
     (map (λ v. (l .key, v)) (chunkItems t r n l) ++ d .0, d .1)
 
 -- "Batch: until the limit, or until nothing is queued and nothing is ready". Each chunk has an item at least: as many chunks as items are enough.
-unfoldable pub drainedWithin : ℕ → List ℕ → List ℕ → ℕ → Drained
+unfoldable pub drainedWithin : ℕ → List ℕ → List ℕ → ℕ → HandsAndTable
 drainedWithin zero t r left = ([], t)
 drainedWithin (suc n) t r left = cond (eqb left 0) ([], t) (chunkThen (refreshActive t) r left (λ u m. drainedWithin n u r m))
 
-unfoldable pub drained : List ℕ → List ℕ → ℕ → Drained
+unfoldable pub drained : List ℕ → List ℕ → ℕ → HandsAndTable
 drained t r limit = drainedWithin limit t r limit
 
 -- the number of items, the table, and the output: the items, then its own words

@@ -7,17 +7,17 @@ use Rattle.model.specs.declared.Opening.{Opening}
 use Rattle.model.specs.declared.ReceiveCall.{ReceiveCall}
 use Rattle.model.specs.declared.Call.{Call}
 use Rattle.model.specs.Lists.{Each}
-use Rattle.model.specs.Runs.{Lent, after}
+use Rattle.model.specs.Runs.{Lent, afterList}
 use Rattle.model.specs.Receive.{receiveOutcome}
 use Rattle.model.specs.Rules.{outcome}
-use Rattle.model.specs.Words.{numbersOfOpening, Fits, OpeningFits, runsThatFit}
+use Rattle.model.specs.Simulation.{numbersOfOpening, Fits, OpeningFits, runsThatFit}
 use Rattle.lane.specs.Table.{laneAt}
 use Rattle.store.specs.View.{view}
 use Rattle.store.specs.Order.{StoreInOrder}
 use Rattle.store.specs.Words.{Words}
 use Rattle.store.proofs.RefusalLaws.{seen}
 use Rattle.opening.proofs.OpeningLaws.{open-in-order}
-use Rattle.refinement.specs.Runs.{handsWords, outputWords, callWords, StoreCalls, listsOf, innerCalls, Run, opened}
+use Rattle.refinement.specs.Runs.{handsWords, outputWords, callWords, StoreCalls, listsOf, innerCalls, Run, openedStores}
 use Rattle.refinement.specs.RulesOnWords.{StaysInOrder, QueuedKeysKept}
 use Rattle.refinement.proofs.CallLaws as inner
 
@@ -34,7 +34,7 @@ pub cursor-fits : (o : Opening) (lent : Lent) → OpeningFits o lent → o .curs
 unfolding Fits Each numbersOfOpening
 cursor-fits o lent f = f .1 .1 .1 .0
 
-pub opened-in-order : (x : Run) → StoreInOrder ((opened x) .0) ((opened x) .1)
+pub opened-in-order : (x : Run) → StoreInOrder ((openedStores x) .0) ((openedStores x) .1)
 unfolding runsThatFit
 opened-in-order x = open-in-order (x .opening) (x .table) (x .rings) (cursor-fits (x .opening) _ (x .fits .0)) (x .accepted)
 
@@ -50,14 +50,14 @@ module _ (M : StoreCalls) (i : AsInner M) where
     hands-alike c = i .same-hands t r o c ∙ inner.hands-alike t r o c
 
   calls-keep : (w : List ℕ × List ℕ) (calls : List Call) → StoreInOrder (w .0) (w .1)
-      → let end = after (listsOf M) w calls in StoreInOrder (end .0) (end .1)
-  unfolding after
+      → let end = afterList (listsOf M) w calls in StoreInOrder (end .0) (end .1)
+  unfolding afterList
   calls-keep w [] o = o
   calls-keep w (c ∷ cs) o = calls-keep ((listsOf M .step w c) .1) cs (words-keep (w .0) (w .1) o c)
 
   pub stays-in-order : StaysInOrder M
   unfolding StaysInOrder
-  stays-in-order x = calls-keep (opened x) (x .calls) (opened-in-order x)
+  stays-in-order x = calls-keep (openedStores x) (x .calls) (opened-in-order x)
 
   pub queued-keys-kept : QueuedKeysKept M
   unfolding QueuedKeysKept

@@ -11,7 +11,7 @@ use Rattle.model.specs.State as rules
 use Rattle.model.specs.State.{vacant, hasLane}
 use Rattle.model.specs.Demand1.{RefusalChangesNothing}
 use Rattle.model.specs.Demand2.{Demand2In}
-use Rattle.demands.proofs.Words.{words-demand2, words-demand3, words-none-after-close, words-held-as-counted, words-hands-as-answered}
+use Rattle.demands.proofs.Simulation.{words-demand2, words-demand3, words-none-after-close, words-held-as-counted, words-hands-as-answered}
 use Rattle.yring.specs.Ring.{newRing}
 use Rattle.lane.specs.Lane.{heldItems}
 use Rattle.lane.specs.Table.{laneAt}

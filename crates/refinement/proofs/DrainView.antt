@@ -17,7 +17,7 @@ use Rattle.receive_batch.specs.declared.batch.Front.{Front}
 use Rattle.receive_batch.specs.declared.batch.Front.the-variants as Front
 use Rattle.store.specs.View.{view}
 use Rattle.store.specs.Order.{StoreInOrder}
-use Rattle.receive_batch.specs.Batch.{refreshActive, Reached, fullBudget, chunkSize, chunkGiven, Drained, chunkThen, drainedWithin, drained}
+use Rattle.receive_batch.specs.Batch.{refreshActive, Reached, fullBudget, chunkSize, chunkGiven, HandsAndTable, chunkThen, drainedWithin, drained}
 use Rattle.turns.proofs.DueLaws.{turning-of}
 use Rattle.receive_batch.proofs.LookLaws.{refresh-searched}
 use Rattle.refinement.proofs.LookView.{ReachedAs, none-queued, refresh-alike}
@@ -26,15 +26,15 @@ use Rattle.refinement.proofs.ChunkView.{chunk-queue, chunk-fits, chunk-
 use Rattle.receive_batch.proofs.DrainLaws.{within-next}
 
 -- the same is handed out, the rules see the same state, and the words are in order
-pub record DrainedAs (r : List ℕ) (d : Drained) (w : Took) : Type 0 where
+pub record DrainedAs (r : List ℕ) (d : HandsAndTable) (w : Took) : Type 0 where
   pub alike : (d .0, view (d .1) r) ≡ w
   pub in-order : StoreInOrder (d .1) r
 
 -- the steps that are left do what the rules do with what is left of the limit
-abbrev Goes : List ℕ → ℕ → (List ℕ → ℕ → Drained) → Type 0
+abbrev Goes : List ℕ → ℕ → (List ℕ → ℕ → HandsAndTable) → Type 0
 Goes r n more = (u : List ℕ) (m : ℕ) → m ≤ n → StoreInOrder u r → DrainedAs r (more u m) (takeUpTo m (view u r))
 
-module _ (r : List ℕ) (s : State) (n left : ℕ) (some : 1 ≤ left) (enough : left ≤ suc n) (more : List ℕ → ℕ → Drained) (ih : Goes r n more) where
+module _ (r : List ℕ) (s : State) (n left : ℕ) (some : 1 ≤ left) (enough : left ≤ suc n) (more : List ℕ → ℕ → HandsAndTable) (ih : Goes r n more) where
   -- nothing is queued and nothing is ready
   none-left : (u : List ℕ) → ReachedAs r (Front.None, u) (polled s) → Reached (Front.None, u) → DrainedAs r ([], u) (takeUpTo left s)
   unfolding view
@@ -94,7 +94,7 @@ drained-within-alike zero t r zero h o = record { alike = refl; in-order = o }
 drained-within-alike zero t r (suc left) h o = absurd (omega arith)
 drained-within-alike (suc n) t r zero h o = record { alike = refl; in-order = o }
 drained-within-alike (suc n) t r (suc left) h o =
-    subst (λ (d : Drained). DrainedAs r d (takeUpTo (suc left) (view t r))) (sym (within-next n t r (suc left) (omega arith)))
+    subst (λ (d : HandsAndTable). DrainedAs r d (takeUpTo (suc left) (view t r))) (sym (within-next n t r (suc left) (omega arith)))
     (chunk-then-alike r (view t r) n (suc left) (omega arith) h (λ u m. drainedWithin n u r m) (λ u m i p. drained-within-alike n u r m i p) (refreshActive t) (refresh-alike t r o)
     (refresh-searched t (turning-of t r o) .reached))
 

@@ -12,7 +12,7 @@ use Rattle.model.specs.declared.ReceiveCall.the-variants.{TryRecv, TryRecvFair,
 use Rattle.model.specs.declared.Call.{Call}
 use Rattle.model.specs.declared.Call.the-variants.{Sender, Receive, Control}
 use Rattle.model.specs.declared.Answer.the-variants.{Items, Empty}
-use Rattle.model.specs.Runs.{after}
+use Rattle.model.specs.Runs.{afterList}
 use Rattle.lane.specs.declared.lane.Lane.{Lane}
 use Rattle.lane.specs.declared.lane.Popped.{Popped}
 use Rattle.lane.specs.declared.lane.Popped.the-variants as Popped
@@ -43,13 +43,13 @@ use Rattle.receive_batch.specs.declared.batch.Front.{Front}
 use Rattle.receive_batch.specs.declared.batch.Front.the-variants as Front
 use Rattle.receive_batch.specs.declared.batch.Look.{Look}
 use Rattle.receive_batch.specs.declared.batch.Look.the-variants as Look
-use Rattle.turns.specs.Turn.{frontLane, retireIf, settleEmptyFront, meetBudget, rotateIf, turnBy, pollFront, after as afterTurn, turnsWithin, turns}
+use Rattle.turns.specs.Turn.{frontLane, retireIf, settleEmptyFront, meetBudget, rotateIf, turnBy, pollFront, afterTurn, turnsWithin, turns}
 use Rattle.turns.specs.Drained.{retireEmptyPaused, retireEmptyPausedLanes, emptyOrDrained, nothingTaken}
 use Rattle.receive.specs.Receive.{elseTake, takeFromWindow, fastTook, takeFast, takeIfPopped, takeFrontWindow, pollLoop, tryRecvRefill, takeOne, takeLone, takeFair, answerOne, tryRecv, tryRecvFair}
 use Rattle.turns.specs.Due.{collectIfDue}
 use Rattle.receive_from.specs.Target.{settleTarget, queueTarget, keepTarget, targetTook, takeFrom, tryRecvFrom}
-use Rattle.receive_batch.specs.Batch.{lookBy, lookFront, afterLook, runDownWithin, runDown, elseFront, refreshActive, fullBudget, chunkSize, gaveChunk, chunkGiven, Drained, chunkThen, drainedWithin, drained, answerItems, batchAnswer, tryRecvBatchInto}
-use Rattle.refinement.specs.Runs.{receiveWords, callWords, StoreCalls, listsOf, opened, storesAfter}
+use Rattle.receive_batch.specs.Batch.{lookBy, lookFront, afterLook, runDownWithin, runDown, elseFront, refreshActive, fullBudget, chunkSize, gaveChunk, chunkGiven, HandsAndTable, chunkThen, drainedWithin, drained, answerItems, batchAnswer, tryRecvBatchInto}
+use Rattle.refinement.specs.Runs.{receiveWords, callWords, StoreCalls, listsOf, openedStores, storesAfter}
 use Rattle.refinement.specs.RulesOnWords.{StaysInOrder, RingsStartAtFirstCursor}
 use Rattle.turns.proofs.FrontLaws.{head-left, head-met, head-gave}
 use Rattle.refinement.proofs.FirstCursorSteps.{At, at-put, at-head, at-pushed-back, at-removed, at-marked-if-idle, at-retired, at-slots, at-collected, unless-at, sender-keeps-cursor, control-keeps-cursor, at-release-all}
@@ -240,7 +240,7 @@ module _ {c : ℕ} where
       at-head (rotateIf (e .ended) (putLane t (e .lane)))
       (cond-holds (At c) (e .ended) (rotateLeft (putLane t (e .lane))) (putLane t (e .lane)) (λ d. head-rotated (putLane t (e .lane)) 10 refl refl ∙ p) (λ d. p)) 5 (fullBudget (budget t) - n) refl
 
-  at-chunk-then : (f : Front × List ℕ) (r : List ℕ) (left : ℕ) (more : List ℕ → ℕ → Drained) → At c (f .1) → ((u : List ℕ) (m : ℕ) → At c u → At c ((more u m) .1))
+  at-chunk-then : (f : Front × List ℕ) (r : List ℕ) (left : ℕ) (more : List ℕ → ℕ → HandsAndTable) → At c (f .1) → ((u : List ℕ) (m : ℕ) → At c u → At c ((more u m) .1))
       → At c ((chunkThen f r left more) .1)
   unfolding chunkThen
   at-chunk-then (Front.None, t) r left more h g = h
@@ -280,8 +280,8 @@ call-keeps-cursor t r (Receive s) = receive-keeps-cursor t r s
 call-keeps-cursor t r (Control s) = control-keeps-cursor t r s
 
 module _ (M : StoreCalls) (i : AsInner M) where
-  calls-keep-cursor : (w : List ℕ × List ℕ) (calls : List Call) → StoreInOrder (w .0) (w .1) → firstCursor ((after (listsOf M) w calls) .0) ≡ firstCursor (w .0)
-  unfolding after
+  calls-keep-cursor : (w : List ℕ × List ℕ) (calls : List Call) → StoreInOrder (w .0) (w .1) → firstCursor ((afterList (listsOf M) w calls) .0) ≡ firstCursor (w .0)
+  unfolding afterList
   calls-keep-cursor w [] o = refl
   calls-keep-cursor w (s ∷ calls) o =
       calls-keep-cursor ((listsOf M .step w s) .1) calls (words-keep M i (w .0) (w .1) o s)
@@ -292,5 +292,5 @@ module _ (M : StoreCalls) (i : AsInner M) where
   rings-start-at-first-cursor x most k =
       let v = storesAfter M x in
       let o = stays-in-order M i x in
-      let here : firstCursor (v .0) ≡ x .opening .cursor = calls-keep-cursor (opened x) (x .calls) (opened-in-order x) ∙ opening-puts-cursor (x .opening) (x .table) (x .rings) (x .accepted) in
+      let here : firstCursor (v .0) ≡ x .opening .cursor = calls-keep-cursor (openedStores x) (x .calls) (opened-in-order x) ∙ opening-puts-cursor (x .opening) (x .table) (x .rings) (x .accepted) in
       rw (i .same-words (v .0) (v .1) o (Sender (RegisterSender most))) (rw here at (registered-starts (v .0) (v .1) o most k))

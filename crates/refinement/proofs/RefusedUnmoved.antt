@@ -16,7 +16,7 @@ use Rattle.model.specs.declared.ControlCall.the-variants.{Pause, Resume, CloseL
 use Rattle.model.specs.declared.Refusal.{Refusal}
 use Rattle.model.specs.declared.Answer.{Answer}
 use Rattle.model.specs.declared.Answer.the-variants.{Items, Empty, Disconnected, Refused}
-use Rattle.model.specs.Receive.{written}
+use Rattle.model.specs.Receive.{writtenTo}
 use Rattle.model.specs.Runs.{accepted}
 use Rattle.demands.proofs.Counting.{no}
 use Rattle.yring.specs.Cursor.{distance}
@@ -163,10 +163,10 @@ module _ (t r : List ℕ) (limit : ℕ) where
   batch-unmoved room = unless-accepted t r _ _ batch-accepted
 
 pub batch-output-unmoved : (t r out : List ℕ) (limit : ℕ) (why : Refusal) → (tryRecvBatchInto t r limit (length out)) .0 ≡ Refused why → (batchInto t r out limit) .3 ≡ out
-unfolding tryRecvBatchInto batchInto batchHands unlessRefused handedBy written accepted
+unfolding tryRecvBatchInto batchInto batchHands unlessRefused handedBy writtenTo accepted
 batch-output-unmoved t r out limit why e = go (batchVerdict t limit (length out)) e
   where
-    go : (v : Verdict) → (unlessRefused v t r (withRings r (batchAnswer t r limit))) .0 ≡ Refused why → written (handedBy v (drained t r limit .0)) out ≡ out
+    go : (v : Verdict) → (unlessRefused v t r (withRings r (batchAnswer t r limit))) .0 ≡ Refused why → writtenTo (handedBy v (drained t r limit .0)) out ≡ out
     go Pass f = absurd (no (batch-accepted t r limit) (ap accepted f))
     go (Refuse n) f = refl
 

@@ -12,7 +12,7 @@ use Rattle.model.specs.declared.Answer.the-variants.{Done}
 use Rattle.model.specs.Lists.{if}
 use Rattle.model.specs.State.{State}
 use Rattle.model.specs.Order.{InOrder}
-use Rattle.model.specs.Runs.{Lent, after}
+use Rattle.model.specs.Runs.{Lent, afterList}
 use Rattle.model.specs.Rules.{theRules}
 use Rattle.model.specs.Opening.{openingOutcome}
 use Rattle.model.specs.Events as rules
@@ -31,7 +31,7 @@ use Rattle.store.specs.Order.{StoreInOrder}
 use Rattle.store.proofs.StoreLaws.{rings-fit}
 use Rattle.store.proofs.CollectedView.{view-collect-all, view-collect-group}
 use Rattle.opening.proofs.OpeningLaws.{open-answers-alike, open-view}
-use Rattle.refinement.specs.Runs.{StoreCalls, listsOf, Run, opened, storesAfter}
+use Rattle.refinement.specs.Runs.{StoreCalls, listsOf, Run, openedStores, storesAfter}
 use Rattle.refinement.specs.RulesOnWords.{eventsFrom, runEvents, EventsTell, BudgetCountsItems, AtMost64InOneTurn, AtMost64BetweenCollections, Collecting}
 use Rattle.refinement.proofs.AsInner.{AsInner, opened-in-order, words-alike, words-keep, hands-alike}
 
@@ -48,19 +48,19 @@ lent x = record { rings = length (x .rings); table = length (x .table) }
 pub rules-accept : (x : Run) → (openingOutcome (x .opening) (lent x)) .1 .0 ≡ Done
 rules-accept x = sym (open-answers-alike (x .opening) (x .table) (x .rings)) ∙ x .accepted
 
-shows-opened : (x : Run) → view ((opened x) .0) ((opened x) .1) ≡ (openingOutcome (x .opening) (lent x)) .1 .1
+shows-opened : (x : Run) → view ((openedStores x) .0) ((openedStores x) .1) ≡ (openingOutcome (x .opening) (lent x)) .1 .1
 shows-opened x = open-view (x .opening) (x .table) (x .rings) (x .accepted) ∙ sym (opens-as (x .opening) (lent x))
 
 -- ---- calls that on stores in order are the inner calls
 
 module _ (M : StoreCalls) (i : AsInner M) where
   seen-after : (w : List ℕ × List ℕ) (calls : List Call) → StoreInOrder (w .0) (w .1)
-      → let end = after (listsOf M) w calls in view (end .0) (end .1) ≡ after theRules (view (w .0) (w .1)) calls
-  unfolding after
+      → let end = afterList (listsOf M) w calls in view (end .0) (end .1) ≡ afterList theRules (view (w .0) (w .1)) calls
+  unfolding afterList
   seen-after w [] o = refl
   seen-after w (c ∷ cs) o =
       seen-after ((listsOf M .step w c) .1) cs (words-keep M i (w .0) (w .1) o c)
-      ∙ ap (λ (z : Answer × State). after theRules (z .1) cs) (words-alike M i (w .0) (w .1) o c)
+      ∙ ap (λ (z : Answer × State). afterList theRules (z .1) cs) (words-alike M i (w .0) (w .1) o c)
 
   events-alike : (w : List ℕ × List ℕ) (calls : List Call) → StoreInOrder (w .0) (w .1) → eventsFrom M w calls ≡ rules.eventsFrom (view (w .0) (w .1)) calls
   unfolding eventsFrom rules.eventsFrom
@@ -71,15 +71,15 @@ module _ (M : StoreCalls) (i : AsInner M) where
       ∙ ap (λ (z : Answer × State). rules.eventsFrom (z .1) cs) (words-alike M i (w .0) (w .1) o c))
 
   -- the words show the state that the rules' run with the same calls reaches
-  pub run-seen : (x : Run) → let end = storesAfter M x in view (end .0) (end .1) ≡ after theRules ((openingOutcome (x .opening) (lent x)) .1 .1) (x .calls)
-  run-seen x = seen-after (opened x) (x .calls) (opened-in-order x) ∙ ap (λ (s : State). after theRules s (x .calls)) (shows-opened x)
+  pub run-seen : (x : Run) → let end = storesAfter M x in view (end .0) (end .1) ≡ afterList theRules ((openingOutcome (x .opening) (lent x)) .1 .1) (x .calls)
+  run-seen x = seen-after (openedStores x) (x .calls) (opened-in-order x) ∙ ap (λ (s : State). afterList theRules s (x .calls)) (shows-opened x)
 
   -- and its events are theirs
   run-events-alike : (x : Run) → runEvents M x ≡ rules.runEvents (x .opening) (lent x) (x .calls)
   unfolding runEvents rules.runEvents
   run-events-alike x =
       ap (λ (es : List Event). budgetSet ∷ es)
-      (events-alike (opened x) (x .calls) (opened-in-order x) ∙ ap (λ (s : State). rules.eventsFrom s (x .calls)) (shows-opened x))
+      (events-alike (openedStores x) (x .calls) (opened-in-order x) ∙ ap (λ (s : State). rules.eventsFrom s (x .calls)) (shows-opened x))
 
   -- ---- the sentences
 

@@ -29,7 +29,7 @@ use Rattle.store.specs.Refusal.{andThen}
 use Rattle.store.specs.Words.{Words, withRings}
 use Rattle.turns.specs.Drained.{nothingTaken}
 use Rattle.all_lanes.specs.AllLanes.{releaseAll}
-use Rattle.receive_batch.specs.Batch.{Drained, drained, roomVerdict, batchVerdict, answerItems, batchAnswer, tryRecvBatchInto, handedBy, batchHands}
+use Rattle.receive_batch.specs.Batch.{HandsAndTable, drained, roomVerdict, batchVerdict, answerItems, batchAnswer, tryRecvBatchInto, handedBy, batchHands}
 use Rattle.store.proofs.RefusalLaws.{seen, firstOf, first-of-append, receiver-verdict, refused-alike, unless-refused-case}
 use Rattle.all_lanes.proofs.ReleaseConsumedLaws.{view-release-all, stores-release-all}
 use Rattle.refinement.proofs.NothingTakenLaws.{nothing-taken-alike, nothing-taken-keeps}
@@ -101,7 +101,7 @@ module _ (t r : List ℕ) (limit room : ℕ) where
 -- ---- the call
 
 module _ (t r : List ℕ) (o : StoreInOrder t r) (limit room : ℕ) where
-  abbrev d : Drained
+  abbrev d : HandsAndTable
   d = drained t r limit
 
   abbrev w : Took

@@ -28,7 +28,7 @@ use Rattle.turns.specs.declared.turn.Took.the-variants as Took
 use Rattle.turns.specs.declared.turn.Turn.{Turn}
 use Rattle.store.specs.View.{slotAt, view}
 use Rattle.store.specs.Order.{StoreInOrder}
-use Rattle.turns.specs.Turn.{settleEmptyFront, meetBudget, gaveFront, turnBy, pollFront, after, turnsWithin, turns}
+use Rattle.turns.specs.Turn.{settleEmptyFront, meetBudget, gaveFront, turnBy, pollFront, afterTurn, turnsWithin, turns}
 use Rattle.turns.specs.Drained.{Rests}
 use Rattle.store.proofs.ViewLaws.{slot-in}
 use Rattle.refinement.proofs.SameFlags.{key-by}
@@ -125,10 +125,10 @@ module _ (t r : List ℕ) (o : StoreInOrder t r) (fair : Bool) (x : ℕ) (q : Li
 -- ---- turn after turn
 
 turns-within-alike : (q t r : List ℕ) (fair : Bool) → StoreInOrder t r → queueOf t ≡ q → TookAs r (turnsWithin (length q) t r fair) (turnsFrom fair q (view t r))
-unfolding turnsWithin after turnBy turnsFrom rules.runDownFrom rules.giveFront view
+unfolding turnsWithin afterTurn turnBy turnsFrom rules.runDownFrom rules.giveFront view
 turns-within-alike [] t r fair o e = record { alike = sym (ap (rules.giveFront fair (view t r)) e); in-order = o }
 turns-within-alike (x ∷ q) t r fair o e =
-    subst (λ (u : Turn × List ℕ). TookAs r (after u (turnsWithin (length q) (u .1) r fair)) (turnsFrom fair (x ∷ q) (view t r))) (sym (front-polled t r o fair x q e))
+    subst (λ (u : Turn × List ℕ). TookAs r (afterTurn u (turnsWithin (length q) (u .1) r fair)) (turnsFrom fair (x ∷ q) (view t r))) (sym (front-polled t r o fair x q e))
     (go (λ u p f. turns-within-alike q u r fair p f) (poll (newRing x (capacity t)) r fair (laneAt t x)) refl)
   where
     h : FrontLane t x q
@@ -136,7 +136,7 @@ turns-within-alike (x ∷ q) t r fair o e =
 
     go : ((u : List ℕ) → StoreInOrder u r → queueOf u ≡ q → TookAs r (turnsWithin (length q) u r fair) (turnsFrom fair q (view u r)))
         → (p : LanePoll) → poll (newRing x (capacity t)) r fair (laneAt t x) ≡ p
-        → TookAs r (after (turnBy t p) (turnsWithin (length q) ((turnBy t p) .1) r fair)) (turnsFrom fair (x ∷ q) (view t r))
+        → TookAs r (afterTurn (turnBy t p) (turnsWithin (length q) ((turnBy t p) .1) r fair)) (turnsFrom fair (x ∷ q) (view t r))
     go ih (LanePoll.Item item rotate gave m) f =
         took-given t r o fair x q e item rotate m (gives-by-poll t r (o .stores) x (h .is-issued) (h .registered) fair item rotate gave m f)
     go ih (LanePoll.Idle found) f =

@@ -13,7 +13,7 @@ use Rattle.model.specs.declared.Call.the-variants.{Receive}
 use Rattle.model.specs.declared.Refusal.{Refusal}
 use Rattle.model.specs.declared.Answer.the-variants.{Refused}
 use Rattle.model.specs.Runs.{RunsOf}
-use Rattle.model.specs.Words.{runsThatFit}
+use Rattle.model.specs.Simulation.{runsThatFit}
 use Rattle.model.specs.Demand1.{RefusalChangesNothing}
 use Rattle.model.specs.Demand2.{Demand2In, HasRoom, HandsAsAnsweredIn}
 use Rattle.model.specs.Demand3.{Demand3In}

@@ -25,7 +25,7 @@ use Rattle.ready.specs.Ready.{collectReady}
 use Rattle.store.specs.View.{view}
 use Rattle.store.specs.Order.{StoreInOrder}
 use Rattle.opening.specs.FirstCursor.{StartsAt}
-use Rattle.refinement.specs.Runs.{StoreCalls, listsOf, Run, opened, storesAfter}
+use Rattle.refinement.specs.Runs.{StoreCalls, listsOf, Run, openedStores, storesAfter}
 use Rattle.refinement.specs.DisconnectedOnWords.{DisconnectedExactly, RetiresEmptyPaused, EmptyWithPausedItems, OnlyPausedItemsLeft, TargetedDisconnectedExactly}
 
 -- Of any calls M on two stores: what is set in below takes M first, as in `AtMost64InOneTurn innerCalls`.
@@ -43,7 +43,7 @@ module _ (M : StoreCalls) where
 
   -- Of a run from its opening, which sets the budget.
   unfoldable pub runEvents : Run → List Event
-  runEvents x = budgetSet ∷ eventsFrom (opened x) (x .calls)
+  runEvents x = budgetSet ∷ eventsFrom (openedStores x) (x .calls)
 
   -- Their items are the items that the calls hand out, lane by lane and in order. "Targeted: counts in neither burst nor budget": its events have no item.
   pub record EventsTell : Type 0 where

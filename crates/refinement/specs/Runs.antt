@@ -11,8 +11,8 @@ use Rattle.model.specs.declared.ReceiveCall.the-variants.{TryRecv, TryRecvFair,
 use Rattle.model.specs.declared.Call.{Call}
 use Rattle.model.specs.declared.Call.the-variants.{Sender, Receive, Control}
 use Rattle.model.specs.declared.Answer.the-variants.{Done}
-use Rattle.model.specs.Runs.{Rules, after}
-use Rattle.model.specs.Words.{runsThatFit}
+use Rattle.model.specs.Runs.{Rules, afterList}
+use Rattle.model.specs.Simulation.{runsThatFit}
 use Rattle.store.specs.Words.{Words}
 use Rattle.opening.specs.Opening.{openStore}
 use Rattle.sender.specs.Sender.{senderWords}
@@ -84,8 +84,8 @@ pub record Run : Type 0 where
   pub fits : runsThatFit theStores opening (table, rings) calls
 
 -- The two stores after the opening, and after all its calls.
-abbrev pub opened : Run → List ℕ × List ℕ
-opened x = (theStores .opens (x .opening) (x .table, x .rings)) .1
+abbrev pub openedStores : Run → List ℕ × List ℕ
+openedStores x = (theStores .opens (x .opening) (x .table, x .rings)) .1
 
 abbrev pub storesAfter : StoreCalls → Run → List ℕ × List ℕ
-storesAfter M x = after (listsOf M) (opened x) (x .calls)
+storesAfter M x = afterList (listsOf M) (openedStores x) (x .calls)

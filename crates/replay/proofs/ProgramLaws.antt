@@ -12,8 +12,8 @@ use Rattle.model.specs.declared.Refusal.the-variants.{StoreNotInOrder}
 use Rattle.model.specs.declared.Answer.{Answer}
 use Rattle.model.specs.declared.Answer.the-variants.{Done, Refused}
 use Rattle.model.specs.Lists.{Each}
-use Rattle.model.specs.Opening.{opened}
-use Rattle.model.specs.Runs.{after}
+use Rattle.model.specs.Opening.{openedState}
+use Rattle.model.specs.Runs.{afterList}
 use Rattle.wire.specs.declared.record.Record.{Record}
 use Rattle.wire.specs.declared.record.Record.the-variants as Record
 use Rattle.wire.specs.declared.record.Parsed.the-variants.{Whole}
@@ -63,7 +63,7 @@ before-opening = record { refused = answered-unopened; unchanged = stay-started 
 
 -- ---- openings
 
-opened-afresh : (o : Opening) (s : Stores) → (answered (Record.Open o) s) .0 ≡ Done → let u = (answered (Record.Open o) s) .1 in view (u .table) (u .rings) ≡ opened o
+opened-afresh : (o : Opening) (s : Stores) → (answered (Record.Open o) s) .0 ≡ Done → let u = (answered (Record.Open o) s) .1 in view (u .table) (u .rings) ≡ openedState o
 unfolding answered
 opened-afresh o s e = open-view o (s .table) (s .rings) e
 
@@ -79,8 +79,8 @@ call-as-listed b c n e s = ap (called s) (record-lends b e)
 abbrev asRecords : List Call → List Record
 asRecords cs = map (λ (c : Call). Record.Call c) cs
 
-calls-as-listed-from : (b rest : List ℕ) (cs : List Call) → Reads b (asRecords cs) rest → (s : Stores) → let u = storesAfter (asRecords cs) s in _≡_ {A = List ℕ × List ℕ} (u .table, u .rings) (after theCalls (s .table, s .rings) cs)
-unfolding storesAfter after
+calls-as-listed-from : (b rest : List ℕ) (cs : List Call) → Reads b (asRecords cs) rest → (s : Stores) → let u = storesAfter (asRecords cs) s in _≡_ {A = List ℕ × List ℕ} (u .table, u .rings) (afterList theCalls (s .table, s .rings) cs)
+unfolding storesAfter afterList
 calls-as-listed-from b rest [] p s = refl
 calls-as-listed-from b rest (c ∷ cs) (one {n = n} e p) s =
     ap {B = List ℕ × List ℕ} (λ (w : Answer × Stores). let u = storesAfter (asRecords cs) (w .1) in (u .table, u .rings)) (call-as-listed b c n e s)

@@ -9,7 +9,7 @@ use native.Mathlib.Omega.{arith}
 use lib.Dec.{ltb, eqb}
 use lib.ListN.{length, getD, getElem?}
 use Rattle.model.specs.Lists.{Each}
-use Rattle.model.specs.Words.{numbersOfId, numbersOfCall, Fits}
+use Rattle.model.specs.Simulation.{numbersOfId, numbersOfCall, Fits}
 use Rattle.wire.specs.declared.record.Record.{Record}
 use Rattle.wire.specs.declared.record.Record.the-variants as Record
 use Rattle.wire.specs.declared.record.Parsed.the-variants.{Incomplete, Malformed, Whole}

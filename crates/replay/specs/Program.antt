@@ -9,9 +9,9 @@ use Rattle.model.specs.declared.Refusal.{Refusal}
 use Rattle.model.specs.declared.Refusal.the-variants.{StoreNotInOrder}
 use Rattle.model.specs.declared.Answer.the-variants.{Done, Refused}
 use Rattle.model.specs.Lists.{Each}
-use Rattle.model.specs.Opening.{opened}
-use Rattle.model.specs.Runs.{after}
-use Rattle.model.specs.Words.{Fits, CallFits}
+use Rattle.model.specs.Opening.{openedState}
+use Rattle.model.specs.Runs.{afterList}
+use Rattle.model.specs.Simulation.{Fits, CallFits}
 use Rattle.wire.specs.declared.record.Record.{Record}
 use Rattle.wire.specs.declared.record.Record.the-variants as Record
 use Rattle.wire.specs.declared.record.Parsed.the-variants.{Whole}
@@ -36,7 +36,7 @@ pub record BeforeOpening : Type 0 where
 -- ---- "An accepted opening starts afresh, a refused one changes nothing."
 
 pub record Openings : Type 0 where
-  pub afresh : (o : Opening) (s : Stores) → (answered (Record.Open o) s) .0 ≡ Done → let u = (answered (Record.Open o) s) .1 in view (u .table) (u .rings) ≡ opened o
+  pub afresh : (o : Opening) (s : Stores) → (answered (Record.Open o) s) .0 ≡ Done → let u = (answered (Record.Open o) s) .1 in view (u .table) (u .rings) ≡ openedState o
   pub refused : (o : Opening) (s : Stores) (why : Refusal) → (answered (Record.Open o) s) .0 ≡ Refused why → answered (Record.Open o) s ≡ (Refused why, s)
 
 -- ---- calls
@@ -52,4 +52,4 @@ pub record CallsAsListed : Type 0 where
   pub fit : (b : List ℕ) → Each (λ x. x < 256) b → (r : Record) (n : ℕ) → parse b ≡ Whole r n → RecordFits r
   pub of-one : (b : List ℕ) (c : Call) (n : ℕ) → parse b ≡ Whole (Record.Call c) n → (s : Stores) → answered (Record.Call c) s ≡ called s c
   pub of-many : (b rest : List ℕ) (cs : List Call) → Reads b (map (λ (c : Call). Record.Call c) cs) rest → (s : Stores)
-      → let u = storesAfter (map (λ (c : Call). Record.Call c) cs) s in (u .table, u .rings) ≡ after theCalls (s .table, s .rings) cs
+      → let u = storesAfter (map (λ (c : Call). Record.Call c) cs) s in (u .table, u .rings) ≡ afterList theCalls (s .table, s .rings) cs

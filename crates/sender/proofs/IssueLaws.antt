@@ -16,7 +16,7 @@ use Rattle.model.specs.Lists.{if, count}
 use Rattle.model.specs.State.{vacant, registeredLanes, livingSenders}
 use Rattle.model.specs.Changes.{withIssued, put}
 use Rattle.demands.proofs.Counting.{Same, equal, other, same?}
-use Rattle.demands.proofs.Words.{state-path}
+use Rattle.demands.proofs.Simulation.{state-path}
 use Rattle.lane.specs.declared.lane.Lane.{Lane}
 use Rattle.yring.specs.Ring.{newRing}
 use Rattle.lane.specs.Lane.{heldItems}

@@ -21,7 +21,7 @@ use Rattle.model.specs.Ready as rules
 use Rattle.model.specs.Ready.{groupOf, groupsIn, marks, isReady, collectMarks, startGroup, groupsRound, collectFirst, collectEach, collectReadyGroup}
 use Rattle.model.specs.Ready as rules
 use Rattle.demands.proofs.Counting.{Same, equal, other, same?}
-use Rattle.demands.proofs.Words.{state-path}
+use Rattle.demands.proofs.Simulation.{state-path}
 use Rattle.lane.specs.declared.lane.Lane.{Lane}
 use Rattle.yring.specs.Ring.{newRing}
 use Rattle.lane.specs.Lane.{heldItems}

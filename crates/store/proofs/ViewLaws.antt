@@ -14,7 +14,7 @@ use Rattle.model.specs.Lists.{if}
 use Rattle.model.specs.State.{Slot, State, vacant}
 use Rattle.model.specs.Changes.{withQueue, withFree, withBudget, withCursor, withOpen, put, withFlags, withSignal, withRing}
 use Rattle.demands.proofs.Counting.{Same, equal, other, same?}
-use Rattle.demands.proofs.Words.{state-path}
+use Rattle.demands.proofs.Simulation.{state-path}
 use Rattle.model.specs.declared.LaneKey.{LaneKey}
 use Rattle.lane.specs.declared.lane.Lane.{Lane}
 use Rattle.yring.specs.Cursor.{distance}

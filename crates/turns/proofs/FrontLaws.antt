@@ -34,7 +34,7 @@ use Rattle.turns.specs.declared.turn.Took.{Took}
 use Rattle.turns.specs.declared.turn.Took.the-variants as Took
 use Rattle.turns.specs.declared.turn.Turn.{Turn}
 use Rattle.turns.specs.declared.turn.Turn.the-variants as Turn
-use Rattle.turns.specs.Turn.{Turning, Ringed, retireIf, settleEmptyFront, meetBudget, lessOne, rotateIf, gaveFront, turnBy, pollFront, after, turnsWithin, turns}
+use Rattle.turns.specs.Turn.{Turning, Ringed, retireIf, settleEmptyFront, meetBudget, lessOne, rotateIf, gaveFront, turnBy, pollFront, afterTurn, turnsWithin, turns}
 use Rattle.store.proofs.CountLaws.{one}
 use Rattle.store.proofs.StepLaws.{Step, step-from, step-put-lane, step-popped-front, step-rotated, step-freed, step-budget, step-lane-count}
 use Rattle.store.proofs.RetireFrames.{freed-unless-last-is, length-retire-lane}
@@ -331,15 +331,15 @@ none-queued t r fair e = rw (eq-eqb (queueCount t) 0 e)
 module _ (t r : List ℕ) (fair : Bool) (k : Turning t) (u : List ℕ) where
   -- a turn that ends the take
   pub turns-end : (took : Took) → (Turn.Ends took, u) ≡ pollFront t r fair → (took, u) ≡ turns t r fair
-  unfolding turns turnsWithin after
+  unfolding turns turnsWithin afterTurn
   turns-end took e = go (queueCount t) refl
     where
       pairs : _≡_ {A = Turn × List ℕ} (Turn.Ends took, u) (Turn.Ends Took.Nothing, t) → _≡_ {A = Took × List ℕ} (took, u) (Took.Nothing, t)
-      pairs p = ap (λ (o : Turn × List ℕ). after o (Took.Nothing, t)) p
+      pairs p = ap (λ (o : Turn × List ℕ). afterTurn o (Took.Nothing, t)) p
 
       go : (n : ℕ) → queueCount t ≡ n → (took, u) ≡ turnsWithin n t r fair
       go zero z = pairs (e ∙ none-queued t r fair z)
-      go (suc n) z = ap (λ (o : Turn × List ℕ). after o (turnsWithin n (pollFront t r fair .1) r fair)) e
+      go (suc n) z = ap (λ (o : Turn × List ℕ). afterTurn o (turnsWithin n (pollFront t r fair .1) r fair)) e
 
   -- a turn whose lane left
   module _ (e : (Turn.Left, u) ≡ pollFront t r fair) where
@@ -350,14 +350,14 @@ module _ (t r : List ℕ) (fair : Bool) (k : Turning t) (u : List ℕ) where
     turn-fewer = subst (λ (o : Turn × List ℕ). o .0 ≡ Turn.Left → queueCount (o .1) + 1 ≡ queueCount t) (sym e) (poll-front-turned t r fair k .fewer) refl
 
     pub turns-on : turns u r fair ≡ turns t r fair
-    unfolding turns turnsWithin after
+    unfolding turns turnsWithin afterTurn
     turns-on = go (queueCount t) (queueCount u) turn-fewer
       where
         go : (n m : ℕ) → m + 1 ≡ n → turnsWithin m u r fair ≡ turnsWithin n t r fair
         go zero m z = absurd (omega arith)
         go (suc n) m z =
             let q : m ≡ n = omega arith in
-            rw q (ap (λ (o : Turn × List ℕ). after o (turnsWithin n (o .1) r fair)) e)
+            rw q (ap (λ (o : Turn × List ℕ). afterTurn o (turnsWithin n (o .1) r fair)) e)
 
 -- the front lane gives an item, which ends the take
 pub gave-ends : (t r : List ℕ) (fair : Bool) (k : Turning t) → (queueCount t ≡ 0 → ⊥) → (item : ℕ) (rotate released : Bool) (l : Lane)
@@ -367,13 +367,13 @@ gave-ends t r fair k some item rotate released l e = turns-end t r fair k _ _ (f
 
 -- turns keep what a turn keeps
 turns-within-keep : (n : ℕ) (t r : List ℕ) (fair : Bool) → Turning t → Keeps t ((turnsWithin n t r fair) .1)
-unfolding turnsWithin after
+unfolding turnsWithin afterTurn
 turns-within-keep zero t r fair k = keeps-self t k
 turns-within-keep (suc n) t r fair k =
     let s = poll-front-turned t r fair k .keeps in
     go (pollFront t r fair) s (turns-within-keep n (pollFront t r fair .1) r fair (s .turning))
   where
-    go : (o : Turn × List ℕ) → Keeps t (o .1) → Keeps (o .1) ((turnsWithin n (o .1) r fair) .1) → Keeps t ((after o (turnsWithin n (o .1) r fair)) .1)
+    go : (o : Turn × List ℕ) → Keeps t (o .1) → Keeps (o .1) ((turnsWithin n (o .1) r fair) .1) → Keeps t ((afterTurn o (turnsWithin n (o .1) r fair)) .1)
     go (Turn.Ends took, u) a b = a
     go (Turn.Left, u) a b = keeps-then a b
 

@@ -88,14 +88,14 @@ pollFront t r fair =
     (turnBy t (poll (newRing (frontSlot t) (capacity t)) r fair (frontLane t)))
 
 -- what follows a turn that handed nothing out
-unfoldable pub after : Turn × List ℕ → Took × List ℕ → Took × List ℕ
-after (Turn.Ends took, t) more = (took, t)
-after (Turn.Left, t) more = more
+unfoldable pub afterTurn : Turn × List ℕ → Took × List ℕ → Took × List ℕ
+afterTurn (Turn.Ends took, t) more = (took, t)
+afterTurn (Turn.Left, t) more = more
 
 -- "which goes on until it has an item or nothing is queued": n lanes at most can leave a queue of n
 unfoldable pub turnsWithin : ℕ → List ℕ → List ℕ → Bool → Took × List ℕ
 turnsWithin zero t r fair = (Took.Nothing, t)
-turnsWithin (suc n) t r fair = let u = pollFront t r fair in after u (turnsWithin n (u .1) r fair)
+turnsWithin (suc n) t r fair = let u = pollFront t r fair in afterTurn u (turnsWithin n (u .1) r fair)
 
 unfoldable pub turns : List ℕ → List ℕ → Bool → Took × List ℕ
 turns t r fair = turnsWithin (queueCount t) t r fair

@@ -1,4 +1,4 @@
--- `queues::queue::rotate` meets its contract.
+-- `queues::queue::rotate_left` meets its contract.
 -- Assumes nothing.
 use Rattle.queues.specs.Queue.{rotateLeft}
 use borrow.Author.Needs.{needs}

@@ -1,4 +1,4 @@
--- `ready::ready::mark_group` meets its contract.
+-- `ready::ready::set_group_bit` meets its contract.
 -- Assumes nothing.
 use native.Mathlib.Omega.{arith}
 use borrow.Author.Needs.{needs}

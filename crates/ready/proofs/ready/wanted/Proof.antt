@@ -1,4 +1,4 @@
--- `ready::ready::wants` meets its contract.
+-- `ready::ready::wanted` meets its contract.
 -- Assumes nothing.
 use borrow.Author.Tests.{lt-ltb, le-ltb}
 use Rattle.ready.specs.Ready.{wanted}

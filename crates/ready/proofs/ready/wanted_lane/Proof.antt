@@ -1,4 +1,4 @@
--- `ready::ready::is_ready` meets its contract.
+-- `ready::ready::wanted_lane` meets its contract.
 -- Assumes nothing.
 use borrow.Author.Tests.{eq-eqb, ne-eqb}
 use mathlib.Core.Path.{_≡_}

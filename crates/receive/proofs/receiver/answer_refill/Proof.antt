@@ -1,4 +1,4 @@
--- `receive::receiver::recv_refill` meets its contract.
+-- `receive::receiver::answer_refill` meets its contract.
 -- Assumes nothing.
 use mathlib.Core.Path.{sym, ap, _∙_, subst}
 use Rattle.turns.specs.Drained.{Rests}

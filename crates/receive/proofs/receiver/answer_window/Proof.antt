@@ -1,4 +1,4 @@
--- `receive::receiver::recv_window` meets its contract.
+-- `receive::receiver::answer_window` meets its contract.
 -- Assumes nothing.
 use mathlib.Core.Path.{sym, ap₂, _∙_, subst}
 use Rattle.turns.specs.Drained.{Rests}

@@ -1,4 +1,4 @@
--- `receive::receiver::took_fair` meets its contract.
+-- `receive::receiver::take_from_lone_window` meets its contract.
 -- Assumes nothing.
 use mathlib.Core.Path.{ap, _∙_}
 use Rattle.lane.specs.declared.consumer.Taken.{Taken}

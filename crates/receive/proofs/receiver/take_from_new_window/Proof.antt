@@ -1,4 +1,4 @@
--- `receive::receiver::took_of_new` meets its contract.
+-- `receive::receiver::take_from_new_window` meets its contract.
 -- Assumes nothing.
 use lib.ListN.{length-set}
 use native.Mathlib.Omega.{arith}

@@ -1,4 +1,4 @@
--- `receive::receiver::took_of_window` meets its contract.
+-- `receive::receiver::take_from_window` meets its contract.
 -- Assumes nothing.
 use Rattle.lane.proofs.TableLaws.{frames}
 use Rattle.receive.specs.Receive.{takeFromWindow}

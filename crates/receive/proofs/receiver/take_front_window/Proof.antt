@@ -1,4 +1,4 @@
--- `receive::receiver::take_window` meets its contract.
+-- `receive::receiver::take_front_window` meets its contract.
 -- Assumes nothing.
 use Rattle.receive.specs.Receive.{takeFrontWindow}
 use Rattle.turns.proofs.TurnLaws.{slot-below, ring-in, front-issued, front-ordered}

@@ -1,4 +1,4 @@
--- `receive::receiver::took_of_opened` meets its contract.
+-- `receive::receiver::take_if_popped` meets its contract.
 -- Assumes nothing.
 use mathlib.Core.Path.{sym, ap, _∙_, subst}
 use Prim.Native.Nat.{_<_}

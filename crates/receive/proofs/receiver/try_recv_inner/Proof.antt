@@ -1,4 +1,4 @@
--- `receive::receiver::try_recv_open` meets its contract.
+-- `receive::receiver::try_recv_inner` meets its contract.
 -- Assumes nothing.
 use mathlib.Core.Path.{ap, _∙_}
 use Rattle.receive.specs.Receive.{answerOne}

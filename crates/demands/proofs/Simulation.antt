@@ -15,14 +15,14 @@ use Rattle.model.specs.declared.Answer.{Answer}
 use Rattle.model.specs.declared.Answer.the-variants.{Done}
 use Rattle.model.specs.Lists.{Each}
 use Rattle.model.specs.State.{State, ringOf}
-use Rattle.model.specs.Runs.{Lent, Tick, ends, Rules, handed, ticks, trace, countTicks, after}
+use Rattle.model.specs.Runs.{Lent, Tick, ends, Rules, handed, ticks, trace, countTicks, afterList}
 use Rattle.model.specs.Rules.{theRules}
 use Rattle.model.specs.Order.{InOrder}
 use Rattle.model.specs.Demand2.{Demand2In, Demand2, shuts, values, outOf, into, HandsAsAnswered, HandsAsAnsweredIn}
 use Rattle.model.specs.Demand3.{Demand3In, Demand3}
 use Rattle.model.specs.Closed.{NoneAfterCloseIn, NoneAfterClose}
 use Rattle.model.specs.Held.{HeldAsCountedIn, HeldAsCounted}
-use Rattle.model.specs.Words.{numbersOfOpening, numbersOfCall, Fits, OpeningFits, CallFits, runsThatFit, Simulation}
+use Rattle.model.specs.Simulation.{numbersOfOpening, numbersOfCall, Fits, OpeningFits, CallFits, runsThatFit, Simulation}
 use Rattle.demands.proofs.Demand2.{demand2}
 use Rattle.demands.proofs.Demand3.{demand3}
 use Rattle.demands.proofs.Closed.{none-after-close}
@@ -59,13 +59,13 @@ module _ (R S : Rules) (sim : Simulation R S) where
   same-trace w [] f o = refl
   same-trace w (c ∷ cs) f o = rw (same-ticks w c (f .0) o, same-trace ((R .step w c) .1) cs (f .1) (sim .keeps-ok w c (f .0) o), sim .leaves-alike w c (f .0) o)
 
-  same-after : (w : R .State) (cs : List Call) → Each CallFits cs → sim .Ok w → sim .view (after R w cs) ≡ after S (sim .view w) cs
-  unfolding after Each
+  same-after : (w : R .State) (cs : List Call) → Each CallFits cs → sim .Ok w → sim .view (afterList R w cs) ≡ afterList S (sim .view w) cs
+  unfolding afterList Each
   same-after w [] f o = refl
-  same-after w (c ∷ cs) f o = same-after ((R .step w c) .1) cs (f .1) (sim .keeps-ok w c (f .0) o) ∙ ap (λ (x : S .State). after S x cs) (sim .leaves-alike w c (f .0) o)
+  same-after w (c ∷ cs) f o = same-after ((R .step w c) .1) cs (f .1) (sim .keeps-ok w c (f .0) o) ∙ ap (λ (x : S .State). afterList S x cs) (sim .leaves-alike w c (f .0) o)
 
-  ok-after : (w : R .State) (cs : List Call) → Each CallFits cs → sim .Ok w → sim .Ok (after R w cs)
-  unfolding after Each
+  ok-after : (w : R .State) (cs : List Call) → Each CallFits cs → sim .Ok w → sim .Ok (afterList R w cs)
+  unfolding afterList Each
   ok-after w [] f o = o
   ok-after w (c ∷ cs) f o = ok-after ((R .step w c) .1) cs (f .1) (sim .keeps-ok w c (f .0) o)
 
@@ -77,8 +77,8 @@ module _ (R S : Rules) (sim : Simulation R S) where
     pub opened-trace : (cs : List Call) → Each CallFits cs → trace R ((R .opens o w) .1) cs ≡ trace S ((S .opens o (sim .lent w)) .1) cs
     opened-trace cs f = same-trace ((R .opens o w) .1) cs f (sim .opens-ok o w fo d) ∙ ap (λ (x : S .State). trace S x cs) (sim .opens-view o w fo d)
 
-    opened-after : (cs : List Call) → Each CallFits cs → sim .view (after R ((R .opens o w) .1) cs) ≡ after S ((S .opens o (sim .lent w)) .1) cs
-    opened-after cs f = same-after ((R .opens o w) .1) cs f (sim .opens-ok o w fo d) ∙ ap (λ (x : S .State). after S x cs) (sim .opens-view o w fo d)
+    opened-after : (cs : List Call) → Each CallFits cs → sim .view (afterList R ((R .opens o w) .1) cs) ≡ afterList S ((S .opens o (sim .lent w)) .1) cs
+    opened-after cs f = same-after ((R .opens o w) .1) cs f (sim .opens-ok o w fo d) ∙ ap (λ (x : S .State). afterList S x cs) (sim .opens-view o w fo d)
 
   transfer3 : Demand3 S → Demand3In R (runsThatFit R)
   unfolding Demand3 Demand3In runsThatFit
@@ -105,7 +105,7 @@ module _ (R S : Rules) (sim : Simulation R S) where
       let t = opened-trace o w (f .0) d calls (f .1) in
       let end = opened-after o w (f .0) d calls (f .1) in
       let g = h o (sim .lent w) (accepted-too o w (f .0) d) calls tt k (ap (countTicks (shuts k)) (sym t) ∙ z) in
-      ap (λ (l : List Tick). values (outOf k) l ++ ring (sim .view (after R ((R .opens o w) .1) calls)) k) t ∙ ap (λ (x : S .State). values (outOf k) (trace S ((S .opens o (sim .lent w)) .1) calls) ++ ring x k) end ∙ g ∙ ap (values (into k)) (sym t)
+      ap (λ (l : List Tick). values (outOf k) l ++ ring (sim .view (afterList R ((R .opens o w) .1) calls)) k) t ∙ ap (λ (x : S .State). values (outOf k) (trace S ((S .opens o (sim .lent w)) .1) calls) ++ ring x k) end ∙ g ∙ ap (values (into k)) (sym t)
 
 pub words-none-after-close : (R : Rules) → Simulation R theRules → NoneAfterCloseIn R (runsThatFit R)
 words-none-after-close R sim = transfer-closed R theRules sim none-after-close
