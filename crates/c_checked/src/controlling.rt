@@ -1,9 +1,10 @@
-// The calls that hand nothing out, on any stores.
+// The checked calls that hand nothing out, on any stores.
 ghost use mathlib.Core.Path.{_≡_};
 ghost use Rattle.fanring.specs.Runs.{checkedWords};
 ghost use Rattle.model.specs.declared.ControlCall.the-variants.{CloseLane, CloseReceiver, CountHeld, Pause, PollAllLanes, ReleaseConsumed, Resume};
 ghost use Rattle.model.specs.declared.Call.the-variants.{Control};
 ghost use Rattle.c_answer.specs.Answer.{told};
+ghost use Rattle.c_answer.specs.Numbers.{laneId};
 use c_answer::answer;
 use fanring::batch;
 use fanring::lane_control;
@@ -21,7 +22,7 @@ pub extern "C" fn fanring_pause(
     generation: u64,
     words: &mut [u64; 8],
 ) -> u64
-    ensures { λ a. ⌜ (a, now (words .exit), now (table .exit), now (rings .entry)) ≡ told (now (words .entry)) (checkedWords (now (table .entry)) (now (rings .entry)) (Control (Pause (record { channel = channel; key = record { slot = slot; generation = generation } })))) ⌝ }
+    ensures { λ a. ⌜ (a, now (words .exit), now (table .exit), now (rings .entry)) ≡ told (now (words .entry)) (checkedWords (now (table .entry)) (now (rings .entry)) (Control (Pause (laneId channel slot generation)))) ⌝ }
 {
     let done = lane_control::pause(
         table,
@@ -47,7 +48,7 @@ pub extern "C" fn fanring_resume(
     generation: u64,
     words: &mut [u64; 8],
 ) -> u64
-    ensures { λ a. ⌜ (a, now (words .exit), now (table .exit), now (rings .entry)) ≡ told (now (words .entry)) (checkedWords (now (table .entry)) (now (rings .entry)) (Control (Resume (record { channel = channel; key = record { slot = slot; generation = generation } })))) ⌝ }
+    ensures { λ a. ⌜ (a, now (words .exit), now (table .exit), now (rings .entry)) ≡ told (now (words .entry)) (checkedWords (now (table .entry)) (now (rings .entry)) (Control (Resume (laneId channel slot generation)))) ⌝ }
 {
     let done = lane_control::resume(
         table,
@@ -73,7 +74,7 @@ pub extern "C" fn fanring_close_lane(
     generation: u64,
     words: &mut [u64; 8],
 ) -> u64
-    ensures { λ a. ⌜ (a, now (words .exit), now (table .exit), now (rings .entry)) ≡ told (now (words .entry)) (checkedWords (now (table .entry)) (now (rings .entry)) (Control (CloseLane (record { channel = channel; key = record { slot = slot; generation = generation } })))) ⌝ }
+    ensures { λ a. ⌜ (a, now (words .exit), now (table .exit), now (rings .entry)) ≡ told (now (words .entry)) (checkedWords (now (table .entry)) (now (rings .entry)) (Control (CloseLane (laneId channel slot generation)))) ⌝ }
 {
     let done = lane_control::close_lane(
         table,

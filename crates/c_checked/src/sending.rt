@@ -1,10 +1,11 @@
-// Opening and the sender calls, on any stores.
+// Opening and the checked sender calls, on any stores.
 ghost use mathlib.Core.Path.{_≡_};
 ghost use Rattle.fanring.specs.Runs.{checkedWords};
 ghost use Rattle.model.specs.declared.SenderCall.the-variants.{DropSender, RegisterSender, TrySend, TrySendUnsignaled};
 ghost use Rattle.model.specs.declared.Call.the-variants.{Sender};
 ghost use Rattle.opening.specs.Opening.{openStore};
 ghost use Rattle.c_answer.specs.Answer.{told};
+ghost use Rattle.c_answer.specs.Numbers.{laneKey};
 use c_answer::answer;
 use fanring::mpsc;
 use fanring::send;
@@ -63,7 +64,7 @@ pub extern "C" fn fanring_try_send(
     item: u64,
     words: &mut [u64; 8],
 ) -> u64
-    ensures { λ a. ⌜ (a, now (words .exit), now (table .exit), now (rings .exit)) ≡ told (now (words .entry)) (checkedWords (now (table .entry)) (now (rings .entry)) (Sender (TrySend (record { slot = slot; generation = generation }) item))) ⌝ }
+    ensures { λ a. ⌜ (a, now (words .exit), now (table .exit), now (rings .exit)) ≡ told (now (words .entry)) (checkedWords (now (table .entry)) (now (rings .entry)) (Sender (TrySend (laneKey slot generation) item))) ⌝ }
 {
     let done = send::try_send(
         table,
@@ -87,7 +88,7 @@ pub extern "C" fn fanring_try_send_unsignaled(
     item: u64,
     words: &mut [u64; 8],
 ) -> u64
-    ensures { λ a. ⌜ (a, now (words .exit), now (table .exit), now (rings .exit)) ≡ told (now (words .entry)) (checkedWords (now (table .entry)) (now (rings .entry)) (Sender (TrySendUnsignaled (record { slot = slot; generation = generation }) item))) ⌝ }
+    ensures { λ a. ⌜ (a, now (words .exit), now (table .exit), now (rings .exit)) ≡ told (now (words .entry)) (checkedWords (now (table .entry)) (now (rings .entry)) (Sender (TrySendUnsignaled (laneKey slot generation) item))) ⌝ }
 {
     let done = send::try_send_unsignaled(
         table,
@@ -110,7 +111,7 @@ pub extern "C" fn fanring_drop_sender(
     generation: u64,
     words: &mut [u64; 8],
 ) -> u64
-    ensures { λ a. ⌜ (a, now (words .exit), now (table .exit), now (rings .entry)) ≡ told (now (words .entry)) (checkedWords (now (table .entry)) (now (rings .entry)) (Sender (DropSender (record { slot = slot; generation = generation })))) ⌝ }
+    ensures { λ a. ⌜ (a, now (words .exit), now (table .exit), now (rings .entry)) ≡ told (now (words .entry)) (checkedWords (now (table .entry)) (now (rings .entry)) (Sender (DropSender (laneKey slot generation)))) ⌝ }
 {
     let done = send::drop_sender(
         table,

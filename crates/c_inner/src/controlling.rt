@@ -1,9 +1,11 @@
-// The calls that hand nothing out, on stores in order, as an accepted opening and every call leave them.
+// The inner calls that hand nothing out, on stores in order, as an accepted opening and every call leave them.
 ghost use mathlib.Core.Path.{_≡_};
 ghost use Rattle.store.specs.Order.{StoreInOrder};
-ghost use Rattle.control.specs.Control.{pause, resume, closeLane, closeReceiver};
-ghost use Rattle.all_lanes.specs.AllLanes.{releaseConsumed, pollAllLanes, countHeld};
+ghost use Rattle.model.specs.declared.ControlCall.the-variants.{CloseLane, CloseReceiver, CountHeld, Pause, PollAllLanes, ReleaseConsumed, Resume};
+ghost use Rattle.model.specs.declared.Call.the-variants.{Control};
+ghost use Rattle.refinement.specs.Runs.{callWords};
 ghost use Rattle.c_answer.specs.Answer.{told};
+ghost use Rattle.c_answer.specs.Numbers.{laneId};
 use all_lanes::all_lanes;
 use c_answer::answer;
 use control::lane_control;
@@ -21,7 +23,7 @@ pub extern "C" fn fanring_inner_pause(
     words: &mut [u64; 8],
 ) -> u64
     requires { ⌜ StoreInOrder (now table) (now rings) ⌝ }
-    ensures { λ a. ⌜ (a, now (words .exit), now (table .exit), now (rings .entry)) ≡ told (now (words .entry)) (pause (now (table .entry)) (now (rings .entry)) (record { channel = channel; key = record { slot = slot; generation = generation } })) ⌝ }
+    ensures { λ a. ⌜ (a, now (words .exit), now (table .exit), now (rings .entry)) ≡ told (now (words .entry)) (callWords (now (table .entry)) (now (rings .entry)) (Control (Pause (laneId channel slot generation)))) ⌝ }
 {
     let done = lane_control::pause(
         table,
@@ -48,7 +50,7 @@ pub extern "C" fn fanring_inner_resume(
     words: &mut [u64; 8],
 ) -> u64
     requires { ⌜ StoreInOrder (now table) (now rings) ⌝ }
-    ensures { λ a. ⌜ (a, now (words .exit), now (table .exit), now (rings .entry)) ≡ told (now (words .entry)) (resume (now (table .entry)) (now (rings .entry)) (record { channel = channel; key = record { slot = slot; generation = generation } })) ⌝ }
+    ensures { λ a. ⌜ (a, now (words .exit), now (table .exit), now (rings .entry)) ≡ told (now (words .entry)) (callWords (now (table .entry)) (now (rings .entry)) (Control (Resume (laneId channel slot generation)))) ⌝ }
 {
     let done = lane_control::resume(
         table,
@@ -75,7 +77,7 @@ pub extern "C" fn fanring_inner_close_lane(
     words: &mut [u64; 8],
 ) -> u64
     requires { ⌜ StoreInOrder (now table) (now rings) ⌝ }
-    ensures { λ a. ⌜ (a, now (words .exit), now (table .exit), now (rings .entry)) ≡ told (now (words .entry)) (closeLane (now (table .entry)) (now (rings .entry)) (record { channel = channel; key = record { slot = slot; generation = generation } })) ⌝ }
+    ensures { λ a. ⌜ (a, now (words .exit), now (table .exit), now (rings .entry)) ≡ told (now (words .entry)) (callWords (now (table .entry)) (now (rings .entry)) (Control (CloseLane (laneId channel slot generation)))) ⌝ }
 {
     let done = lane_control::close_lane(
         table,
@@ -99,7 +101,7 @@ pub extern "C" fn fanring_inner_release_consumed(
     words: &mut [u64; 8],
 ) -> u64
     requires { ⌜ StoreInOrder (now table) (now rings) ⌝ }
-    ensures { λ a. ⌜ (a, now (words .exit), now (table .exit), now (rings .entry)) ≡ told (now (words .entry)) (releaseConsumed (now (table .entry)) (now (rings .entry))) ⌝ }
+    ensures { λ a. ⌜ (a, now (words .exit), now (table .exit), now (rings .entry)) ≡ told (now (words .entry)) (callWords (now (table .entry)) (now (rings .entry)) (Control ReleaseConsumed)) ⌝ }
 {
     let done = all_lanes::release_consumed(table, rings);
     answer::tell(done, words)
@@ -113,7 +115,7 @@ pub extern "C" fn fanring_inner_poll_all_lanes(
     words: &mut [u64; 8],
 ) -> u64
     requires { ⌜ StoreInOrder (now table) (now rings) ⌝ }
-    ensures { λ a. ⌜ (a, now (words .exit), now (table .exit), now (rings .entry)) ≡ told (now (words .entry)) (pollAllLanes (now (table .entry)) (now (rings .entry))) ⌝ }
+    ensures { λ a. ⌜ (a, now (words .exit), now (table .exit), now (rings .entry)) ≡ told (now (words .entry)) (callWords (now (table .entry)) (now (rings .entry)) (Control PollAllLanes)) ⌝ }
 {
     let done = all_lanes::poll_all_lanes(table, rings);
     answer::tell(done, words)
@@ -127,7 +129,7 @@ pub extern "C" fn fanring_inner_close_receiver(
     words: &mut [u64; 8],
 ) -> u64
     requires { ⌜ StoreInOrder (now table) (now rings) ⌝ }
-    ensures { λ a. ⌜ (a, now (words .exit), now (table .exit), now (rings .entry)) ≡ told (now (words .entry)) (closeReceiver (now (table .entry)) (now (rings .entry))) ⌝ }
+    ensures { λ a. ⌜ (a, now (words .exit), now (table .exit), now (rings .entry)) ≡ told (now (words .entry)) (callWords (now (table .entry)) (now (rings .entry)) (Control CloseReceiver)) ⌝ }
 {
     let done = lane_control::close_receiver(table, rings);
     answer::tell(done, words)
@@ -137,7 +139,7 @@ pub extern "C" fn fanring_inner_close_receiver(
 #[no_mangle]
 pub extern "C" fn fanring_inner_held(table: &[u64], rings: &[u64], words: &mut [u64; 8]) -> u64
     requires { ⌜ StoreInOrder (now table) (now rings) ⌝ }
-    ensures { λ a. ⌜ (a, now (words .exit), now (table .entry), now (rings .entry)) ≡ told (now (words .entry)) (countHeld (now (table .entry)) (now (rings .entry))) ⌝ }
+    ensures { λ a. ⌜ (a, now (words .exit), now (table .entry), now (rings .entry)) ≡ told (now (words .entry)) (callWords (now (table .entry)) (now (rings .entry)) (Control CountHeld)) ⌝ }
 {
     let done = all_lanes::held(table, rings);
     answer::tell(done, words)
