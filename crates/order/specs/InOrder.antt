@@ -1,5 +1,5 @@
 -- Whether two stores are in order, as a function that computes: the clauses of crates/order_slot/specs/Clauses.antt in their order, each as a test.
--- It is for contracts of the checked calls, which test their stores first, and is not how the code tests; it looks each slot up in the queue and the free list.
+-- It is for contracts of calls that test their stores first, and is not how the code tests; it looks each slot up in the queue and the free list.
 -- Assumes nothing.
 use mathlib.Core.Bool.{Bool, true, false, not}
 use mathlib.Core.List.{List, [], _∷_}
