@@ -6,7 +6,6 @@ ghost use Rattle.model.specs.declared.Call.the-variants.{Control};
 ghost use Rattle.refinement.specs.Runs.{callWords};
 ghost use Rattle.c_answer.specs.Answer.{told};
 ghost use Rattle.c_answer.specs.Numbers.{laneId};
-use all_lanes::all_lanes;
 use c_answer::answer;
 use control::lane_control;
 use model::LaneId;
@@ -103,7 +102,7 @@ pub extern "C" fn fanring_inner_release_consumed(
     requires { ⌜ StoreInOrder (now table) (now rings) ⌝ }
     ensures { λ a. ⌜ (a, now (words .exit), now (table .exit), now (rings .entry)) ≡ told (now (words .entry)) (callWords (now (table .entry)) (now (rings .entry)) (Control ReleaseConsumed)) ⌝ }
 {
-    let done = all_lanes::release_consumed(table, rings);
+    let done = all_lanes::all_lanes::release_consumed(table, rings);
     answer::tell(done, words)
 }
 
@@ -117,7 +116,7 @@ pub extern "C" fn fanring_inner_poll_all_lanes(
     requires { ⌜ StoreInOrder (now table) (now rings) ⌝ }
     ensures { λ a. ⌜ (a, now (words .exit), now (table .exit), now (rings .entry)) ≡ told (now (words .entry)) (callWords (now (table .entry)) (now (rings .entry)) (Control PollAllLanes)) ⌝ }
 {
-    let done = all_lanes::poll_all_lanes(table, rings);
+    let done = all_lanes::all_lanes::poll_all_lanes(table, rings);
     answer::tell(done, words)
 }
 
@@ -141,6 +140,6 @@ pub extern "C" fn fanring_inner_held(table: &[u64], rings: &[u64], words: &mut [
     requires { ⌜ StoreInOrder (now table) (now rings) ⌝ }
     ensures { λ a. ⌜ (a, now (words .exit), now (table .entry), now (rings .entry)) ≡ told (now (words .entry)) (callWords (now (table .entry)) (now (rings .entry)) (Control CountHeld)) ⌝ }
 {
-    let done = all_lanes::held(table, rings);
+    let done = all_lanes::all_lanes::held(table, rings);
     answer::tell(done, words)
 }

@@ -5,9 +5,9 @@ ghost use mathlib.Core.Bool.{false};
 ghost use Rattle.yring.specs.Ring.{newRing};
 ghost use Rattle.lane.specs.Lane.{newLane, pushAndFlushItem, poll};
 ghost use Rattle.lane.specs.Order.{InOrder, sentLane, polledLane};
-use lane::producer::Sent;
 use lane::lane::Lane;
 use lane::lane::LanePoll;
+use lane::producer::Sent;
 use model::LaneKey;
 use yring::ring::Ring;
 

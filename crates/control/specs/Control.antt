@@ -18,7 +18,7 @@ use Rattle.store.specs.Registry.{retireLane}
 
 -- a lane with another signal, in or out of the queue, paused or not
 abbrev pub withTurn : ℕ → ℕ → ℕ → Lane → Lane
-withTurn pending queued pauseLane l = withFlags pending queued pauseLane (l .registered) (l .living) l
+withTurn pending queued paused l = withFlags pending queued paused (l .registered) (l .living) l
 
 -- credit goes back "on `pause`"; a paused lane is in no queue
 unfoldable pub pausedLane : Lane → Lane

@@ -16,7 +16,7 @@ use store::registry;
 use store::signal;
 
 pub fn with_turn(mut l: Lane, pending: u64, queued: u64, paused: u64) -> Lane
-    ensures { λ r. ⌜ r ≡ withTurn pending queued pauseLane l ⌝ }
+    ensures { λ r. ⌜ r ≡ withTurn pending queued paused l ⌝ }
 {
     l.pending = pending;
     l.queued = queued;

@@ -11,7 +11,6 @@ use Rattle.model.specs.Lists.{if, from, nonEmpty}
 use Rattle.model.specs.State.{State}
 use Rattle.model.specs.Ready.{marks, collectFirst, collectEach, groupsIn, startGroup, groupsRound, collectReadyGroup}
 use Rattle.model.specs.Ready as rules
-use Rattle.model.specs.Ready as rules
 use Rattle.lane.proofs.TableLaws.{frames}
 use Rattle.queues.specs.Header.{Shaped, issued, groupCursor, setGroupCursor}
 use Rattle.queues.specs.Queue.{QueueNames}

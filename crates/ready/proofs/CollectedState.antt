@@ -16,7 +16,7 @@ use Rattle.model.specs.Lists as rules
 use Rattle.model.specs.State.{State, mayQueue}
 use Rattle.model.specs.Changes.{withSlots, withQueue, withCursor, unmarked}
 use Rattle.model.specs.Ready.{groupOf, marks, isReady, collectMarks}
-use Rattle.model.specs.Ready as rules
+use Rattle.model.specs.Ready as ready-rules
 use Rattle.demands.proofs.Counting.{equal, other, same?}
 use Rattle.lane.specs.declared.lane.Lane.{Lane}
 use Rattle.lane.specs.Table.{laneAt}
@@ -154,11 +154,11 @@ each-marked s group = each-keep (λ x. rules.both (s .slotOf x .marked) (eqb (gr
 
 -- the rules, for a group that has a mark
 collect-some : (s : State) (group x : ℕ) (l : List ℕ) → marks s group ≡ x ∷ l
-    → rules.collectGroup s group
+    → ready-rules.collectGroup s group
     ≡ withCursor (suc group)
     (withQueue (s .queue ++ keep (isReady s) (marks s group))
     (withSlots (λ y. if (eqb (groupOf y) group) (unmarked (s .slotOf y)) (s .slotOf y)) s))
-unfolding rules.collectGroup collectMarks
+unfolding ready-rules.collectGroup collectMarks
 collect-some s group x l e = rw e
 
 module _ (t : List ℕ) (s : State) (group : ℕ) (sh : Shaped t) (q : QueueNames t) (k : Linked t) (v : Sees t s) (h : 4096 * group < issued t) where
@@ -213,7 +213,7 @@ module _ (t : List ℕ) (s : State) (group : ℕ) (sh : Shaped t) (q : QueueName
       same false = refl
 
   -- the rules' collecting of a group that has bits
-  pub sees-group : WordsFit t → (groupWord t group ≡ 0 → ⊥) → Sees (setGroupCursor (collectGroup t group) (group + 1)) (rules.collectGroup s group)
+  pub sees-group : WordsFit t → (groupWord t group ≡ 0 → ⊥) → Sees (setGroupCursor (collectGroup t group) (group + 1)) (ready-rules.collectGroup s group)
   sees-group f n =
       let (x, l, e) = some-marks t s k (v .same-marks) group h f n in
       subst (Sees (setGroupCursor (collectGroup t group) (group + 1))) (sym (collect-some s group x l e))
@@ -228,6 +228,6 @@ module _ (t : List ℕ) (s : State) (group : ℕ) (sh : Shaped t) (q : QueueName
       stored = simp (frames, header-in (collectGroup t group) (kept-group t group sh q .shaped))
 
   -- of a group that has none
-  pub sees-none : groupWord t group ≡ 0 → rules.collectGroup s group ≡ s
-  unfolding rules.collectGroup collectMarks
+  pub sees-none : groupWord t group ≡ 0 → ready-rules.collectGroup s group ≡ s
+  unfolding ready-rules.collectGroup collectMarks
   sees-none z = rw (no-marks t s k (v .same-marks) group h z)

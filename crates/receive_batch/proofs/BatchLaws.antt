@@ -100,7 +100,7 @@ module _ (t r out : List ℕ) (limit : ℕ) where
   by-verdict : (v : Verdict) → Answer × List ℕ × List ℕ × List ℕ
   by-verdict v =
       let w = unlessRefused v t r (withRings r (batchAnswer t r limit)) in
-      (w .0, w .1, w .2, rules.written (handedBy v (drained t r limit .0)) out)
+      (w .0, w .1, w .2, rules.writtenTo (handedBy v (drained t r limit .0)) out)
 
   is-by-verdict : batchInto t r out limit ≡ by-verdict (batchVerdict t limit (length out))
   unfolding batchInto tryRecvBatchInto batchHands by-verdict

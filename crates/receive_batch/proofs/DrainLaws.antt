@@ -55,7 +55,7 @@ pub record Draining (t₀ r out₀ : List ℕ) (limit : ℕ) (t out : List ℕ) 
   pub counted : length handed ≡ received
   pub enough : limit - received ≤ fuel
   pub long : length out ≡ length out₀
-  pub wrote : out ≡ rules.written handed out₀
+  pub wrote : out ≡ rules.writtenTo handed out₀
   pub rest : onto handed (drainedWithin fuel t r (limit - received)) ≡ drained t₀ r limit
 
 pub draining-start : (t r out : List ℕ) (limit : ℕ) → Turning t → Draining t r out limit t out 0
@@ -90,7 +90,7 @@ module _ {t₀ r out₀ : List ℕ} {limit : ℕ} {t out : List ℕ} {received :
       ended : onto (d .handed) ([], t) ≡ drained t₀ r limit → (received, t, out) ≡ drainInto t₀ r out₀ limit
       ended e =
           let all : (d .handed, t) ≡ drained t₀ r limit = ap (λ (l : Handed). (l, t)) (sym (append-nil (d .handed))) ∙ e in
-          rw (← d .counted, d .wrote) (ap (λ (x : HandsAndTable). (length (x .0), x .1, rules.written (x .0) out₀)) all)
+          rw (← d .counted, d .wrote) (ap (λ (x : HandsAndTable). (length (x .0), x .1, rules.writtenTo (x .0) out₀)) all)
 
       go : (n left : ℕ) → left ≡ 0 → onto (d .handed) (drainedWithin n t r left) ≡ drained t₀ r limit → (received, t, out) ≡ drainInto t₀ r out₀ limit
       go zero left z e = ended e
@@ -121,7 +121,7 @@ module _ {t₀ r out₀ : List ℕ} {limit : ℕ} {t out : List ℕ} {received :
             let s : onto (d .handed) ([], u) ≡ drained t₀ r limit =
             ap (λ (o : Front × List ℕ). onto (d .handed) (chunkThen o r (limit - received) (λ u m. drainedWithin n u r m))) e ∙ step n z in
             let all : (d .handed, u) ≡ drained t₀ r limit = ap (λ (l : Handed). (l, u)) (sym (append-nil (d .handed))) ∙ s in
-            rw (← d .counted, d .wrote) (ap (λ (x : HandsAndTable). (length (x .0), x .1, rules.written (x .0) out₀)) all)
+            rw (← d .counted, d .wrote) (ap (λ (x : HandsAndTable). (length (x .0), x .1, rules.writtenTo (x .0) out₀)) all)
 
     -- a lane has items
     module _ (u : List ℕ) (l : Lane) (e : (Front.Ready l, u) ≡ refreshActive t) where
@@ -157,7 +157,7 @@ module _ {t₀ r out₀ : List ℕ} {limit : ℕ} {t out : List ℕ} {received :
           table-is : v ≡ chunkGiven u n l
           table-is = ap (λ (z : ℕ × List ℕ × List ℕ). z .1) g
 
-          output-is : o ≡ rules.written (d .handed ++ chunkHanded u r n l) out₀
+          output-is : o ≡ rules.writtenTo (d .handed ++ chunkHanded u r n l) out₀
           output-is =
               ap (λ (z : ℕ × List ℕ × List ℕ). z .2) g ∙ ap₂ (λ (a : List ℕ) (b : ℕ). written a b (chunkItems u r n l)) (d .wrote) (sym (d .counted))
               ∙ output-chunk (d .handed) (l .key) (chunkItems u r n l) out₀ (omega (arith, d .counted, d .within, room))
@@ -186,7 +186,7 @@ module _ {t₀ r out₀ : List ℕ} {limit : ℕ} {t out : List ℕ} {received :
 
               rest-is : (f : ℕ) → suc f ≡ d .fuel → onto (d .handed ++ chunkHanded u r n l) (drainedWithin f (chunkGiven u n l) r (limit - (received + n))) ≡ drained t₀ r limit
               rest-is f z =
-                  let more : Drained = drainedWithin f (chunkGiven u n l) r (limit - received - n) in
+                  let more : HandsAndTable = drainedWithin f (chunkGiven u n l) r (limit - received - n) in
                   ap (λ (m : ℕ). onto (d .handed ++ chunkHanded u r n l) (drainedWithin f (chunkGiven u n l) r m)) left-is
                   ∙ ap (λ (x : Handed). (x, more .1)) (append-assoc (d .handed) (chunkHanded u r n l) (more .0))
                   ∙ ap (λ (o : Front × List ℕ). onto (d .handed) (chunkThen o r (limit - received) (λ u m. drainedWithin f u r m))) e ∙ step f z

@@ -20,17 +20,17 @@ values-append [] m = refl
 values-append (g ∷ l) m = ap (λ (i : List ℕ). g .1 ∷ i) (values-append l m)
 
 -- the rules' output is the words written from place 0 on
-output-written : (l : List (LaneKey × ℕ)) (out : List ℕ) → rules.written l out ≡ written out 0 (valuesOf l)
-unfolding rules.written
+output-written : (l : List (LaneKey × ℕ)) (out : List ℕ) → rules.writtenTo l out ≡ written out 0 (valuesOf l)
+unfolding rules.writtenTo
 output-written l out = ap (λ (n : ℕ). valuesOf l ++ drop n out) (sym (zero-add (length (valuesOf l)) ∙ length-map l (λ g. g .1)))
 
 -- nothing is handed out yet
-pub output-none : (out : List ℕ) → rules.written [] out ≡ out
-unfolding rules.written
+pub output-none : (out : List ℕ) → rules.writtenTo [] out ≡ out
+unfolding rules.writtenTo
 output-none out = refl
 
 -- the words of the items m, written after those of the items l
-pub output-more : (l m : List (LaneKey × ℕ)) (out : List ℕ) → length l ≤ length out → written (rules.written l out) (length l) (valuesOf m) ≡ rules.written (l ++ m) out
+pub output-more : (l m : List (LaneKey × ℕ)) (out : List ℕ) → length l ≤ length out → written (rules.writtenTo l out) (length l) (valuesOf m) ≡ rules.writtenTo (l ++ m) out
 output-more l m out h =
     let n : length (valuesOf l) ≡ length l = length-map l (λ g. g .1) in
     let z : 0 + length (valuesOf l) ≡ length l = zero-add (length (valuesOf l)) ∙ n in
@@ -41,8 +41,8 @@ output-more l m out h =
     ∙ sym (output-written (l ++ m) out)
 
 -- the output keeps its length
-pub length-output : (l : List (LaneKey × ℕ)) (out : List ℕ) → length l ≤ length out → length (rules.written l out) ≡ length out
-unfolding rules.written
+pub length-output : (l : List (LaneKey × ℕ)) (out : List ℕ) → length l ≤ length out → length (rules.writtenTo l out) ≡ length out
+unfolding rules.writtenTo
 length-output l out h =
     length-append (valuesOf l) (drop (length l) out) ∙ sum (length-map l (λ g. g .1)) (length-drop (length l) out) h
   where
@@ -54,5 +54,5 @@ pub values-keyed : (k : LaneKey) (ws : List ℕ) → valuesOf (map (λ v. (k, v)
 values-keyed k [] = refl
 values-keyed k (w ∷ ws) = ap (λ (i : List ℕ). w ∷ i) (values-keyed k ws)
 
-pub output-chunk : (l : List (LaneKey × ℕ)) (k : LaneKey) (ws out : List ℕ) → length l ≤ length out → written (rules.written l out) (length l) ws ≡ rules.written (l ++ map (λ v. (k, v)) ws) out
-output-chunk l k ws out h = ap (written (rules.written l out) (length l)) (sym (values-keyed k ws)) ∙ output-more l (map (λ v. (k, v)) ws) out h
+pub output-chunk : (l : List (LaneKey × ℕ)) (k : LaneKey) (ws out : List ℕ) → length l ≤ length out → written (rules.writtenTo l out) (length l) ws ≡ rules.writtenTo (l ++ map (λ v. (k, v)) ws) out
+output-chunk l k ws out h = ap (written (rules.writtenTo l out) (length l)) (sym (values-keyed k ws)) ∙ output-more l (map (λ v. (k, v)) ws) out h

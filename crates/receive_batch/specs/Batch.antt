@@ -126,7 +126,7 @@ drained t r limit = drainedWithin limit t r limit
 
 -- the number of items, the table, and the output: the items, then its own words
 unfoldable pub drainInto : List ℕ → List ℕ → List ℕ → ℕ → ℕ × List ℕ × List ℕ
-drainInto t r out limit = let d = drained t r limit in (length (d .0), d .1, rules.written (d .0) out)
+drainInto t r out limit = let d = drained t r limit in (length (d .0), d .1, rules.writtenTo (d .0) out)
 
 -- ---- the call
 
@@ -165,4 +165,4 @@ batchHands t r limit room = handedBy (batchVerdict t limit room) (drained t r li
 unfoldable pub batchInto : List ℕ → List ℕ → List ℕ → ℕ → Answer × List ℕ × List ℕ × List ℕ
 batchInto t r out limit =
     let w = tryRecvBatchInto t r limit (length out) in
-    (w .0, w .1, w .2, rules.written (batchHands t r limit (length out)) out)
+    (w .0, w .1, w .2, rules.writtenTo (batchHands t r limit (length out)) out)

@@ -23,7 +23,6 @@ ghost use Rattle.receive_batch.specs.Batch.{
   answerItems,
   batchInto,
 };
-use all_lanes::all_lanes;
 use lane::lane::Lane;
 use lane::lane::Refill;
 use model::Answer;
@@ -222,7 +221,7 @@ pub fn try_recv_batch_into(t: &mut [u64], r: &[u64], out: &mut [u64], limit: u64
         Verdict::Refuse { why } => Answer::Refused { why: why },
         Verdict::Pass => {
             let received = drain_into(t, r, out, limit);
-            all_lanes::release_all(t);
+            all_lanes::all_lanes::release_all(t);
             answer_items(t, limit, received)
         }
     }

@@ -81,7 +81,7 @@ module _ (t r : List ℕ) (o : StoreInOrder t r) where
   output-alike TryRecvFair out h = refl
   output-alike (TryRecvFrom i) out h = refl
   output-alike (TryRecvBatchInto limit room) out h =
-      ap (λ (n : ℕ). rules.written (batchHands t r limit n) out) h ∙ try-recv-batch-output t r out o limit room
+      ap (λ (n : ℕ). rules.writtenTo (batchHands t r limit n) out) h ∙ try-recv-batch-output t r out o limit room
 
   -- a lane in the queue keeps its key
   pub call-keeps-queued-key : (c : Call) (x : ℕ) → 1 ≤ count x (queueOf t) → laneAt ((callWords t r c) .1) x .key ≡ laneAt t x .key

@@ -144,6 +144,6 @@ module _ (t r : List ℕ) (o : StoreInOrder t r) (limit room : ℕ) where
           ∙ ap (λ (z : Took). (rules.answerItems limit (z .0) (rules.releaseAll (z .1))) .0) (taken .alike)
 
 -- "A batch hands out its output in order": the output's words
-pub try-recv-batch-output : (t r out : List ℕ) → StoreInOrder t r → (limit room : ℕ) → rules.written (batchHands t r limit room) out ≡ rules.outputAfter (view t r) (TryRecvBatchInto limit room) out
+pub try-recv-batch-output : (t r out : List ℕ) → StoreInOrder t r → (limit room : ℕ) → rules.writtenTo (batchHands t r limit room) out ≡ rules.outputAfter (view t r) (TryRecvBatchInto limit room) out
 unfolding rules.outputAfter
-try-recv-batch-output t r out o limit room = ap (λ (l : List (LaneKey × ℕ)). rules.written l out) (try-recv-batch-hands t r o limit room)
+try-recv-batch-output t r out o limit room = ap (λ (l : List (LaneKey × ℕ)). rules.writtenTo l out) (try-recv-batch-hands t r o limit room)

@@ -19,7 +19,6 @@ use Rattle.model.specs.State.{State, vacant, queued, mayQueue}
 use Rattle.model.specs.Changes.{withSlots, withQueue, withCursor, unmarked}
 use Rattle.model.specs.Ready as rules
 use Rattle.model.specs.Ready.{groupOf, groupsIn, marks, isReady, collectMarks, startGroup, groupsRound, collectFirst, collectEach, collectReadyGroup}
-use Rattle.model.specs.Ready as rules
 use Rattle.demands.proofs.Counting.{Same, equal, other, same?}
 use Rattle.demands.proofs.Simulation.{state-path}
 use Rattle.lane.specs.declared.lane.Lane.{Lane}

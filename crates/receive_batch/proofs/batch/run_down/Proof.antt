@@ -30,7 +30,7 @@ same-length : tie.Need-same-length Inv-loop μ-loop
 same-length c = search needs
 
 returns : tie.Need-returns Inv-loop μ-loop
-returns c = search-end _ (c .before .before .before .before .before .before .before .loop .inv .0) _ _ (rw (c .before .front-slot .given .1) at (c .before .before .before .before .before .look-front .ensures)) ∙ c .before .before .before .before .before .before .before .loop .inv .2
+returns c = search-end _ (c .before .before .before .before .before .before .before .loop .inv .0) _ _ (rw (c .before .front .given .1) at (c .before .before .before .before .before .look-front .ensures)) ∙ c .before .before .before .before .before .before .before .loop .inv .2
 
 enum-told : tie.Need-enum-told Inv-loop μ-loop
 enum-told c = search needs
