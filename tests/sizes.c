@@ -18,7 +18,7 @@ int main(void) {
     for (size_t i = 0; i < sizeof(sizes) / sizeof(sizes[0]); i++) {
         uint64_t slots = sizes[i][0], capacity = sizes[i][1];
         /* the sums stand for arguments that need brackets */
-        size_t table_len = FANRING_TABLE_WORDS(slots - 1 + 1), rings_len = FANRING_RING_WORDS(slots - 1 + 1, capacity - 1 + 1);
+        size_t table_len = FANRING_TABLE_WORDS(0 + slots), rings_len = FANRING_RING_WORDS(0 + slots, 0 + capacity);
         if (refusal(slots, capacity, table_len, rings_len) != 0
             || refusal(slots, capacity, table_len, rings_len - 1) != FANRING_RING_STORE_SHORT
             || refusal(slots, capacity, table_len - 1, rings_len) != FANRING_TABLE_STORE_SHORT) {

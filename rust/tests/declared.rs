@@ -10,9 +10,15 @@ fn read(path: &str) -> String {
     fs::read_to_string(&path).unwrap_or_else(|error| panic!("{}: {error}", path.display()))
 }
 
+/// With one space wherever there is space.
+fn on_one_line(text: &str) -> String {
+    text.split_whitespace().collect::<Vec<_>>().join(" ")
+}
+
 /// Function to parameters, of all that stands as `NAME(PARAMETERS` before such an end.
 fn functions(text: &str, end: &str) -> BTreeMap<String, Vec<String>> {
-    text.split(end)
+    on_one_line(text)
+        .split(end)
         .filter_map(|piece| piece.rsplit_once('('))
         .filter_map(|(before, parameters)| Some((before.split_whitespace().last()?, parameters)))
         .filter(|(name, _)| name.starts_with("fanring_"))
@@ -21,8 +27,7 @@ fn functions(text: &str, end: &str) -> BTreeMap<String, Vec<String>> {
 }
 
 fn items(parameters: &str) -> Vec<String> {
-    let words = |item: &str| item.split_whitespace().collect::<Vec<_>>().join(" ");
-    parameters.split(',').map(words).filter(|item| !item.is_empty()).collect()
+    parameters.split(',').map(on_one_line).filter(|item| !item.is_empty()).collect()
 }
 
 /// A parameter of C as Rust has it.
