@@ -1,5 +1,5 @@
-/* The header's macros for the sizes of the stores say what an opening asks for: with so many words it is accepted, with one less of either store refused.
-   tests/library runs it. */
+/* The header's macros for the sizes of the stores say what an opening asks for: with so many words it is accepted, with one less of either store
+   refused. tests/library runs it. */
 #include "fanring.h"
 #include <inttypes.h>
 #include <stdio.h>
