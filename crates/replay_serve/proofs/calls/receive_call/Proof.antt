@@ -1,7 +1,5 @@
 -- `replay_serve::calls::receive_call` meets its contract.
 -- Assumes nothing.
-use mathlib.Core.Path.{_∙_}
-use Rattle.fanring.proofs.CheckedCalls.{batch-words}
 use Rattle.replay_serve.proofs.CallLaws.{try-recv-answered, try-recv-fair-answered, try-recv-from-answered, batch-answered}
 use borrow.Author.Needs.{needs}
 use Rattle.replay_serve.proofs.calls.receive_call.Statement.{statement}
@@ -17,7 +15,7 @@ returns-3 : tie.Need-returns-3
 returns-3 c = try-recv-from-answered _ _ _ (c .before .before .before .before .before .call .given .1) (c .try-recv-from .ensures)
 
 returns-4 : tie.Need-returns-4
-returns-4 c = batch-answered _ _ _ (c .before .before .before .before .before .before .call2 .given .1) (c .before .try-recv-batch-into-arg4 .given .0 .1) (c .try-recv-batch-into .ensures ∙ batch-words _ _ _ _)
+returns-4 c = batch-answered _ _ _ (c .before .before .before .before .before .before .call2 .given .1) (c .before .try-recv-batch-into-arg4 .given .0 .1) (c .try-recv-batch-into .ensures)
 
 pub receive-call-spec : {M : Type 1} → statement M
 receive-call-spec =
