@@ -15,9 +15,9 @@ use Rattle.model.specs.Changes.{withQueue}
 use Rattle.model.specs.Outcome.{says}
 use Rattle.model.specs.Control as rules
 use Rattle.lane.specs.declared.lane.Lane.{Lane}
-use Rattle.lane.specs.Table.{laneAt}
+use Rattle.lane.specs.Table.{head, laneAt}
 use Rattle.lane.proofs.TableLaws.{slot-of-lane}
-use Rattle.queues.specs.Header.{issued, slots, budget, fastSlot, laneCount, livingCount, queueCount}
+use Rattle.queues.specs.Header.{issued, slots, queueCount}
 use Rattle.queues.specs.Queue.{queueOf}
 use Rattle.ready.specs.Ready.{queuedLane, enqueue}
 use Rattle.queues.proofs.QueueLaws.{length-queue}
@@ -47,11 +47,11 @@ module _ (t r : List ℕ) (o : Stores t r) (x : ℕ) (w : Wants t x) where
   unnamed : count x (queueOf t) ≡ 0
   unnamed = sym (o .named .flagged x (w .is-issued) (w .registered)) ∙ w .unqueued
 
-  step-enqueued : Step t (enqueue t x) x (queuedLane old) (queueOf t ++ (x ∷ [])) (fastSlot t) (budget t) (laneCount t) (livingCount t)
+  step-enqueued : Step t (enqueue t x) x (queuedLane old) (queueOf t ++ (x ∷ [])) (head t)
   unfolding enqueue
   step-enqueued = step-pushed-back (step-put-lane (step-start t r o x) (queuedLane old) (slot-of-lane t x) (w .is-issued)) x (rw (length-queue t) room)
 
-  owes-enqueued : Owes t x (queuedLane old) (queueOf t ++ (x ∷ [])) (fastSlot t) (budget t) (laneCount t) (livingCount t)
+  owes-enqueued : Owes t x (queuedLane old) (queueOf t ++ (x ∷ [])) (head t)
   owes-enqueued =
       let f = o .flags x (w .is-issued) in
       let k = o .lanes x (w .is-issued) (w .registered) in
@@ -75,7 +75,7 @@ module _ (t r : List ℕ) (o : Stores t r) (x : ℕ) (w : Wants t x) where
       }
 
   stores-enqueued : Stores (enqueue t x) r
-  stores-enqueued = stores-after t r (enqueue t x) r o x (w .is-issued) (queuedLane old) _ _ _ _ _ step-enqueued owes-enqueued (o .rings-room)
+  stores-enqueued = stores-after t r (enqueue t x) r o x (w .is-issued) (queuedLane old) _ _ step-enqueued owes-enqueued (o .rings-room)
 
 -- the words' test is the rules'
 module _ (t r : List ℕ) (o : Stores t r) (x : ℕ) (h : x < issued t) where

@@ -18,9 +18,9 @@ use Rattle.demands.proofs.Counting.{equal, other, same?}
 use Rattle.demands.proofs.Simulation.{state-path}
 use Rattle.lane.specs.declared.lane.Lane.{Lane}
 use Rattle.lane.specs.Lane.{releasePending}
-use Rattle.lane.specs.Table.{laneAt, putLane}
+use Rattle.lane.specs.Table.{head, laneAt, putLane}
 use Rattle.lane.proofs.OrderLaws.{release-pending-keeps}
-use Rattle.queues.specs.Header.{issued, capacity, budget, fastSlot, laneCount, livingCount}
+use Rattle.queues.specs.Header.{issued, capacity, budget}
 use Rattle.queues.specs.Queue.{queueOf}
 use Rattle.store.specs.View.{flag, slotAt, view}
 use Rattle.store.specs.Order.{Stores, StoreInOrder}
@@ -65,7 +65,7 @@ module _ (t r : List ℕ) (o : Stores t r) (x : ℕ) (h : x < issued t) where
     stores-given =
         let k = release-pending-keeps (capacity t) (o .power .most) old (o .lanes x h g) in
         let f = o .flags x h in
-        stores-after t r (putLane t new) r o x h new (queueOf t) (fastSlot t) (budget t) (laneCount t) (livingCount t)
+        stores-after t r (putLane t new) r o x h new (queueOf t) (head t)
         (step-put-lane (step-start t r o x) new (slot-released t x) h)
         (record {
           flags = record {

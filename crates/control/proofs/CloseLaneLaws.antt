@@ -14,9 +14,9 @@ use Rattle.model.specs.Control as rules
 use Rattle.model.specs.Turn as turns
 use Rattle.demands.proofs.Counting.{without-own, without-other}
 use Rattle.lane.specs.declared.lane.Lane.{Lane}
-use Rattle.lane.specs.Table.{laneAt}
+use Rattle.lane.specs.Table.{head, laneAt}
 use Rattle.lane.proofs.TableLaws.{slot-of-lane}
-use Rattle.queues.specs.Header.{issued, slots, budget, fastSlot, freeCount, laneCount, livingCount}
+use Rattle.queues.specs.Header.{issued, slots, freeCount, laneCount}
 use Rattle.queues.specs.Queue.{queueOf, remove}
 use Rattle.queues.proofs.QueueLaws.{queue-frames, shaped-removed, head-removed, lane-removed}
 use Rattle.store.specs.View.{view}
@@ -26,6 +26,7 @@ use Rattle.store.specs.Registry.{retired, retireLane}
 use Rattle.control.specs.Control.{close, closeLane}
 use Rattle.store.proofs.ViewLaws.{view-removed}
 use Rattle.store.proofs.RefusalLaws.{seen, id-verdict, id-passes, refused-alike, unless-refused-case}
+use Rattle.store.proofs.HeaderWords.{withWord}
 use Rattle.store.proofs.StepLaws.{Step, step-start, step-removed}
 use Rattle.store.proofs.StoreLaws.{lane-counted, room-in-free, Owes, stores-after, windows-without}
 use Rattle.store.proofs.RetireLaws.{view-retire-lane, step-retire-lane}
@@ -50,13 +51,13 @@ module _ (t r : List ℕ) (o : StoreInOrder t r) (x : ℕ) (h : x < issued t) (g
       ∙ view-retire-lane out r (shaped-removed t (o .stores .shaped) x) x (simp queue-frames h) out-room
       ∙ ap (turns.retireLane x) (view-removed t r (o .stores .shaped) x)
 
-  step-closed : Step t (close t old) x (retired old) (lists.without x (queueOf t)) (fastSlot t) (budget t) (laneCount out - 1) (livingCount t)
+  step-closed : Step t (close t old) x (retired old) (lists.without x (queueOf t)) (withWord laneCount (laneCount out - 1) (head t))
   step-closed =
-      subst (λ (u : List ℕ). Step t u x (retired old) (lists.without x (queueOf t)) (fastSlot t) (budget t) (laneCount out - 1) (livingCount t))
+      subst (λ (u : List ℕ). Step t u x (retired old) (lists.without x (queueOf t)) (withWord laneCount (laneCount out - 1) (head t)))
       (sym (closed-is ∙ ap (retireLane out) (lane-removed t x x)))
       (step-retire-lane (step-removed (step-start t r (o .stores) x) x) old (slot-of-lane t x) h out-room)
 
-  owes-closed : Owes t x (retired old) (lists.without x (queueOf t)) (fastSlot t) (budget t) (laneCount out - 1) (livingCount t)
+  owes-closed : Owes t x (retired old) (lists.without x (queueOf t)) (withWord laneCount (laneCount out - 1) (head t))
   owes-closed =
       let f = o .stores .flags x h in
       record {
@@ -79,7 +80,7 @@ module _ (t r : List ℕ) (o : StoreInOrder t r) (x : ℕ) (h : x < issued t) (g
       }
 
   stores-closed : Stores (close t old) r
-  stores-closed = stores-after t r (close t old) r (o .stores) x h (retired old) _ _ _ _ _ step-closed owes-closed (o .stores .rings-room)
+  stores-closed = stores-after t r (close t old) r (o .stores) x h (retired old) _ _ step-closed owes-closed (o .stores .rings-room)
 
 pub close-lane-alike : (t r : List ℕ) (i : LaneId) → StoreInOrder t r → seen (closeLane t r i) ≡ (rules.closeLane (view t r) i) .1
 unfolding closeLane rules.closeLane

@@ -15,11 +15,11 @@ use Rattle.model.specs.Control as rules
 use Rattle.demands.proofs.Counting.{without-own, without-other}
 use Rattle.lane.specs.declared.lane.Lane.{Lane}
 use Rattle.lane.specs.Order.{InOrder}
-use Rattle.lane.specs.Table.{laneAt, putLane}
+use Rattle.lane.specs.Table.{head, laneAt, putLane}
 use Rattle.lane.proofs.OrderLaws.{release-pending-keeps}
 use Rattle.lane.proofs.TableLaws.{slot-of-lane}
 use Rattle.lane.specs.Lane.{releasePending}
-use Rattle.queues.specs.Header.{issued, capacity, budget, fastSlot, laneCount, livingCount}
+use Rattle.queues.specs.Header.{issued, capacity}
 use Rattle.queues.specs.Queue.{queueOf, remove}
 use Rattle.queues.proofs.QueueLaws.{shaped-putLane}
 use Rattle.store.specs.View.{flag, slotAt, view}
@@ -79,9 +79,9 @@ module _ (t r : List ℕ) (o : StoreInOrder t r) (x : ℕ) (h : x < issued t) (g
       (view-put-same-ends t r (o .stores .shaped) x h new (back .same-key) (back .same-head) (back .same-tail)
       ∙ ap (λ (m : Slot). put x m (view t r)) slot-paused)
 
-  step-paused : Step t (pauseLane t old) x new (lists.without x (queueOf t)) (fastSlot t) (budget t) (laneCount t) (livingCount t)
+  step-paused : Step t (pauseLane t old) x new (lists.without x (queueOf t)) (head t)
   step-paused =
-      subst (λ (u : List ℕ). Step t u x new (lists.without x (queueOf t)) (fastSlot t) (budget t) (laneCount t) (livingCount t)) (sym paused-is)
+      subst (λ (u : List ℕ). Step t u x new (lists.without x (queueOf t)) (head t)) (sym paused-is)
       (step-removed (step-put-lane (step-start t r (o .stores) x) new own-slot h) x)
 
   flags-paused : Flags new
@@ -102,7 +102,7 @@ module _ (t r : List ℕ) (o : StoreInOrder t r) (x : ℕ) (h : x < issued t) (g
       let k = release-pending-keeps (capacity t) (o .stores .power .most) old (o .stores .lanes x h g) in
       record { cursors = k .cursors; counts = k .counts }
 
-  owes-paused : Owes t x new (lists.without x (queueOf t)) (fastSlot t) (budget t) (laneCount t) (livingCount t)
+  owes-paused : Owes t x new (lists.without x (queueOf t)) (head t)
   unfolding pausedLane
   owes-paused =
       record {
@@ -120,7 +120,7 @@ module _ (t r : List ℕ) (o : StoreInOrder t r) (x : ℕ) (h : x < issued t) (g
 
   stores-paused : Stores (pauseLane t old) r
   stores-paused =
-      stores-after t r (pauseLane t old) r (o .stores) x h new _ _ _ _ _ step-paused owes-paused (o .stores .rings-room)
+      stores-after t r (pauseLane t old) r (o .stores) x h new _ _ step-paused owes-paused (o .stores .rings-room)
 
 pub pause-alike : (t r : List ℕ) (i : LaneId) → StoreInOrder t r → seen (pause t r i) ≡ (rules.pause (view t r) i) .1
 unfolding pause rules.pause

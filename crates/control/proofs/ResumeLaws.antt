@@ -13,9 +13,9 @@ use Rattle.model.specs.Changes.{withQueue, put, withFlags, withSignal, withPaus
 use Rattle.model.specs.Outcome.{says}
 use Rattle.model.specs.Control as rules
 use Rattle.lane.specs.declared.lane.Lane.{Lane}
-use Rattle.lane.specs.Table.{laneAt, putLane}
+use Rattle.lane.specs.Table.{head, laneAt, putLane}
 use Rattle.lane.proofs.TableLaws.{frames, slot-of-lane}
-use Rattle.queues.specs.Header.{Shaped, issued, slots, budget, fastSlot, laneCount, livingCount, queueCount}
+use Rattle.queues.specs.Header.{Shaped, issued, slots, queueCount}
 use Rattle.queues.specs.Queue.{queueOf, pushBack}
 use Rattle.queues.proofs.QueueLaws.{shaped-putLane, length-queue}
 use Rattle.store.specs.View.{flag, slotAt, view}
@@ -79,13 +79,13 @@ module _ (t r : List ℕ) (o : StoreInOrder t r) (x : ℕ) (h : x < issued t) (g
         ∙ view-pushed-back stored r (shaped-marked-if-idle (putLane t new) old shaped-new) x (simp (head-marked-if-idle, frames) room)
         ∙ ap (λ (s : State). withQueue (s .queue ++ (x ∷ [])) s) view-stored
 
-    step-resumed : Step t (resumeLane t old) x new (queueOf t ++ (x ∷ [])) (fastSlot t) (budget t) (laneCount t) (livingCount t)
+    step-resumed : Step t (resumeLane t old) x new (queueOf t ++ (x ∷ [])) (head t)
     step-resumed =
         let start = step-start t r (o .stores) x in
-        subst (λ (u : List ℕ). Step t u x new (queueOf t ++ (x ∷ [])) (fastSlot t) (budget t) (laneCount t) (livingCount t)) (sym resumed-is)
+        subst (λ (u : List ℕ). Step t u x new (queueOf t ++ (x ∷ [])) (head t)) (sym resumed-is)
         (step-pushed-back (step-marked-if-idle (step-put-lane start new (slot-of-lane t x) h) old (rw (slot-of-lane t x) h)) x (rw (length-queue t) room))
 
-    owes-resumed : Owes t x new (queueOf t ++ (x ∷ [])) (fastSlot t) (budget t) (laneCount t) (livingCount t)
+    owes-resumed : Owes t x new (queueOf t ++ (x ∷ [])) (head t)
     owes-resumed =
         let f = o .stores .flags x h in
         let k = o .stores .lanes x h g in
@@ -110,7 +110,7 @@ module _ (t r : List ℕ) (o : StoreInOrder t r) (x : ℕ) (h : x < issued t) (g
         }
 
     stores-resumed : Stores (resumeLane t old) r
-    stores-resumed = stores-after t r (resumeLane t old) r (o .stores) x h new _ _ _ _ _ step-resumed owes-resumed (o .stores .rings-room)
+    stores-resumed = stores-after t r (resumeLane t old) r (o .stores) x h new _ _ step-resumed owes-resumed (o .stores .rings-room)
 
   -- paused or not
   resumed-as-ruled : view (resumeLane t old) r ≡ rules.resumeIf (slot .paused) x (view t r)

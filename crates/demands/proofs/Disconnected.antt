@@ -33,7 +33,7 @@ use Rattle.demands.proofs.Counting.{Same, equal, other, same?, no, not-
 use Rattle.demands.proofs.OrderKept.{release-all-ordered, retire-empty-paused-ordered}
 use Rattle.demands.proofs.Quiet.{Quiet, stays, goes, Quietly, trans, poll, poll-quiet, poll-ordered, release-all-quiet, retire-empty-paused-quiet}
 use Rattle.demands.proofs.Signals.{Signal, SignalsKept, poll-signals, release-all-signals, run-signals, poll-unmarked}
-use Rattle.demands.proofs.Moves.{Pass, unless-law, TakeResult, took-none, took-one, take-one-taken, take-fair-taken}
+use Rattle.demands.proofs.Moves.{NoneApplies, unless-law, TakeResult, took-none, took-one, take-one-taken, take-fair-taken}
 
 -- what keeps the living flags, and retires only lanes whose sender is dropped
 record DroppedOnly (s u : State) : Type 0 where
@@ -468,7 +468,7 @@ targeted-then s i =
     go (v ∷ vs) e r h d = absurd (take-from-item s (i .key .slot) v vs d)
 
 -- no refusal applies
-unless-none : (cs : List (Bool × Refusal)) (s : State) (r : Outcome) → Pass cs → unless cs s r ≡ r
+unless-none : (cs : List (Bool × Refusal)) (s : State) (r : Outcome) → NoneApplies cs → unless cs s r ≡ r
 unfolding unless
 unless-none [] s r p = refl
 unless-none (c ∷ cs) s r p = rw (p .0) (unless-none cs s r (p .1))

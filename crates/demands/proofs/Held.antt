@@ -7,6 +7,7 @@ use mathlib.Core.List.{List, [], _∷_, _++_, map, tail}
 use Prim.Native.Nat.{ℕ, zero, suc, _+_, _≤_, _<_}
 use native.Mathlib.Omega.{arith}
 use lib.ListN.{length, length-map}
+use borrow.Author.Tests.{ne-eqb}
 use lib.Dec.{eqb, leb}
 use Rattle.model.specs.declared.LaneKey.{LaneKey}
 use Rattle.model.specs.declared.Opening.{Opening}
@@ -16,7 +17,7 @@ use Rattle.model.specs.declared.Call.{Call}
 use Rattle.model.specs.declared.Call.the-variants.{Sender, Receive, Control}
 use Rattle.model.specs.declared.Answer.{Answer}
 use Rattle.model.specs.declared.Answer.the-variants.{Held}
-use Rattle.model.specs.Lists.{if, either, count, keep, from, without, total}
+use Rattle.model.specs.Lists.{if, either, count, from, without, total}
 use Rattle.model.specs.State.{Slot, State, mayQueue, keyOf}
 use Rattle.model.specs.Changes.{withQueue, put, newLane, signalled, pushed, senderDropped, popped, withPaused, credited, retired}
 use Rattle.model.specs.Turn.{retireLane, unreleasedAfterOne, giveItem}
@@ -28,7 +29,8 @@ use Rattle.model.specs.Rules.{outcome, theRules}
 use Rattle.model.specs.Order.{Ordered}
 use Rattle.model.specs.Ledger.{Lane, Ledger, atOpening, changeLane, removeOldest, setPaused, setClosed, setDropped, addRegistered, applyCall, note, ledgerAfter}
 use Rattle.model.specs.Held.{heldBy, heldByLanes, HeldAsCountedIn, HeldAsCounted}
-use Rattle.demands.proofs.Counting.{Same, equal, other, same?, self, from-in}
+use Rattle.demands.proofs.Counting.{Same, equal, other, same?, self}
+use Rattle.demands.proofs.Totals.{sumOf, total-keep, sum-same, sum-but, sum-more}
 use Rattle.demands.proofs.OrderKept.{first-own, front-registered}
 use Rattle.demands.proofs.Quiet.{Quiet, stays, goes, Quietly, trans, poll, poll-quiet, poll-ordered, release-all-quiet, settle-empty-quiet}
 use Rattle.demands.proofs.Moves.{Moves, stays-put, credits, registers-new, registers-old, sends, posts, drops-it, pauses-it, resumes, resumes-not, closes-it, polls-all, shuts-it, takes, stops, aims, aims-none, Chain, stay, move, call-chain}
@@ -40,60 +42,16 @@ use Rattle.demands.proofs.LedgerAgrees.{Agrees, agrees-quiet, move-agre
 use Rattle.demands.proofs.Grows.{Grows, grows-quiet, move-grows}
 use Rattle.demands.proofs.Demand3.{opened-agrees}
 
--- sums over slots
-module _ (f g : ℕ → ℕ) where
-  total-ext : ((y : ℕ) → g y ≡ f y) → (l : List ℕ) → total g l ≡ total f l
-  unfolding total
-  total-ext e [] = refl
-  total-ext e (x ∷ l) = omega (arith, e x, total-ext e l)
-
-  module _ (x v : ℕ) (at : (y : ℕ) → g y ≡ if (eqb x y) v (f y)) where
-    total-absent : (l : List ℕ) → count x l ≡ 0 → total g l ≡ total f l
-    unfolding total count
-    total-absent [] h = refl
-    total-absent (y ∷ l) h = elim (same? x y) [
-      | equal p e i ↦ absurd (omega arith)
-      | other d e i ↦ (let w : g y ≡ f y = at y ∙ rw e in omega (arith, total-absent l (omega arith)))
-    ]
-
-    total-put : (l : List ℕ) → count x l ≡ 1 → total g l + f x ≡ total f l + v
-    unfolding total count
-    total-put [] h = absurd (omega arith)
-    total-put (y ∷ l) h = elim (same? x y) [
-      | equal p e i ↦ (let w : g y ≡ v = at y ∙ rw e in omega (arith, total-absent l (omega arith), ap f p))
-      | other d e i ↦ (let w : g y ≡ f y = at y ∙ rw e in omega (arith, total-put l (omega arith)))
-    ]
-
-total-keep : (p : ℕ → Bool) (f : ℕ → ℕ) (l : List ℕ) → total f (keep p l) ≡ total (λ x. if (p x) (f x) 0) l
-unfolding total keep
-total-keep p f [] = refl
-total-keep p f (x ∷ l) = go (p x) (total-keep p f l)
-  where
-    go : (b : Bool) → total f (keep p l) ≡ total (λ x. if (p x) (f x) 0) l → total f (if b (x ∷ keep p l) (keep p l)) ≡ if b (f x) 0 + total (λ x. if (p x) (f x) 0) l
-    go true e = omega arith
-    go false e = omega arith
-
-total-last : (f : ℕ → ℕ) (a n : ℕ) → total f (from a (suc n)) ≡ total f (from a n) + f (a + n)
-unfolding total from
-total-last f a zero = omega (arith, ap f (plus-none a))
-  where
-    plus-none : (a : ℕ) → a + 0 ≡ a
-    plus-none a = omega arith
-total-last f a (suc n) = omega (arith, total-last f (suc a) n, ap f (plus-one a n))
-  where
-    plus-one : (a n : ℕ) → suc a + n ≡ a + suc n
-    plus-one a n = omega arith
-
 -- the items in the rings of registered lanes
 unfoldable ringCount : Slot → ℕ
 ringCount l = if (l .registered) (length (l .ring)) 0
 
 unfoldable heldOf : State → ℕ
-heldOf s = total (λ x. ringCount (s .slotOf x)) (from 0 (s .issued))
+heldOf s = sumOf ringCount s
 
 held-answer : (s : State) → (outcome s (Control CountHeld)) .1 .0 ≡ Held (heldOf s)
 unfolding outcome controlOutcome countHeld heldOf ringCount
-held-answer s = ap Held (total-keep (λ x. s .slotOf x .registered) (λ x. length (s .slotOf x .ring)) (from 0 (s .issued)))
+held-answer s = ap Held (total-keep (λ x. length (s .slotOf x .ring)) (λ x. s .slotOf x .registered) (from 0 (s .issued)))
 
 count-unregistered : (l : Slot) → l .registered ≡ false → ringCount l ≡ 0
 unfolding ringCount
@@ -114,7 +72,7 @@ count-quiet l m (goes e r g) = rw (r, e) (go (l .registered))
 
 held-alike : (s u : State) → u .issued ≡ s .issued → ((y : ℕ) → ringCount (u .slotOf y) ≡ ringCount (s .slotOf y)) → heldOf u ≡ heldOf s
 unfolding heldOf
-held-alike s u i e = rw i (total-ext (λ x. ringCount (s .slotOf x)) (λ x. ringCount (u .slotOf x)) e (from 0 (s .issued)))
+held-alike s u i e = sum-same ringCount s u i e
 
 held-quiet : (s u : State) → Quietly s u → heldOf u ≡ heldOf s
 held-quiet s u q = held-alike s u (q .issues) (λ y. count-quiet _ _ (q .each y))
@@ -130,7 +88,9 @@ module _ (s u : State) (x : ℕ) (m : Slot) (at : (y : ℕ) → u .slotOf y ≡ 
 
   held-put : x < s .issued → heldOf u + ringCount (s .slotOf x) ≡ heldOf s + ringCount m
   unfolding heldOf
-  held-put h = rw i (total-put (λ y. ringCount (s .slotOf y)) (λ y. ringCount (u .slotOf y)) x (ringCount m) count-at (from 0 (s .issued)) (from-in x 0 (s .issued) (omega arith) (omega arith)))
+  held-put h =
+      let own : ringCount (u .slotOf x) ≡ ringCount m = count-at x ∙ rw (self x) in
+      omega (arith, own, sum-but ringCount s u i x h (λ y d. count-at y ∙ rw (ne-eqb x y d)))
 
   held-put-alike : ringCount m ≡ ringCount (s .slotOf x) → heldOf u ≡ heldOf s
   held-put-alike e = held-alike s u i (λ y. count-at y ∙ go y (same? x y))
@@ -251,10 +211,7 @@ new-count g l = refl
 
 held-one-more : (s u : State) → u .issued ≡ suc (s .issued) → ((y : ℕ) → ringCount (u .slotOf y) ≡ ringCount (s .slotOf y)) → ringCount (s .slotOf (s .issued)) ≡ 0 → heldOf u ≡ heldOf s
 unfolding heldOf
-held-one-more s u i e z = rw i (omega (arith, total-ext (λ x. ringCount (s .slotOf x)) (λ x. ringCount (u .slotOf x)) e (from 0 (suc (s .issued))), total-last (λ x. ringCount (s .slotOf x)) 0 (s .issued), ap (λ (x : ℕ). ringCount (s .slotOf x)) (none-plus (s .issued))))
-  where
-    none-plus : (n : ℕ) → 0 + n ≡ n
-    none-plus n = omega arith
+held-one-more s u i e z = omega (arith, sum-more ringCount s u i e)
 
 -- every move
 move-keys : (L : Ledger) {s u : State} {t : Tick} → Ordered s → KeysOnce L s → Moves s t u → KeysOnce (note L t) u

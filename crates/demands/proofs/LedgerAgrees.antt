@@ -46,7 +46,7 @@ pub record Matches (l : Lane) (m : Slot) : Type 0 where
   pub unclosed : l .closed ≡ false
   pub senders : l .dropped ≡ not (m .living)
 
-pub record Found (L : Ledger) (s : State) (y : ℕ) : Type 0 where
+pub record LaneInLedger (L : Ledger) (s : State) (y : ℕ) : Type 0 where
   pub entry : Lane
   pub looked : look (keyOf s y) (L .lanes) ≡ some entry
   pub matches : Matches entry (s .slotOf y)
@@ -54,7 +54,7 @@ pub record Found (L : Ledger) (s : State) (y : ℕ) : Type 0 where
 pub record Agrees (L : Ledger) (s : State) : Type 0 where
   pub shut-same : L .receiverClosed ≡ not (s .isOpen)
   pub issued-same : L .issued ≡ s .issued
-  pub lane-of : (y : ℕ) → s .slotOf y .registered ≡ true → Found L s y
+  pub lane-of : (y : ℕ) → s .slotOf y .registered ≡ true → LaneInLedger L s y
   pub is-current : (k : LaneKey) → waitsIn k (L .lanes) ≡ true → hasLane s k ≡ true
 
 -- what is held ordinarily is held
@@ -109,7 +109,7 @@ agrees-quiet L s u q h = record {
   is-current = λ k e. cur k (q .each (k .slot)) e;
 }
   where
-    lane : (y : ℕ) → Quiet (s .slotOf y) (u .slotOf y) → u .slotOf y .registered ≡ true → Found L u y
+    lane : (y : ℕ) → Quiet (s .slotOf y) (u .slotOf y) → u .slotOf y .registered ≡ true → LaneInLedger L u y
     lane y (goes e n g) r = absurd (no r n)
     lane y (stays a) r =
         let f = h .lane-of y (sym (a .registers) ∙ r) in
@@ -133,7 +133,7 @@ module _ (L : Ledger) (s u : State) (j : LaneKey) (f : Lane → Lane) (keeps : (
   at-other : (y : ℕ) → j .slot ≢ y → u .slotOf y ≡ s .slotOf y
   at-other y d = at y ∙ rw (ne-eqb (j .slot) y d)
 
-  own-found : Found L s (j .slot)
+  own-found : LaneInLedger L s (j .slot)
   own-found = h .lane-of (j .slot) r
 
   own-look : look j (L .lanes) ≡ some (own-found .entry)
@@ -147,7 +147,7 @@ module _ (L : Ledger) (s u : State) (j : LaneKey) (f : Lane → Lane) (keeps : (
   unfolding changeLane
   other-look k d = look-other j f keeps k d (L .lanes)
 
-  other-lane : (y : ℕ) → j .slot ≢ y → u .slotOf y .registered ≡ true → Found (changeLane j f L) u y
+  other-lane : (y : ℕ) → j .slot ≢ y → u .slotOf y .registered ≡ true → LaneInLedger (changeLane j f L) u y
   other-lane y d e =
       let o = at-other y d in
       let n = h .lane-of y (ap (λ (l : Slot). l .registered) (sym o) ∙ e) in

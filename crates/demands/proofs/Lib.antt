@@ -1,4 +1,5 @@
 pub mod Counting
+pub mod Totals
 pub mod OrderKept
 pub mod Quiet
 pub mod Ahead

@@ -90,16 +90,16 @@ chain (stay s) d = d
 chain (move m c) d = move m (chain c d)
 
 -- refusals
-abbrev pub Pass : List (Bool × Refusal) → Type 0
-Pass [] = Unit {0}
-Pass (c ∷ cs) = (c .0 ≡ false) × Pass cs
+abbrev pub NoneApplies : List (Bool × Refusal) → Type 0
+NoneApplies [] = Unit {0}
+NoneApplies (c ∷ cs) = (c .0 ≡ false) × NoneApplies cs
 
-pub unless-law : (P : Outcome → Type 0) (cs : List (Bool × Refusal)) (s : State) (r : Outcome) → ((n : Refusal) → P ([], (Refused n, s))) → (Pass cs → P r) → P (unless cs s r)
+pub unless-law : (P : Outcome → Type 0) (cs : List (Bool × Refusal)) (s : State) (r : Outcome) → ((n : Refusal) → P ([], (Refused n, s))) → (NoneApplies cs → P r) → P (unless cs s r)
 unfolding unless
 unless-law P [] s r f g = g tt
 unless-law P (c ∷ cs) s r f g = go (c .0) refl (unless-law P cs s r f)
   where
-    go : (b : Bool) → c .0 ≡ b → ((Pass cs → P r) → P (unless cs s r)) → P (if b ([], (Refused (c .1), s)) (unless cs s r))
+    go : (b : Bool) → c .0 ≡ b → ((NoneApplies cs → P r) → P (unless cs s r)) → P (if b ([], (Refused (c .1), s)) (unless cs s r))
     go true e ih = f (c .1)
     go false e ih = ih (λ p. g (e, p))
 

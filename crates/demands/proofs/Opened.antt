@@ -17,7 +17,7 @@ use Rattle.model.specs.Runs.{Lent}
 use Rattle.model.specs.Opening.{doubledUntil, openedState, openingOutcome}
 use Rattle.model.specs.Order.{Ordered}
 use Rattle.demands.proofs.Counting.{no}
-use Rattle.demands.proofs.Moves.{Pass, unless-law}
+use Rattle.demands.proofs.Moves.{NoneApplies, unless-law}
 
 -- an opening's capacity
 doubled-power : (n j p c : ℕ) → p ≡ 2 ^ j → (k : ℕ) × (k ≤ j + n) × (doubledUntil n p c ≡ 2 ^ k)
@@ -33,8 +33,8 @@ doubled-power (suc n) j p c e = go (leb c p) (doubled-power n (suc j) (p + p) c 
     go false r = (r .0, omega (arith, r .1), r .2)
 
 -- a call that is not refused has passed every test
-unless-done : (cs : List (Bool × Refusal)) (s : State) (r : Outcome) → (unless cs s r) .1 .0 ≡ Done → Pass cs
-unless-done cs s r = unless-law (λ o. o .1 .0 ≡ Done → Pass cs) cs s r (λ n e. let z : _≡_ {A = ℕ} 0 1 = cc in absurd (omega arith)) (λ p e. p)
+unless-done : (cs : List (Bool × Refusal)) (s : State) (r : Outcome) → (unless cs s r) .1 .0 ≡ Done → NoneApplies cs
+unless-done cs s r = unless-law (λ o. o .1 .0 ≡ Done → NoneApplies cs) cs s r (λ n e. let z : _≡_ {A = ℕ} 0 1 = cc in absurd (omega arith)) (λ p e. p)
 
 either-false : (a b : Bool) → either a b ≡ false → (a ≡ false) × (b ≡ false)
 either-false true b e = absurd (no refl e)

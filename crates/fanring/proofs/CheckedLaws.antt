@@ -14,14 +14,14 @@ use Rattle.store.specs.Order.{StoreInOrder}
 use Rattle.store.specs.Words.{Words}
 use Rattle.refinement.specs.Runs.{callWords, outputWords, receiveInto, innerCalls}
 use Rattle.order.specs.InOrder.{inOrder}
-use Rattle.order.proofs.InOrderLaws.{in-order-holds, in-order-fails}
+use Rattle.order.proofs.InOrderLaws.{in-order-passes, in-order-fails}
 use Rattle.fanring.specs.Checked.{checked}
 use Rattle.fanring.specs.Runs.{checkedWords, checkedOutput, checkedCalls}
 
 module _ (t r : List ℕ) where
   -- on stores in order the first of two
   pub if-in-order : {A : Type 0} → StoreInOrder t r → (x y : A) → cond (inOrder t r) x y ≡ x
-  if-in-order {A} o x y = ap (λ (b : Bool). cond {A = A} b x y) (in-order-holds t r o)
+  if-in-order {A} o x y = ap (λ (b : Bool). cond {A = A} b x y) (in-order-passes t r o)
 
   -- on others the second
   pub unless-in-order : {A : Type 0} → (StoreInOrder t r → ⊥) → (x y : A) → cond (inOrder t r) x y ≡ y

@@ -1,5 +1,5 @@
 -- "Every ring registered, in a freed slot too, starts with its cursors at the first cursor": an opening puts its cursor into the header, and
--- a registration puts the header's into its lane. That no call changes the header's is in crate receiver, proofs/FirstCursorKept.antt.
+-- a registration puts the header's into its lane. That no call changes the header's is in crate refinement, proofs/FirstCursorKept.antt.
 -- Assumes nothing.
 use mathlib.Core.Path.{_≡_, refl}
 use mathlib.Core.List.{List}

@@ -203,27 +203,27 @@ module _ (t : List ℕ) where
 
   -- ---- marks
 
-  pub page-tells : (page : ℕ) → Tells (PageHolds t page) (pageTest t page)
+  pub page-test-tells : (page : ℕ) → Tells (PageHolds t page) (pageTest t page)
   unfolding pageTest
-  page-tells page =
+  page-test-tells page =
       tells-field (tells-less _ _) (λ o. o .fits) (λ a.
       tells-field (tells-all-below 64 (λ b h. tells-implies (tells-equal _ _) (tells-less _ _))) (λ o. o .of-issued) (λ b.
       tells-field (tells-equal _ _) (λ o. o .linked) (λ c.
       yes (record { fits = a; of-issued = b; linked = c }))))
 
-  pub group-tells : (group : ℕ) → Tells (GroupHolds t group) (groupTest t group)
+  pub group-test-tells : (group : ℕ) → Tells (GroupHolds t group) (groupTest t group)
   unfolding groupTest
-  group-tells group =
+  group-test-tells group =
       tells-of (λ h. record { fits = h .0; of-pages = h .1 }) (λ o. (o .fits, o .of-pages))
       (tells-both (tells-less _ _) (tells-all-below 64 (λ b h. tells-implies (tells-equal _ _) (tells-less _ _))))
 
   pub pages-tell : Tells (PagesHold t) (pagesTest t)
   unfolding pagesTest
-  pages-tell = tells-all-where (pagesOf (issued t)) (λ page h. omega arith) (λ page h. omega arith) page-tells
+  pages-tell = tells-all-where (pagesOf (issued t)) (λ page h. omega arith) (λ page h. omega arith) page-test-tells
 
   pub groups-tell : Tells (GroupsHold t) (groupsTest t)
   unfolding groupsTest
-  groups-tell = tells-all-where (groupCount (issued t)) (λ group h. omega arith) (λ group h. omega arith) group-tells
+  groups-tell = tells-all-where (groupCount (issued t)) (λ group h. omega arith) (λ group h. omega arith) group-test-tells
 
 -- ---- all clauses
 
@@ -249,8 +249,8 @@ module _ (t r : List ℕ) where
   pub in-order-false : inOrder t r ≡ false → StoreInOrder t r → ⊥
   in-order-false e = untold in-order-tells e
 
-  pub in-order-holds : StoreInOrder t r → inOrder t r ≡ true
-  in-order-holds o = tells-true in-order-tells o
+  pub in-order-passes : StoreInOrder t r → inOrder t r ≡ true
+  in-order-passes o = tells-true in-order-tells o
 
   pub in-order-fails : (StoreInOrder t r → ⊥) → inOrder t r ≡ false
   in-order-fails f = tells-same in-order-tells (no f)

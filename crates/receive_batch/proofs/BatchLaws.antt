@@ -16,9 +16,9 @@ use Rattle.model.specs.declared.Refusal.the-variants.{OutputShort}
 use Rattle.model.specs.Receive as rules
 use Rattle.lane.specs.declared.lane.Lane.{Lane}
 use Rattle.lane.specs.Lane.{releasePending}
-use Rattle.lane.specs.Table.{laneAt, putLane}
+use Rattle.lane.specs.Table.{head, laneAt, putLane}
 use Rattle.lane.proofs.OrderLaws.{release-pending-keeps, refundable}
-use Rattle.queues.specs.Header.{Shaped, issued, queueCount, capacity, laneCount, livingCount, fastSlot, budget}
+use Rattle.queues.specs.Header.{Shaped, issued, queueCount, capacity, laneCount}
 use Rattle.queues.specs.Queue.{queueOf}
 use Rattle.queues.specs.Registry.{freeOf}
 use Rattle.queues.proofs.RegistryLaws.{registry-frames}
@@ -48,7 +48,7 @@ module _ (t : List ℕ) (k : Turning t) (x : ℕ) (h : x < issued t) (e : laneAt
   back : GivesBack (laneAt t x) new
   back = gives-back (laneAt t x)
 
-  stored : Step t (putLane t new) x new (queueOf t) (fastSlot t) (budget t) (laneCount t) (livingCount t)
+  stored : Step t (putLane t new) x new (queueOf t) (head t)
   stored = step-put-lane (step-from t (k .shaped) (k .linked) x) new (slot-released t x) h
 
   free-stored : freeOf (putLane t new) ≡ freeOf t

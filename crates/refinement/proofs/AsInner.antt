@@ -11,7 +11,7 @@ use Rattle.model.specs.Runs.{Lent, afterList}
 use Rattle.model.specs.Receive.{receiveOutcome}
 use Rattle.model.specs.Rules.{outcome}
 use Rattle.model.specs.Simulation.{numbersOfOpening, Fits, OpeningFits, runsThatFit}
-use Rattle.lane.specs.Table.{laneAt}
+use Rattle.lane.specs.Table.{head, laneAt}
 use Rattle.store.specs.View.{view}
 use Rattle.store.specs.Order.{StoreInOrder}
 use Rattle.store.specs.Words.{Words}
@@ -20,6 +20,8 @@ use Rattle.opening.proofs.OpeningLaws.{open-in-order}
 use Rattle.refinement.specs.Runs.{handsWords, outputWords, callWords, StoreCalls, listsOf, innerCalls, Run, openedStores}
 use Rattle.refinement.specs.RulesOnWords.{StaysInOrder, QueuedKeysKept}
 use Rattle.refinement.proofs.CallLaws as inner
+use Rattle.refinement.proofs.HeaderSteps.{Unwritten}
+use Rattle.refinement.proofs.HeaderKept.{call-leaves}
 
 pub record AsInner (M : StoreCalls) : Type 0 where
   pub same-words : (t r : List ℕ) → StoreInOrder t r → (c : Call) → M .words t r c ≡ callWords t r c
@@ -46,8 +48,8 @@ module _ (M : StoreCalls) (i : AsInner M) where
     pub words-keep : (c : Call) → StoreInOrder ((M .words t r c) .1) ((M .words t r c) .2)
     words-keep c = rw (i .same-words t r o c) (inner.call-keeps t r o c)
 
-    pub hands-alike : (c : ReceiveCall) → M .hands t r c ≡ (receiveOutcome (view t r) c) .0
-    hands-alike c = i .same-hands t r o c ∙ inner.hands-alike t r o c
+    pub handed-alike : (c : ReceiveCall) → M .hands t r c ≡ (receiveOutcome (view t r) c) .0
+    handed-alike c = i .same-hands t r o c ∙ inner.hands-alike t r o c
 
   calls-keep : (w : List ℕ × List ℕ) (calls : List Call) → StoreInOrder (w .0) (w .1)
       → let end = afterList (listsOf M) w calls in StoreInOrder (end .0) (end .1)
@@ -58,6 +60,15 @@ module _ (M : StoreCalls) (i : AsInner M) where
   pub stays-in-order : StaysInOrder M
   unfolding StaysInOrder
   stays-in-order x = calls-keep (openedStores x) (x .calls) (opened-in-order x)
+
+  -- a header word that no call writes, over lists of calls
+  pub calls-leave : {j : ℕ} → Unwritten j → (w : List ℕ × List ℕ) (calls : List Call) → StoreInOrder (w .0) (w .1)
+      → head ((afterList (listsOf M) w calls) .0) j ≡ head (w .0) j
+  unfolding afterList
+  calls-leave n w [] o = refl
+  calls-leave {j = j} n w (c ∷ cs) o =
+      calls-leave n ((listsOf M .step w c) .1) cs (words-keep (w .0) (w .1) o c)
+      ∙ ap (λ (z : Words). head (z .1) j) (i .same-words (w .0) (w .1) o c) ∙ call-leaves n (w .0) (w .1) c
 
   pub queued-keys-kept : QueuedKeysKept M
   unfolding QueuedKeysKept

@@ -25,8 +25,8 @@ use Rattle.store.specs.Refusal.{laneVerdict}
 use Rattle.store.proofs.RefusalLaws.{firstOf, lane-verdict, lane-passes}
 use Rattle.refinement.specs.Runs.{StoreCalls, storesAfter}
 use Rattle.refinement.specs.DisconnectedOnWords.{NoSenderLives, Looks, Drained, DisconnectedExactly, EmptyOnesRetired, RetiresEmptyPaused, SameLane, EmptyWithPausedItems, PausedWithItems, OnlyPausedItemsLeft, LaneDrained, TargetedDisconnectedExactly}
-use Rattle.refinement.proofs.SlotsSeen.{flag-is-one, flag-is-zero, one-seen, zero-seen, registered-is, living-is, paused-is, generation-is, ring-is, registered-issued, unregistered-seen, key-by, senders-seen, lanes-seen, seen-senders, seen-lanes}
-use Rattle.refinement.proofs.AsInner.{AsInner, words-alike, words-keep, hands-alike}
+use Rattle.refinement.proofs.SlotsSeen.{flag-is-one, flag-is-zero, one-seen, zero-seen, registered-is, living-is, paused-is, generation-is, ring-is, registered-issued, unregistered-seen, key-by-generation, senders-seen, lanes-seen, seen-senders, seen-lanes}
+use Rattle.refinement.proofs.AsInner.{AsInner, words-alike, words-keep, handed-alike}
 use Rattle.refinement.proofs.RulesOnWords.{shows-in-order, lent, rules-accept, run-seen}
 
 -- ---- lanes as the words and the rules have them, before a call and after it
@@ -48,7 +48,7 @@ module _ (t r u q : List ℕ) (o : StoreInOrder t r) where
       record {
         still-registered = flag-is-one _ (sym (registered-is u q x i) ∙ d .still-registered);
         still-paused = flag-is-one _ (sym (paused-is u q x i) ∙ d .still-paused);
-        same-key = key-by t u x (sym (generation-is u q x i) ∙ d .same-generation ∙ generation-is t r x h);
+        same-key = key-by-generation t u x (sym (generation-is u q x i) ∙ d .same-generation ∙ generation-is t r x h);
         same-items = sym (ring-is u q x i) ∙ d .same-items ∙ ring-is t r x h;
       }
 
@@ -124,7 +124,7 @@ module _ (M : StoreCalls) (i : AsInner M) where
     left = ap (λ (z : Answer × State). z .1) (words-alike M i t r o (Receive c))
 
     nothing-seen : M .hands t r c ≡ [] → rules.itemsOf (view t r) c ≡ []
-    nothing-seen n = sym (hands-alike M i t r o c) ∙ n
+    nothing-seen n = sym (handed-alike M i t r o c) ∙ n
 
     senders-after : NoSenderLives u → rules.NoSenderLives (rules.stateAfter (view t r) c)
     senders-after f = subst rules.NoSenderLives left (senders-seen u q f)
@@ -141,7 +141,7 @@ module _ (M : StoreCalls) (i : AsInner M) where
     seen-drained d =
         let kept = words-keep M i t r o (Receive c) in
         record {
-          no-item = hands-alike M i t r o c ∙ d .no-item;
+          no-item = handed-alike M i t r o c ∙ d .no-item;
           no-sender = seen-senders u q kept (subst rules.NoSenderLives (sym left) (d .no-sender));
           no-lane = seen-lanes u q kept (subst rules.NoLaneRegistered (sym left) (d .no-lane));
         }

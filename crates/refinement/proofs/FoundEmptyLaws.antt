@@ -16,7 +16,7 @@ use Rattle.lane.specs.declared.lane.Lane.{Lane}
 use Rattle.lane.specs.declared.lane.EmptyLane.{EmptyLane}
 use Rattle.yring.specs.Ring.{newRing}
 use Rattle.lane.specs.Lane.{heldItems}
-use Rattle.lane.specs.Table.{laneAt, putLane}
+use Rattle.lane.specs.Table.{head, laneAt, putLane}
 use Rattle.lane.proofs.TableLaws.{slot-of-lane}
 use Rattle.queues.specs.Header.{issued, slots, freeCount, budget, capacity, fastSlot, laneCount, livingCount}
 use Rattle.queues.specs.Queue.{queueOf}
@@ -26,7 +26,8 @@ use Rattle.store.specs.Order.{Flags, Stores, StoreInOrder}
 use Rattle.store.specs.Registry.{retired, retireLane}
 use Rattle.turns.specs.Turn.{retireIf}
 use Rattle.store.proofs.ViewLaws.{slot-in, view-put-lane}
-use Rattle.store.proofs.StepLaws.{Step}
+use Rattle.store.proofs.HeaderWords.{withWord}
+use Rattle.store.proofs.StepLaws.{Step, issued-kept, lanes-now}
 use Rattle.store.proofs.StoreLaws.{lane-counted, registered-seen, OtherWindows, Owes, stores-after}
 use Rattle.store.proofs.SignalLaws.{idle-flag}
 use Rattle.store.proofs.RetireLaws.{view-retire-lane, step-retire-lane}
@@ -81,7 +82,7 @@ module _ (t r : List ℕ) (o : StoreInOrder t r) (x : ℕ) (h : x < issued t) (g
       }
 
   -- u: the table once it left the queue, which is then w
-  module _ (u w : List ℕ) (step : Step t u x l w (fastSlot t) (budget t) (laneCount t) (livingCount t)) (room : freeCount u < slots u)
+  module _ (u w : List ℕ) (step : Step t u x l w (head t)) (room : freeCount u < slots u)
       (settled : view u r ≡ withQueue w (put x (settledEmpty slot) (view t r))) (alone : count x w ≡ 0) (rest : (y : ℕ) → x ≢ y → count y w ≡ count y (queueOf t))
       (windows : OtherWindows t x w (fastSlot t) (budget t)) where
     -- the rules' step
@@ -92,11 +93,11 @@ module _ (t r : List ℕ) (o : StoreInOrder t r) (x : ℕ) (h : x < issued t) (g
         go : (b : Bool) → view (cond b (retireLane u l) u) r ≡ rules.retireLaneIf b x (withQueue w (put x (settledEmpty slot) (view t r)))
         go true =
             ap (λ (m : Lane). view (retireLane u m) r) (sym (step .own))
-            ∙ view-retire-lane u r (step .shaped) x (rw (step .same-issued) h) room
+            ∙ view-retire-lane u r (step .shaped) x (rw (issued-kept step) h) room
             ∙ ap (rules.retireLane x) settled
         go false = settled
 
-    owes-settled : Owes t x l w (fastSlot t) (budget t) (laneCount t) (livingCount t)
+    owes-settled : Owes t x l w (head t)
     owes-settled =
         record {
           flags = flags-settled;
@@ -111,7 +112,7 @@ module _ (t r : List ℕ) (o : StoreInOrder t r) (x : ℕ) (h : x < issued t) (g
           living-count = ap (λ (z : Fixed). livingCount t + z .3) (sym (k .fixed .0));
         }
 
-    owes-retired : Owes t x (retired l) w (fastSlot t) (budget t) (laneCount u - 1) (livingCount t)
+    owes-retired : Owes t x (retired l) w (withWord laneCount (laneCount u - 1) (head t))
     owes-retired =
         let d = owes-settled in
         record {
@@ -129,7 +130,7 @@ module _ (t r : List ℕ) (o : StoreInOrder t r) (x : ℕ) (h : x < issued t) (g
           rest = d .rest;
           window = λ i n. absurd (omega arith);
           windows = d .windows;
-          lane-count = omega (arith, step .lanes, g, lane-counted t r (o .stores) x h g);
+          lane-count = omega (arith, lanes-now step, g, lane-counted t r (o .stores) x h g);
           living-count = d .living-count;
         }
 
@@ -138,8 +139,8 @@ module _ (t r : List ℕ) (o : StoreInOrder t r) (x : ℕ) (h : x < issued t) (g
     settled-stores = go (found .disconnected)
       where
         go : (b : Bool) → Stores (cond b (retireLane u l) u) r
-        go true = stores-after t r _ r (o .stores) x h (retired l) _ _ _ _ _ (step-retire-lane step l found-slot h room) owes-retired (o .stores .rings-room)
-        go false = stores-after t r _ r (o .stores) x h l _ _ _ _ _ step owes-settled (o .stores .rings-room)
+        go true = stores-after t r _ r (o .stores) x h (retired l) _ _ (step-retire-lane step l found-slot h room) owes-retired (o .stores .rings-room)
+        go false = stores-after t r _ r (o .stores) x h l _ _ step owes-settled (o .stores .rings-room)
 
     pub settled-in-order : StoreInOrder (retireIf (found .disconnected) u (found .lane)) r
     unfolding view

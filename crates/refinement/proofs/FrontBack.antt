@@ -14,7 +14,7 @@ use Rattle.lane.specs.declared.lane.Lane.{Lane}
 use Rattle.yring.specs.Ring.{newRing}
 use Rattle.lane.specs.Lane.{heldItems}
 use Rattle.lane.specs.Order.{InOrder}
-use Rattle.lane.specs.Table.{laneAt, putLane, setHead}
+use Rattle.lane.specs.Table.{head, laneAt, putLane, setHead}
 use Rattle.queues.specs.Header.{budget, capacity, fastSlot, laneCount, livingCount}
 use Rattle.queues.specs.Queue.{queueOf, rotateLeft}
 use Rattle.queues.proofs.QueueLaws.{queue-putLane, shaped-putLane}
@@ -22,6 +22,7 @@ use Rattle.store.specs.View.{view}
 use Rattle.store.specs.Order.{Stores, StoreInOrder}
 use Rattle.turns.specs.Turn.{rotateIf}
 use Rattle.store.proofs.ViewLaws.{view-put-holding, view-rotated, view-budget}
+use Rattle.store.proofs.HeaderWords.{withWord}
 use Rattle.store.proofs.StepLaws.{Step, step-start, step-put-lane, step-rotated, step-budget}
 use Rattle.store.proofs.StoreLaws.{Owes, stores-after, windows-front}
 use Rattle.store.proofs.BackLaws.{back-own, back-other}
@@ -68,13 +69,13 @@ module _ (t r : List ℕ) (o : StoreInOrder t r) (x : ℕ) (q : List ℕ) (e : q
   view-turned true = view-rotated (putLane t m) r (shaped-putLane t (o .stores .shaped) m) x q queue-stored
   view-turned false = ap (λ (w : List ℕ). withQueue w (view (putLane t m) r)) queue-stored
 
-  step-turned : (b : Bool) → Step t (cond b (rotateLeft (putLane t m)) (putLane t m)) x m (queueAfter b) (fastSlot t) (budget t) (laneCount t) (livingCount t)
+  step-turned : (b : Bool) → Step t (cond b (rotateLeft (putLane t m)) (putLane t m)) x m (queueAfter b) (head t)
   step-turned b = go b (step-put-lane (step-start t r (o .stores) x) m (slot-by t x m (k .same-flags)) (front .is-issued))
     where
-      go : (b : Bool) → Step t (putLane t m) x m (queueOf t) (fastSlot t) (budget t) (laneCount t) (livingCount t)
-          → Step t (cond b (rotateLeft (putLane t m)) (putLane t m)) x m (queueAfter b) (fastSlot t) (budget t) (laneCount t) (livingCount t)
+      go : (b : Bool) → Step t (putLane t m) x m (queueOf t) (head t)
+          → Step t (cond b (rotateLeft (putLane t m)) (putLane t m)) x m (queueAfter b) (head t)
       go true s = step-rotated s x q e
-      go false s = subst (λ (w : List ℕ). Step t (putLane t m) x m w (fastSlot t) (budget t) (laneCount t) (livingCount t)) e s
+      go false s = subst (λ (w : List ℕ). Step t (putLane t m) x m w (head t)) e s
 
   -- with b as the budget
   pub back-view : view (setHead (rotateIf rotate (putLane t m)) 5 b) r ≡ withBudget b (withQueue (if rotate (q ++ (x ∷ [])) (x ∷ q)) stored)
@@ -91,7 +92,7 @@ module _ (t r : List ℕ) (o : StoreInOrder t r) (x : ℕ) (q : List ℕ) (e : q
   counts-others true y d = back-other x y q d ∙ sym (ap (count y) e ∙ kept.first-other x y q d)
   counts-others false y d = sym (ap (count y) e)
 
-  owes-back : Owes t x m (queueAfter rotate) (fastSlot t) b (laneCount t) (livingCount t)
+  owes-back : Owes t x m (queueAfter rotate) (withWord budget b (head t))
   owes-back =
       record {
         flags = flags-by (laneAt t x) m (k .same-flags) (o .stores .flags x (front .is-issued));
@@ -108,4 +109,4 @@ module _ (t r : List ℕ) (o : StoreInOrder t r) (x : ℕ) (q : List ℕ) (e : q
 
   pub back-stores : Stores (setHead (rotateIf rotate (putLane t m)) 5 b) r
   unfolding rotateIf
-  back-stores = stores-after t r _ r (o .stores) x (front .is-issued) m _ _ _ _ _ (step-budget (step-turned rotate) b) owes-back (o .stores .rings-room)
+  back-stores = stores-after t r _ r (o .stores) x (front .is-issued) m _ _ (step-budget (step-turned rotate) b) owes-back (o .stores .rings-room)

@@ -14,9 +14,9 @@ use Rattle.model.specs.Changes.{withQueue, withBudget, put, settledEmpty}
 use Rattle.model.specs.Turn as rules
 use Rattle.demands.proofs.OrderKept as kept
 use Rattle.lane.specs.declared.lane.EmptyLane.{EmptyLane}
-use Rattle.lane.specs.Table.{putLane, setHead}
+use Rattle.lane.specs.Table.{head, putLane, setHead}
 use Rattle.lane.proofs.TableLaws.{frames}
-use Rattle.queues.specs.Header.{slots, queueCount, freeCount, budget, fastSlot, laneCount, livingCount}
+use Rattle.queues.specs.Header.{slots, queueCount, freeCount, budget, fastSlot}
 use Rattle.queues.specs.Queue.{queueOf, popFront}
 use Rattle.queues.proofs.QueueLaws.{queue-frames, length-queue, queue-putLane, shaped-putLane}
 use Rattle.store.specs.View.{view}
@@ -45,7 +45,7 @@ module _ (t r : List ℕ) (o : StoreInOrder t r) (x : ℕ) (q : List ℕ) (e : q
       view-popped-front (putLane t (found .lane)) r (shaped-putLane t (o .stores .shaped) (found .lane)) x q (queue-putLane t (found .lane) ∙ e)
       ∙ ap (withQueue q) (found-view t r o x (front .is-issued) (front .registered) found k)
 
-  step-settled : Step t settled x (found .lane) q (fastSlot t) (budget t) (laneCount t) (livingCount t)
+  step-settled : Step t settled x (found .lane) q (head t)
   step-settled =
       step-popped-front
       (step-put-lane (step-start t r (o .stores) x) (found .lane) (found-slot t r o x (front .is-issued) (front .registered) found k) (front .is-issued)) x q e

@@ -15,7 +15,8 @@ pub mod HandsLaws
 pub mod KeysKept
 pub mod StaleNever
 pub mod TurnKeys
-pub mod ChannelKept
+pub mod HeaderSteps
+pub mod HeaderKept
 pub mod TryRecvLaws
 pub mod TakeFairView
 pub mod TryRecvFairLaws
@@ -32,6 +33,5 @@ pub mod Demands
 pub mod RulesOnWords
 pub mod SlotsSeen
 pub mod DisconnectedOnWords
-pub mod FirstCursorSteps
 pub mod FirstCursorKept
 pub mod RulesKept

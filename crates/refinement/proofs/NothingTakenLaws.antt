@@ -20,10 +20,10 @@ use Rattle.demands.proofs.OrderKept.{retire-empty-paused-ordered}
 use Rattle.lane.specs.declared.lane.Lane.{Lane}
 use Rattle.lane.specs.Lane.{heldItems, closeFast, prefetch, reload, reloadIsEmpty, refill, readyOrIdle}
 use Rattle.yring.specs.Ring.{newRing}
-use Rattle.lane.specs.Table.{laneAt}
+use Rattle.lane.specs.Table.{head, laneAt}
 use Rattle.lane.proofs.OrderLaws.{cond-holds, refill-fills}
 use Rattle.lane.proofs.HeldLaws.{reload-holds, pop-targeted-takes-first}
-use Rattle.queues.specs.Header.{issued, slots, budget, capacity, fastSlot, freeCount, laneCount, livingCount}
+use Rattle.queues.specs.Header.{issued, slots, budget, capacity, freeCount, laneCount, livingCount}
 use Rattle.queues.specs.Queue.{queueOf}
 use Rattle.store.specs.View.{flag, slotAt, view}
 use Rattle.store.specs.Order.{Stores, StoreInOrder}
@@ -34,7 +34,8 @@ use Rattle.turns.specs.Drained.{retireEmptyPaused, retireEmptyPausedLanes, empt
 use Rattle.store.specs.Words.{withRings}
 use Rattle.store.proofs.ViewLaws.{slot-in}
 use Rattle.store.proofs.RefusalLaws.{seen}
-use Rattle.store.proofs.StepLaws.{Step, step-start}
+use Rattle.store.proofs.HeaderWords.{withWord}
+use Rattle.store.proofs.StepLaws.{Step, step-start, issued-kept}
 use Rattle.store.proofs.StoreLaws.{Owes, stores-after, windows-kept, lane-counted, room-in-free, issued-ring-in}
 use Rattle.store.proofs.RetireLaws.{view-retire-as, step-retire-lane}
 use Rattle.refinement.proofs.SameFlags.{flags-by, slot-by}
@@ -69,10 +70,10 @@ module _ (t r : List ℕ) (o : Stores t r) (x : ℕ) (h : x < issued t) where
       view-retire-as t r (o .shaped) x h new same-key (ends .0) (ends .1) (ap (λ (z : Flagged). z .3) same-flags) (ap (λ (z : Flagged). z .5) same-flags) (counts .0) (counts .1) room
 
   module _ (g : old .registered ≡ 1) (room : freeCount t < slots t) where
-    step-retired : Step t (retireLane t new) x (retired new) (queueOf t) (fastSlot t) (budget t) (laneCount t - 1) (livingCount t)
+    step-retired : Step t (retireLane t new) x (retired new) (queueOf t) (withWord laneCount (laneCount t - 1) (head t))
     step-retired = step-retire-lane (step-start t r o x) new (slot-by t x new same-flags) h room
 
-    owes-retired : Owes t x (retired new) (queueOf t) (fastSlot t) (budget t) (laneCount t - 1) (livingCount t)
+    owes-retired : Owes t x (retired new) (queueOf t) (withWord laneCount (laneCount t - 1) (head t))
     owes-retired =
         let f = flags-by old new same-flags (o .flags x h) in
         record {
@@ -92,7 +93,7 @@ module _ (t r : List ℕ) (o : Stores t r) (x : ℕ) (h : x < issued t) where
         one-less n a e p = omega arith
 
     stores-retired : Stores (retireLane t new) r
-    stores-retired = stores-after t r (retireLane t new) r o x h (retired new) _ _ _ _ _ step-retired owes-retired (o .rings-room)
+    stores-retired = stores-after t r (retireLane t new) r o x h (retired new) _ _ step-retired owes-retired (o .rings-room)
 
 -- ---- one slot
 
@@ -154,7 +155,7 @@ module _ (t r : List ℕ) (o : StoreInOrder t r) (x : ℕ) (h : x < issued t) wh
   view-slot = slot-cases (λ u b. view u r ≡ turns.retireLaneIf b x (view t r)) (λ g. view-retired-looked t r (o .stores) x h (room-if g)) refl
 
   issued-slot : issued (retireEmptyPaused t x) ≡ issued t
-  issued-slot = slot-cases (λ u b. issued u ≡ issued t) (λ g. step-retired t r (o .stores) x h g (room-if g) .same-issued) refl
+  issued-slot = slot-cases (λ u b. issued u ≡ issued t) (λ g. issued-kept (step-retired t r (o .stores) x h g (room-if g))) refl
 
   slot-in-order : StoreInOrder (retireEmptyPaused t x) r
   unfolding rules.retireEmptyPausedLanes

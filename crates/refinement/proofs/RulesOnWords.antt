@@ -33,7 +33,7 @@ use Rattle.store.proofs.CollectedView.{view-collect-all, view-collect-group}
 use Rattle.opening.proofs.OpeningLaws.{open-answers-alike, open-view}
 use Rattle.refinement.specs.Runs.{StoreCalls, listsOf, Run, openedStores, storesAfter}
 use Rattle.refinement.specs.RulesOnWords.{eventsFrom, runEvents, EventsTell, BudgetCountsItems, AtMost64InOneTurn, AtMost64BetweenCollections, Collecting}
-use Rattle.refinement.proofs.AsInner.{AsInner, opened-in-order, words-alike, words-keep, hands-alike}
+use Rattle.refinement.proofs.AsInner.{AsInner, opened-in-order, words-alike, words-keep, handed-alike}
 
 -- a store in order shows a state in order
 pub shows-in-order : (t r : List ℕ) → StoreInOrder t r → InOrder (view t r)
@@ -86,8 +86,8 @@ module _ (M : StoreCalls) (i : AsInner M) where
   pub events-tell : EventsTell M
   unfolding rules-budget.ItemsAsHanded rules-budget.AsManyAsHanded
   events-tell = record {
-    lanes-handed = λ t r o c. items-as-handed (view t r) c ∙ ap (λ (l : List (LaneKey × ℕ)). if (isTargeted c) [] (map (λ g. g .0) l)) (sym (hands-alike M i t r o c));
-    as-many = λ t r o c. as-many-as-handed (view t r) c ∙ ap (λ (l : List (LaneKey × ℕ)). if (isTargeted c) 0 (length l)) (sym (hands-alike M i t r o c));
+    lanes-handed = λ t r o c. items-as-handed (view t r) c ∙ ap (λ (l : List (LaneKey × ℕ)). if (isTargeted c) [] (map (λ g. g .0) l)) (sym (handed-alike M i t r o c));
+    as-many = λ t r o c. as-many-as-handed (view t r) c ∙ ap (λ (l : List (LaneKey × ℕ)). if (isTargeted c) 0 (length l)) (sym (handed-alike M i t r o c));
   }
 
   pub budget-is-count : BudgetCountsItems M

@@ -14,7 +14,7 @@ use Rattle.refinement.specs.Runs.{StoreCalls, listsOf, innerCalls, theSt
 use Rattle.opening.proofs.OpeningLaws.{open-answers-alike, open-view, open-in-order}
 use Rattle.refinement.proofs.RefusedUnmoved.{open-unmoved}
 use Rattle.refinement.proofs.CallLaws.{output-alike}
-use Rattle.refinement.proofs.AsInner.{AsInner, inner-as-inner, cursor-fits, words-alike, words-keep, hands-alike}
+use Rattle.refinement.proofs.AsInner.{AsInner, inner-as-inner, cursor-fits, words-alike, words-keep, handed-alike}
 
 unfoldable pub simulates : (M : StoreCalls) → AsInner M → Simulation (listsOf M) theRules
 simulates M i = record {
@@ -29,7 +29,7 @@ simulates M i = record {
   opens-refused = λ o w why f d. open-unmoved (w .0) (w .1) o why d;
   answers-alike = λ w c f k. ap (λ (z : Answer × State). z .0) (words-alike M i (w .0) (w .1) k c);
   leaves-alike = λ w c f k. ap (λ (z : Answer × State). z .1) (words-alike M i (w .0) (w .1) k c);
-  hands-alike = λ w c f k. hands-alike M i (w .0) (w .1) k c;
+  hands-alike = λ w c f k. handed-alike M i (w .0) (w .1) k c;
   output-alike = λ w c out f room k. i .same-output (w .0) (w .1) k c out ∙ output-alike (w .0) (w .1) k c out room;
   keeps-ok = λ w c f k. words-keep M i (w .0) (w .1) k c;
 }

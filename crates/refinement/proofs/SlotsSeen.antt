@@ -86,9 +86,9 @@ module _ (t r : List ℕ) (x : ℕ) where
       go (past p) = ap (λ (m : Slot). m .registered) p
 
 -- the generation is all of a slot's key that its words have
-pub key-by : (t u : List ℕ) (x : ℕ) → laneAt u x .key .generation ≡ laneAt t x .key .generation → laneAt u x .key ≡ laneAt t x .key
+pub key-by-generation : (t u : List ℕ) (x : ℕ) → laneAt u x .key .generation ≡ laneAt t x .key .generation → laneAt u x .key ≡ laneAt t x .key
 unfolding laneAt
-key-by t u x e = ap {A = ℕ} {B = LaneKey} (λ n. record { slot = x; generation = n }) e
+key-by-generation t u x e = ap {A = ℕ} {B = LaneKey} (λ n. record { slot = x; generation = n }) e
 
 -- ---- of all slots
 

@@ -11,7 +11,6 @@ use mathlib.Core.List.{List}
 use Prim.Native.Nat.{ℕ, zero, suc, _≤_, _<_}
 use native.Mathlib.Omega.{arith}
 use borrow.Author.Tests.{eqb-true, eqb-false}
-use Rattle.model.specs.declared.LaneKey.{LaneKey}
 use Rattle.model.specs.declared.LaneId.{LaneId}
 use Rattle.model.specs.declared.Call.{Call}
 use Rattle.model.specs.declared.Answer.{Answer}
@@ -36,6 +35,7 @@ use Rattle.turns.proofs.FrontLaws.{poll-front-turned}
 use Rattle.receive_batch.proofs.LookLaws.{look-front-looked}
 use Rattle.refinement.proofs.TryRecvFromLaws.{try-recv-from-keeps}
 use Rattle.refinement.proofs.KeysKept.{call-keeps-generation, call-keeps-issued}
+use Rattle.refinement.proofs.SlotsSeen.{generation-is, key-by-generation}
 
 -- what stands behind an entry of the queue
 pub record QueuedLane (t : List ℕ) (x : ℕ) : Type 0 where
@@ -78,14 +78,6 @@ stale-never-after-targeted t r i o x named = stale-never ((tryRecvFrom t r i) .1
 
 -- ---- the key behind an entry
 
-generation-seen : (t r : List ℕ) (x : ℕ) → x < issued t → view t r .slotOf x .generation ≡ laneAt t x .key .generation
-unfolding slotAt
-generation-seen t r x h = ap (λ (m : Slot). m .generation) (slot-in t r x h)
-
-key-by : (t u : List ℕ) (x : ℕ) → laneAt u x .key .generation ≡ laneAt t x .key .generation → laneAt u x .key ≡ laneAt t x .key
-unfolding laneAt
-key-by t u x e = ap {A = ℕ} {B = LaneKey} (λ n. record { slot = x; generation = n }) e
-
 module _ (t r : List ℕ) (c : Call) (w : Words) (o : StoreInOrder t r) (e : seen w ≡ (outcome (view t r) c) .1) (x : ℕ) (named : 1 ≤ count x (queueOf t)) where
   state-after : view (w .1) (w .2) ≡ (outcome (view t r) c) .1 .1
   state-after = ap (λ (z : Answer × State). z .1) e
@@ -99,9 +91,9 @@ module _ (t r : List ℕ) (c : Call) (w : Words) (o : StoreInOrder t r) (e : see
   pub queued-key-kept : laneAt (w .1) x .key ≡ laneAt t x .key
   queued-key-kept =
       let k = stale-never t r o x named in
-      key-by t (w .1) x
-      (sym (generation-seen (w .1) (w .2) x still-issued) ∙ ap (λ (s : State). s .slotOf x .generation) state-after
-      ∙ call-keeps-generation (view t r) c (o .ordered) x (registered-seen t r (o .stores) x (k .is-issued) (k .registered)) ∙ generation-seen t r x (k .is-issued))
+      key-by-generation t (w .1) x
+      (sym (generation-is (w .1) (w .2) x still-issued) ∙ ap (λ (s : State). s .slotOf x .generation) state-after
+      ∙ call-keeps-generation (view t r) c (o .ordered) x (registered-seen t r (o .stores) x (k .is-issued) (k .registered)) ∙ generation-is t r x (k .is-issued))
 
 -- ---- in the loops
 

@@ -18,11 +18,11 @@ use Rattle.lane.specs.declared.lane.Refill.the-variants as Refill
 use Rattle.yring.specs.Ring.{newRing}
 use Rattle.lane.specs.Lane.{heldItems, refill, readyOrIdle, targeted, popTargeted}
 use Rattle.lane.specs.Order.{InOrder, Filled}
-use Rattle.lane.specs.Table.{laneAt, putLane}
+use Rattle.lane.specs.Table.{head, laneAt, putLane}
 use Rattle.lane.proofs.OrderLaws.{pop-targeted-keeps}
 use Rattle.lane.proofs.HeldLaws.{reload-holds, pop-targeted-takes-first}
 use Rattle.lane.proofs.TableLaws.{frames}
-use Rattle.queues.specs.Header.{Shaped, issued, slots, queueCount, budget, capacity, fastSlot, laneCount, livingCount}
+use Rattle.queues.specs.Header.{Shaped, issued, slots, queueCount, budget, capacity, laneCount, livingCount}
 use Rattle.queues.specs.Queue.{queueOf, pushBack}
 use Rattle.ready.specs.Ready.{pageBit}
 use Rattle.queues.proofs.QueueLaws.{shaped-putLane, length-queue}
@@ -135,7 +135,7 @@ module _ (t r : List ℕ) (o : StoreInOrder t r) (x : ℕ) (h : x < issued t) (g
 
   stores-stored : Stores (putLane t new) r
   stores-stored =
-      stores-after t r (putLane t new) r (o .stores) x h new (queueOf t) (fastSlot t) (budget t) (laneCount t) (livingCount t)
+      stores-after t r (putLane t new) r (o .stores) x h new (queueOf t) (head t)
       (step-put-lane (step-start t r (o .stores) x) new own-slot h)
       (record {
         flags = flags-stored;
@@ -200,15 +200,15 @@ module _ (t r : List ℕ) (o : StoreInOrder t r) (x : ℕ) (h : x < issued t) (g
         ∙ ap (withQueue (view t r .queue ++ (x ∷ [])))
         (sym (ap (λ (m : Slot). put x (signalled m) (put x taken (view t r))) (put-own x taken (view t r)) ∙ put-put x (signalled taken) taken (view t r)))
 
-    step-queued : Step t (queueTarget t new) x turned (queueOf t ++ (x ∷ [])) (fastSlot t) (budget t) (laneCount t) (livingCount t)
+    step-queued : Step t (queueTarget t new) x turned (queueOf t ++ (x ∷ [])) (head t)
     step-queued =
         let start = step-start t r (o .stores) x in
-        subst (λ (u : List ℕ). Step t u x turned (queueOf t ++ (x ∷ [])) (fastSlot t) (budget t) (laneCount t) (livingCount t)) (sym queued-is)
+        subst (λ (u : List ℕ). Step t u x turned (queueOf t ++ (x ∷ [])) (head t)) (sym queued-is)
         (step-pushed-back (step-marked-if-idle (step-put-lane start turned own-slot h) new (rw own-slot h)) x (rw (length-queue t) room))
 
     stores-queued : Stores (queueTarget t new) r
     stores-queued =
-        stores-after t r (queueTarget t new) r (o .stores) x h turned _ _ _ _ _ step-queued
+        stores-after t r (queueTarget t new) r (o .stores) x h turned _ _ step-queued
         (record {
           flags = record {
             pending-flag = omega arith;

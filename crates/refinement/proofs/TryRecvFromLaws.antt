@@ -23,9 +23,9 @@ use Rattle.lane.specs.declared.lane.EmptyLane.{EmptyLane}
 use Rattle.lane.specs.declared.lane.Refill.the-variants as Refill
 use Rattle.lane.specs.Lane.{settleEmpty, refill, readyOrIdle, popTargeted}
 use Rattle.yring.specs.Ring.{newRing}
-use Rattle.lane.specs.Table.{laneAt, putLane}
+use Rattle.lane.specs.Table.{head, laneAt, putLane}
 use Rattle.lane.proofs.TableLaws.{frames}
-use Rattle.queues.specs.Header.{issued, slots, freeCount, budget, capacity, channel, fastSlot, laneCount, livingCount}
+use Rattle.queues.specs.Header.{issued, slots, freeCount, capacity, channel}
 use Rattle.queues.specs.Queue.{queueOf, remove}
 use Rattle.queues.proofs.QueueLaws.{queue-frames, shaped-putLane}
 use Rattle.store.specs.View.{slotAt, view}
@@ -57,7 +57,7 @@ module _ (t r : List ℕ) (o : StoreInOrder t r) (x : ℕ) (h : x < issued t) (g
   abbrev rest : List ℕ
   rest = lists.without x (queueOf t)
 
-  step-left : Step t left x l rest (fastSlot t) (budget t) (laneCount t) (livingCount t)
+  step-left : Step t left x l rest (head t)
   step-left = step-removed (step-put-lane (step-start t r (o .stores) x) l (found-slot t r o x h g found k) h) x
 
   room : freeCount left < slots left

@@ -23,15 +23,15 @@ use Rattle.refinement.proofs.NothingTakenLaws.{nothing-taken-alike, not
 use Rattle.refinement.proofs.HandsLaws.{try-recv-answers, hands-by-answer}
 use Rattle.refinement.proofs.TurnView.{TookAs}
 use Rattle.refinement.proofs.TakeOneView.{take-one-alike}
-use Rattle.refinement.proofs.ChannelKept.{take-one-channel}
+use Rattle.refinement.proofs.HeaderKept.{take-one-leaves, channel-unwritten}
 
 -- ---- the answer to a take that is the rules'
 
-pub answer-one-alike : (r : List ℕ) (c : ℕ) (w : Took × List ℕ) (v : RulesTook) → TookAs r w v → (v .1) .channel ≡ c
+pub answer-one-alike : (r : List ℕ) (c : ℕ) (w : Took × List ℕ) (v : RulesTook) → TookAs r w v → channel (w .1) ≡ c
     → seen (withRings r (answerOne c w)) ≡ (rules.answerOne (v .0) (v .1)) .1
-unfolding answerOne rules.answerOne
+unfolding answerOne rules.answerOne view
 answer-one-alike r c (Took.Item item key, u) v a e =
-    ap (λ (n : ℕ). (Item item (record { channel = n; key = key }), view u r)) (sym e ∙ ap (λ (z : RulesTook). (z .1) .channel) (sym (a .alike)))
+    ap (λ (n : ℕ). (Item item (record { channel = n; key = key }), view u r)) (sym e)
     ∙ ap (λ (z : RulesTook). (rules.answerOne (z .0) (z .1)) .1) (a .alike)
 answer-one-alike r c (Took.Nothing, u) v a e =
     nothing-taken-alike u r (a .in-order) ∙ ap (λ (z : RulesTook). (rules.answerOne (z .0) (z .1)) .1) (a .alike)
@@ -49,7 +49,7 @@ module _ (t r : List ℕ) (o : StoreInOrder t r) where
   try-recv-alike =
       let w : RulesTook = rules-turn.takeOne (view t r) in
       refused-alike (receiverVerdict t) ((not (view t r .isOpen), ReceiverClosed) ∷ []) t r (withRings r (answerOne (channel t) (takeOne t r))) (rules.answerOne (w .0) (w .1))
-      (receiver-verdict t r) (λ e. answer-one-alike r (channel t) (takeOne t r) w (take-one-alike t r o) (take-one-channel (view t r)))
+      (receiver-verdict t r) (λ e. answer-one-alike r (channel t) (takeOne t r) w (take-one-alike t r o) (take-one-leaves channel-unwritten t r))
 
   pub try-recv-keeps : StoreInOrder ((tryRecv t r) .1) ((tryRecv t r) .2)
   unfolding tryRecv

@@ -18,10 +18,10 @@ use Rattle.lane.specs.declared.lane.Popped.the-variants as Popped
 use Rattle.yring.specs.Ring.{newRing, itemAt}
 use Rattle.lane.specs.Lane.{heldItems, windowPop, popFast, grantFast}
 use Rattle.lane.specs.Order.{InOrder, poppedLane}
-use Rattle.lane.specs.Table.{laneAt, setHead}
+use Rattle.lane.specs.Table.{head, laneAt, setHead}
 use Rattle.lane.proofs.OrderLaws.{cond-holds, pop-fast-keeps, grant-fast-keeps}
 use Rattle.lane.proofs.HeldLaws.{pop-fast-takes-first}
-use Rattle.queues.specs.Header.{issued, queueCount, budget, capacity, fastSlot, laneCount, livingCount}
+use Rattle.queues.specs.Header.{issued, queueCount, budget, capacity, fastSlot}
 use Rattle.queues.specs.Queue.{queueOf, frontSlot, popFront}
 use Rattle.queues.proofs.QueueLaws.{queue-front}
 use Rattle.turns.specs.declared.turn.Took.{Took}
@@ -31,6 +31,7 @@ use Rattle.store.specs.Order.{Stores, StoreInOrder}
 use Rattle.turns.specs.Turn.{frontLane}
 use Rattle.receive.specs.Receive.{takeFromWindow, fastTook, takeFast, takeIfPopped, takeFrontWindow}
 use Rattle.store.proofs.ViewLaws.{slot-in, view-fast-slot}
+use Rattle.store.proofs.HeaderWords.{withWord}
 use Rattle.store.proofs.StepLaws.{Step}
 use Rattle.store.proofs.StoreLaws.{issued-ring-in}
 use Rattle.store.proofs.LaneFields.{flagged, flagged-pop-fast, flagged-grant}
@@ -98,7 +99,7 @@ module _ (t r : List ℕ) (o : StoreInOrder t r) (x : ℕ) (q : List ℕ) (e : q
   burst-seen = ap (λ (y : Slot). y .burst) (slot-in t r x (front .is-issued))
 
   module _ (item : ℕ) (m : Lane) (k : Pops t r x item (burstSeen (laneAt t x) + 1) m) (below : burstSeen (laneAt t x) < 63)
-      (u : List ℕ) (s : Step t u x (laneAt t x) (queueOf t) x (budget t) (laneCount t) (livingCount t)) (same : view u r ≡ view t r) where
+      (u : List ℕ) (s : Step t u x (laneAt t x) (queueOf t) (withWord fastSlot x (head t))) (same : view u r ≡ view t r) where
     abbrev left : List ℕ
     left = heldItems (newRing x (capacity t)) r m
 

@@ -19,15 +19,16 @@ use Rattle.lane.specs.declared.lane.Lane.{Lane}
 use Rattle.yring.specs.Ring.{newRing}
 use Rattle.lane.specs.Lane.{heldItems}
 use Rattle.lane.specs.Order.{InOrder}
-use Rattle.lane.specs.Table.{laneAt, putLane, setHead}
-use Rattle.queues.specs.Header.{budget, capacity, fastSlot, laneCount, livingCount}
+use Rattle.lane.specs.Table.{head, laneAt, putLane, setHead}
+use Rattle.queues.specs.Header.{budget, capacity, fastSlot, laneCount, livingCount, setFastSlot}
 use Rattle.queues.specs.Queue.{queueOf}
 use Rattle.queues.proofs.QueueLaws.{shaped-putLane}
 use Rattle.store.specs.View.{slotAt, view}
 use Rattle.store.specs.Order.{Stores, StoreInOrder}
 use Rattle.receive.specs.Receive.{takeFromWindow}
 use Rattle.store.proofs.ViewLaws.{slot-in, view-put-holding, view-budget}
-use Rattle.store.proofs.StepLaws.{Step, step-start, step-put-lane, step-budget, step-fast-slot}
+use Rattle.store.proofs.HeaderWords.{withWord}
+use Rattle.store.proofs.StepLaws.{Step, step-start, step-put-lane, step-budget, step-fast-slot, issued-kept, capacity-kept, budget-now, step-has}
 use Rattle.store.proofs.StoreLaws.{below-slots, Owes, stores-after, windows-front}
 use Rattle.store.proofs.LaneFields.{Flagged, flagged}
 use Rattle.refinement.proofs.SameFlags.{flags-by, slot-by, key-by}
@@ -49,7 +50,7 @@ pub record Pops (t r : List ℕ) (x item n : ℕ) (m : Lane) : Type 0 where
 
 -- u is the table with `fast_slot` at the front lane
 module _ (t r : List ℕ) (o : StoreInOrder t r) (x : ℕ) (q : List ℕ) (e : queueOf t ≡ x ∷ q) (item n : ℕ) (m : Lane) (k : Pops t r x item n m)
-    (u : List ℕ) (s : Step t u x (laneAt t x) (queueOf t) x (budget t) (laneCount t) (livingCount t)) (same : view u r ≡ view t r) where
+    (u : List ℕ) (s : Step t u x (laneAt t x) (queueOf t) (withWord fastSlot x (head t))) (same : view u r ≡ view t r) where
   abbrev slot : Slot
   slot = view t r .slotOf x
 
@@ -71,8 +72,8 @@ module _ (t r : List ℕ) (o : StoreInOrder t r) (x : ℕ) (q : List ℕ) (e : q
 
   view-stored : view (putLane u m) r ≡ put x (withRing left (unreleasedSeen m) (burstSeen m) slot) (view t r)
   view-stored =
-      view-put-holding u r (s .shaped) x (rw (s .same-issued) (front .is-issued)) m (ap (λ (z : Flagged). z .0) flags-now) left
-      (ap (λ (C : ℕ). heldItems (newRing x C) r m) (s .same-capacity))
+      view-put-holding u r (s .shaped) x (rw (issued-kept s) (front .is-issued)) m (ap (λ (z : Flagged). z .0) flags-now) left
+      (ap (λ (C : ℕ). heldItems (newRing x C) r m) (capacity-kept s))
       (ap (λ (z : Flagged). z .1) flags-now) (ap (λ (z : Flagged). z .3) flags-now) (ap (λ (z : Flagged). z .2) flags-now) (ap (λ (z : Flagged). z .5) flags-now)
       ∙ ap (λ (v : State). put x (withRing left (unreleasedSeen m) (burstSeen m) (v .slotOf x)) v) same
 
@@ -88,7 +89,7 @@ module _ (t r : List ℕ) (o : StoreInOrder t r) (x : ℕ) (q : List ℕ) (e : q
     unfolding rules.giveItem view
     window-view =
         view-budget (putLane u m) r (shaped-putLane u (s .shaped) m) (budget u - 1)
-        ∙ ap₂ (λ (b : ℕ) (v : State). withBudget (b - 1) v) (s .poll ∙ sym (refill-some (budget t) (omega (arith, k .within)))) view-stored
+        ∙ ap₂ (λ (b : ℕ) (v : State). withBudget (b - 1) v) (budget-now s ∙ sym (refill-some (budget t) (omega (arith, k .within)))) view-stored
         ∙ ap₂ (λ (w : List ℕ) (a : ℕ). withBudget (rules.refill (budget t) - 1) (withQueue w (put x (popped left a (burstSeen m) slot) (view t r)))) (e ∙ sym turned) unreleased-now
         ∙ ap (λ (b : ℕ). withBudget (rules.refill (budget t) - 1) (withQueue (if back (q ++ (x ∷ [])) (x ∷ q)) (put x (popped left (rules.unreleasedAfterOne (view t r) x) b slot) (view t r)))) (k .burst-is ∙ burst)
 
@@ -96,7 +97,7 @@ module _ (t r : List ℕ) (o : StoreInOrder t r) (x : ℕ) (q : List ℕ) (e : q
     unfolding view
     window-ordered h = subst Ordered (sym window-view) (kept.give-item-ordered (view t r) x q left back e h (o .ordered))
 
-  owes-taken : Owes t x m (queueOf t) x (budget u - 1) (laneCount t) (livingCount t)
+  owes-taken : Owes t x m (queueOf t) (withWord budget (budget u - 1) (withWord fastSlot x (head t)))
   owes-taken =
       record {
         flags = flags-by (laneAt t x) m (k .same-flags) (o .stores .flags x (front .is-issued));
@@ -105,7 +106,7 @@ module _ (t r : List ℕ) (o : StoreInOrder t r) (x : ℕ) (q : List ℕ) (e : q
         once = o .stores .named .once x;
         flagged = λ i. ap (λ (z : Flagged). z .4) (k .same-flags) ∙ o .stores .named .flagged x (front .is-issued) (front .registered);
         rest = λ y d. refl;
-        window = λ i w. record { at-fast = refl; in-front = ap (take 1) e; within = omega (arith, k .within, s .poll) };
+        window = λ i w. record { at-fast = refl; in-front = ap (take 1) e; within = omega (arith, k .within, budget-now s) };
         windows = windows-front t r (o .stores) x q e (queueOf t) x (budget u - 1);
         lane-count = ap (λ (z : Flagged). laneCount t + z .1) (sym (k .same-flags));
         living-count = ap (λ (z : Flagged). livingCount t + z .3) (sym (k .same-flags));
@@ -113,7 +114,7 @@ module _ (t r : List ℕ) (o : StoreInOrder t r) (x : ℕ) (q : List ℕ) (e : q
 
   window-stores : Stores taken r
   window-stores =
-      stores-after t r taken r (o .stores) x (front .is-issued) m _ _ _ _ _ (step-budget (step-put-lane s m (slot-by t x m (k .same-flags)) (front .is-issued)) (budget u - 1))
+      stores-after t r taken r (o .stores) x (front .is-issued) m _ _ (step-budget (step-put-lane s m (slot-by t x m (k .same-flags)) (front .is-issued)) (budget u - 1))
       owes-taken (o .stores .rings-room)
 
   pub window-first : slot .ring ≡ item ∷ left
@@ -133,8 +134,8 @@ module _ (t r : List ℕ) (o : StoreInOrder t r) (x : ℕ) (q : List ℕ) (e : q
 -- ---- `fast_slot` at the front lane
 
 module _ (t r : List ℕ) (o : Stores t r) (x : ℕ) where
-  pub step-fast-same : fastSlot t ≡ x → Step t t x (laneAt t x) (queueOf t) x (budget t) (laneCount t) (livingCount t)
-  step-fast-same e = subst (λ (f : ℕ). Step t t x (laneAt t x) (queueOf t) f (budget t) (laneCount t) (livingCount t)) e (step-start t r o x)
+  pub step-fast-same : fastSlot t ≡ x → Step t t x (laneAt t x) (queueOf t) (withWord fastSlot x (head t))
+  step-fast-same e = step-has (step-start t r o x) fastSlot x refl e
 
-  pub step-fast-moved : Step t (setHead t 12 x) x (laneAt t x) (queueOf t) x (budget t) (laneCount t) (livingCount t)
+  pub step-fast-moved : Step t (setFastSlot t x) x (laneAt t x) (queueOf t) (withWord fastSlot x (head t))
   step-fast-moved = step-fast-slot (step-start t r o x) x

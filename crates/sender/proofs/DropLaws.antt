@@ -17,9 +17,9 @@ use Rattle.model.specs.Outcome.{says}
 use Rattle.model.specs.Sender as rules-sender
 use Rattle.model.specs.Rules.{outcome}
 use Rattle.lane.specs.declared.lane.Lane.{Lane}
-use Rattle.lane.specs.Table.{laneAt, putLane}
+use Rattle.lane.specs.Table.{head, laneAt, putLane}
 use Rattle.lane.proofs.TableLaws.{frames, slot-of-lane}
-use Rattle.queues.specs.Header.{issued, budget, fastSlot, laneCount, livingCount}
+use Rattle.queues.specs.Header.{issued, budget, livingCount}
 use Rattle.queues.specs.Queue.{queueOf}
 use Rattle.queues.proofs.QueueLaws.{shaped-putLane}
 use Rattle.store.specs.View.{slotAt, view}
@@ -29,6 +29,7 @@ use Rattle.store.specs.Signal.{markIfIdle}
 use Rattle.sender.specs.Sender.{withSender, dropLane, dropSender}
 use Rattle.store.proofs.ViewLaws.{slot-in, view-put-flags, view-living-count}
 use Rattle.store.proofs.RefusalLaws.{seen, unless-refused-case, refused-alike, sender-verdict, Lives, sender-passes}
+use Rattle.store.proofs.HeaderWords.{withWord}
 use Rattle.store.proofs.StepLaws.{Step, step-start, step-put-lane, step-living-count}
 use Rattle.store.proofs.StoreLaws.{living-counted, store-in-order-after, stores-after, windows-kept}
 use Rattle.store.proofs.SignalLaws.{idle-flag, view-put-marked-if-idle, step-marked-if-idle}
@@ -59,7 +60,7 @@ module _ (t r : List ℕ) (k : LaneKey) (o : Stores t r) (p : Lives t k) where
   abbrev u : List ℕ
   u = markIfIdle (putLane t left) l
 
-  run : Step t u x left (queueOf t) (fastSlot t) (budget t) (laneCount t) (livingCount t)
+  run : Step t u x left (queueOf t) (head t)
   run = step-marked-if-idle (step-put-lane (step-start t r o x) left at is-issued) l (rw at is-issued)
 
   dropped-view : view (dropLane t l) r ≡ put x (rules.signalled (rules.senderDropped (s .slotOf x))) s
@@ -74,7 +75,7 @@ module _ (t r : List ℕ) (k : LaneKey) (o : Stores t r) (p : Lives t k) where
   unfolding dropLane
   dropped-stores =
       let f = o .flags x is-issued in
-      stores-after t r _ r o x is-issued left (queueOf t) (fastSlot t) (budget t) (laneCount t) (livingCount t - 1) (step-living-count run (livingCount t - 1))
+      stores-after t r _ r o x is-issued left (queueOf t) (withWord livingCount (livingCount t - 1) (head t)) (step-living-count run (livingCount t - 1))
       (record {
         flags = record { pending-flag = omega arith; queued-flag = f .queued-flag; paused-flag = f .paused-flag; registered-flag = f .registered-flag; living-flag = omega arith };
         order = λ e. let i = o .lanes x is-issued e in record { cursors = i .cursors; counts = i .counts };

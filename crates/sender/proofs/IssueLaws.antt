@@ -34,9 +34,8 @@ use Rattle.queues.proofs.RegistryLaws.{registry-frames}
 use Rattle.store.specs.View.{flag, slotOf, slotAt, view}
 use Rattle.store.specs.Order.{Flags, Fast, MarkWords, Stores}
 use Rattle.store.proofs.ViewLaws.{row-in, view-put-lane, put-put}
-use Rattle.store.proofs.CountLaws.{one, registered-more, living-more}
+use Rattle.store.proofs.CountLaws.{SlotSum, lanes-sum, living-sum, number-more}
 use Rattle.store.proofs.StepLaws.{linked-by, mark-words-by}
-use Rattle.store.proofs.StoreLaws.{registered-by, living-by}
 
 -- ---- the page and the group of a slot opened
 
@@ -320,10 +319,6 @@ module _ (t r u : List ℕ) (o : Stores t r) (d : IssuedOne t u) (l : Lane) (e :
   linked-now : Linked v
   linked-now = linked-by u v (simp frames) (λ p. simp frames) (λ g. simp frames) (d .linked)
 
-  issued-seen : view v r .issued ≡ suc (view t r .issued)
-  unfolding view
-  issued-seen = issued-now ∙ add-one (issued t)
-
   module _ (flags : Flags l) (order : InOrder (capacity t) l) (registered : l .registered ≡ 1) (living : l .living ≡ 1) (unqueued : l .queued ≡ 0) (closed : l .window ≡ 0) where
     -- nothing in the queue is past the slots issued before
     unnamed : count (issued t) (queueOf t) ≡ 0
@@ -333,37 +328,15 @@ module _ (t r u : List ℕ) (o : Stores t r) (d : IssuedOne t u) (l : Lane) (e :
         go zero f = refl
         go (suc c) f = absurd (omega (arith, f (omega arith)))
 
+    -- a header word that is a sum over the slots, and counts the new lane
+    sum-now : (c : SlotSum) {z i : ℕ} → i ≡ c .number (view t r) → z ≡ i + c .by-words l → z ≡ c .number (view v r)
+    sum-now c e g = omega (arith, e, g, number-more c t r v r issued-now before-now, ap (c .by-words) own-now)
+
     lanes-now : laneCount v ≡ registeredLanes (view v r)
-    unfolding view
-    lanes-now =
-        let stored : laneCount v ≡ laneCount t + 1 = simp (frames, at-end) in
-        let seen : view v r .slotOf (issued t) .registered ≡ true =
-        registered-by v r (issued t) ∙ rw (lt-ltb (issued t) (issued v) (omega (arith, issued-now)), own-now, registered) in
-        let own : one (view v r .slotOf (issued t) .registered) ≡ 1 = ap one seen in
-        omega (
-          arith,
-          stored,
-          own,
-          o .lanes-counted,
-          registered-more (view t r) (view v r) issued-seen
-              (λ y h. registered-by v r y ∙ rw (lt-ltb y (issued v) (omega (arith, issued-now)), before-now y h) (sym (registered-by t r y ∙ rw (lt-ltb y (issued t) h)))),
-        )
+    lanes-now = sum-now lanes-sum (o .lanes-counted) (rw registered (simp (frames, at-end)))
 
     living-now : livingCount v ≡ livingSenders (view v r)
-    unfolding view
-    living-now =
-        let stored : livingCount v ≡ livingCount t + 1 = simp (frames, at-end) in
-        let seen : view v r .slotOf (issued t) .living ≡ true =
-        living-by v r (issued t) ∙ rw (lt-ltb (issued t) (issued v) (omega (arith, issued-now)), own-now, living) in
-        let own : one (view v r .slotOf (issued t) .living) ≡ 1 = ap one seen in
-        omega (
-          arith,
-          stored,
-          own,
-          o .living-counted,
-          living-more (view t r) (view v r) issued-seen
-              (λ y h. living-by v r y ∙ rw (lt-ltb y (issued v) (omega (arith, issued-now)), before-now y h) (sym (living-by t r y ∙ rw (lt-ltb y (issued t) h)))),
-        )
+    living-now = sum-now living-sum (o .living-counted) (rw living (simp (frames, at-end)))
 
     stores-now : Stores v r
     stores-now =

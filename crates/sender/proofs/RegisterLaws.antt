@@ -29,11 +29,11 @@ use Rattle.lane.specs.declared.lane.Lane.{Lane}
 use Rattle.yring.specs.declared.ring.Ring.{Ring}
 use Rattle.yring.specs.Ring.{newRing, items}
 use Rattle.lane.specs.Lane.{newLane, heldItems}
-use Rattle.lane.specs.Table.{setHead, laneAt, putLane}
+use Rattle.lane.specs.Table.{head, setHead, laneAt, putLane}
 use Rattle.lane.proofs.TableLaws.{frames}
 use Rattle.yring.proofs.CursorLaws.{distance-self}
 use Rattle.lane.proofs.OrderLaws.{new-lane-in-order}
-use Rattle.queues.specs.Header.{Shaped, issued, slots, budget, capacity, firstCursor, firstGeneration, fastSlot, freeCount, laneCount, livingCount}
+use Rattle.queues.specs.Header.{Shaped, issued, slots, budget, capacity, firstCursor, firstGeneration, freeCount, laneCount, livingCount}
 use Rattle.queues.specs.Queue.{queueOf}
 use Rattle.queues.specs.Registry.{freeOf, lastFreed, reissue}
 use Rattle.ready.specs.Ready.{pageBit}
@@ -46,6 +46,7 @@ use Rattle.store.specs.Refusal.{receiverVerdict, andThen}
 use Rattle.sender.specs.Sender.{unusedVerdict, olderVerdict, slotVerdict, registerVerdict, dueKey, takeSlot, registerLane, registerSender}
 use Rattle.store.proofs.ViewLaws.{slot-in, slot-out, view-put-lane, free-view, view-reissued, view-lane-count, view-living-count}
 use Rattle.store.proofs.RefusalLaws.{seen, firstOf, first-of-append, unless-refused-case, refused-alike, receiver-verdict, and-then-passes}
+use Rattle.store.proofs.HeaderWords.{withWord}
 use Rattle.store.proofs.StepLaws.{step-start, step-put-lane, step-reissued, step-lane-count, step-living-count}
 use Rattle.store.proofs.StoreLaws.{FreeSlot, last-freed-slot, store-in-order-after, stores-after, windows-kept}
 use Rattle.sender.proofs.IssueLaws.{issuedNext, shaped-issued-next, view-issued, stores-registered-next}
@@ -226,7 +227,7 @@ module _ (t r : List ℕ) (o : StoreInOrder t r) where
         let gone : laneAt t x .registered ≡ 0 = zero-flag _ (f .registered-flag) (free .unregistered) in
         let dead : laneAt t x .living ≡ 0 = zero-flag _ (f .living-flag) dropped in
         rw taken-again
-        (stores-after t r _ r (o .stores) x (free .is-issued) m (queueOf t) (fastSlot t) (budget t) (laneCount t + 1) (livingCount t + 1)
+        (stores-after t r _ r (o .stores) x (free .is-issued) m (queueOf t) (withWord livingCount (livingCount t + 1) (withWord laneCount (laneCount t + 1) (head t)))
         (step-living-count (step-lane-count (step-put-lane (step-reissued (step-start t r (o .stores) x)) m refl (free .is-issued)) (laneCount t + 1)) (livingCount t + 1))
         (record {
           flags = new-flags again c;

@@ -31,11 +31,11 @@ use Rattle.yring.specs.Cursor.{after, distance}
 use Rattle.yring.specs.Ring.{Within, newRing, index, pushItem}
 use Rattle.lane.specs.Lane.{withCursors, heldItems, sent, pushAndFlushItem}
 use Rattle.lane.specs.Order.{InOrder, sentLane}
-use Rattle.lane.specs.Table.{laneAt, putLane}
+use Rattle.lane.specs.Table.{head, laneAt, putLane}
 use Rattle.lane.proofs.TableLaws.{frames, slot-of-lane}
 use Rattle.yring.proofs.RingLaws.{length-items}
 use Rattle.lane.proofs.OrderLaws.{push-and-flush-keeps}
-use Rattle.queues.specs.Header.{issued, slots, budget, capacity, fastSlot, laneCount, livingCount}
+use Rattle.queues.specs.Header.{issued, slots, budget, capacity}
 use Rattle.queues.specs.Queue.{queueOf}
 use Rattle.ready.specs.Ready.{pageBit}
 use Rattle.queues.proofs.QueueLaws.{shaped-putLane}
@@ -132,7 +132,7 @@ module _ (t r : List ℕ) (k : LaneKey) (v : ℕ) (o : Stores t r) (p : Sends t 
         subst (λ (z : Sent × List ℕ). InOrder C (sentLane (z .0))) (push-taken (newRing x C) r v l n) (push-and-flush-keeps (newRing x C) (o .power .most) r v l order)
 
     -- what a send owes for the lane, whatever its signal
-    owes-taken : (pending : ℕ) → pending ≤ 1 → Owes t x (withSender pending (l .living) (grown l)) (queueOf t) (fastSlot t) (budget t) (laneCount t) (livingCount t)
+    owes-taken : (pending : ℕ) → pending ≤ 1 → Owes t x (withSender pending (l .living) (grown l)) (queueOf t) (head t)
     owes-taken pending h =
         let f = o .flags x is-issued in
         record {
@@ -168,19 +168,19 @@ module _ (t r : List ℕ) (k : LaneKey) (v : ℕ) (o : Stores t r) (p : Sends t 
     unsignaled-view =
         ap (λ (z : State). (Taken false, z)) (view-taken (grown l) (slot-of-lane t x) refl refl) ∙ rw (slot-in t r x is-issued)
 
-    start : Step t t x l (queueOf t) (fastSlot t) (budget t) (laneCount t) (livingCount t)
+    start : Step t t x l (queueOf t) (head t)
     start = step-start t r o x
 
     signaled-stores : Stores (markIfIdle (putLane t (withSender 1 (l .living) (grown l))) (grown l)) q
     signaled-stores =
         let m : Lane = withSender 1 (l .living) (grown l) in
         let at : l .key .slot ≡ x = slot-of-lane t x in
-        stores-after t r _ q o x is-issued m (queueOf t) (fastSlot t) (budget t) (laneCount t) (livingCount t)
+        stores-after t r _ q o x is-issued m (queueOf t) (head t)
         (step-marked-if-idle (step-put-lane start m at is-issued) (grown l) (rw at is-issued)) (owes-taken 1 (omega arith)) long-enough
 
     unsignaled-stores : Stores (putLane t (grown l)) q
     unsignaled-stores =
-        stores-after t r _ q o x is-issued (grown l) (queueOf t) (fastSlot t) (budget t) (laneCount t) (livingCount t)
+        stores-after t r _ q o x is-issued (grown l) (queueOf t) (head t)
         (step-put-lane start (grown l) (slot-of-lane t x) is-issued) (owes-taken (l .pending) (o .flags x is-issued .pending-flag)) long-enough
 
   -- ---- full, or taken

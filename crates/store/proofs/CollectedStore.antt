@@ -6,7 +6,6 @@ use mathlib.Core.List.{List}
 use Prim.Native.Nat.{ℕ}
 use lib.Dec.{eqb, ltb}
 use Rattle.model.specs.Lists.{if}
-use Rattle.model.specs.State.{registeredLanes, livingSenders}
 use Rattle.lane.specs.declared.lane.Lane.{Lane}
 use Rattle.lane.specs.Order.{InOrder}
 use Rattle.lane.specs.Table.{headerWords, head, laneAt}
@@ -15,8 +14,7 @@ use Rattle.queues.specs.Queue.{queueOf}
 use Rattle.ready.specs.Ready.{queuedLane, collectReady}
 use Rattle.store.specs.View.{flag, view}
 use Rattle.store.specs.Order.{Flags, Fast, Stores}
-use Rattle.store.proofs.CountLaws.{passing-same}
-use Rattle.store.proofs.StoreLaws.{registered-by, living-by}
+use Rattle.store.proofs.CountLaws.{one, SlotSum, lanes-sum, living-sum, number-same}
 use Rattle.store.proofs.CollectedView.{Collected, collected}
 
 module _ (t r : List ℕ) (o : Stores t r) (all : Bool) where
@@ -45,23 +43,8 @@ module _ (t r : List ℕ) (o : Stores t r) (all : Bool) where
   issued-did : issued u ≡ issued t
   issued-did = heads-did 0 refl refl refl
 
-  issued-seen : view u r .issued ≡ view t r .issued
-  unfolding view
-  issued-seen = issued-did
-
-  registered-same : registeredLanes (view u r) ≡ registeredLanes (view t r)
-  unfolding registeredLanes
-  registered-same =
-      rw issued-seen
-      (passing-same (λ y. view u r .slotOf y .registered) (λ y. view t r .slotOf y .registered) 0 (view t r .issued)
-      (λ y g l. registered-by u r y ∙ ap₂ (λ (i w : ℕ). if (ltb y i) (flag w) false) issued-did (registered-did y) ∙ sym (registered-by t r y)))
-
-  living-same : livingSenders (view u r) ≡ livingSenders (view t r)
-  unfolding livingSenders
-  living-same =
-      rw issued-seen
-      (passing-same (λ y. view u r .slotOf y .living) (λ y. view t r .slotOf y .living) 0 (view t r .issued)
-      (λ y g l. living-by u r y ∙ ap₂ (λ (i w : ℕ). if (ltb y i) (flag w) false) issued-did (living-did y) ∙ sym (living-by t r y)))
+  sum-did : (c : SlotSum) → ((l m : Lane) → queuedLane l ≡ queuedLane m → c .by-words l ≡ c .by-words m) → c .number (view u r) ≡ c .number (view t r)
+  sum-did c f = number-same c t r u r issued-did (λ y. f (laneAt u y) (laneAt t y) (did .left .lanes y))
 
   -- collecting leaves what a store in order has beside the rules' state
   pub stores-collected : Stores u r
@@ -79,8 +62,8 @@ module _ (t r : List ℕ) (o : Stores t r) (all : Bool) where
         linked = did .collects .linked;
         mark-words = did .collects .mark-words;
         windows = λ y h e w. window-fast y (o .windows y (rw issued-did at h) (sym (registered-did y) ∙ e) (rw (window-did y) at w));
-        lanes-counted = heads-did 13 refl refl refl ∙ o .lanes-counted ∙ sym registered-same;
-        living-counted = heads-did 14 refl refl refl ∙ o .living-counted ∙ sym living-same;
+        lanes-counted = heads-did 13 refl refl refl ∙ o .lanes-counted ∙ sym (sum-did lanes-sum (λ l m e. ap (λ (z : Lane). one (flag (z .registered))) e));
+        living-counted = heads-did 14 refl refl refl ∙ o .living-counted ∙ sym (sum-did living-sum (λ l m e. ap (λ (z : Lane). one (flag (z .living))) e));
       }
     where
       flags-did : (y : ℕ) → Flags (laneAt t y) → Flags (laneAt u y)

@@ -1,31 +1,39 @@
--- The counts of registered lanes and living senders, as one slot changes or is issued.
+-- Numbers that are sums over the issued slots, on the words and as the rules see them: the counts of registered lanes and of living senders.
 -- Assumes nothing.
 use mathlib.Core.Path.{_≡_, refl, sym, ap, _∙_}
 use mathlib.Core.Logic.{_≢_}
 use mathlib.Core.Bool.{Bool, true, false}
-use mathlib.Core.List.{_∷_}
-use Prim.Native.Nat.{ℕ, zero, suc, _+_, _≤_, _<_}
+use mathlib.Core.List.{List, [], _∷_}
+use Prim.Native.Nat.{ℕ, suc, _+_, _≤_, _<_}
+use native.Mathlib.Numerals.{add-one}
 use native.Mathlib.Omega.{arith}
 use lib.ListN.{length}
-use Rattle.model.specs.Lists.{if, keep, from}
-use Rattle.model.specs.State.{State, registeredLanes, livingSenders}
-use Rattle.demands.proofs.Counting.{equal, other, same?}
+use Rattle.model.specs.Lists.{if, keep, from, total}
+use Rattle.model.specs.State.{Slot, State, registeredLanes, livingSenders}
+use Rattle.demands.proofs.Totals.{total-more, total-some, total-same, total-but, sumOf}
+use Rattle.lane.specs.declared.lane.Lane.{Lane}
+use Rattle.lane.specs.Table.{laneAt}
+use Rattle.queues.specs.Header.{issued}
+use Rattle.store.specs.View.{flag, slotAt, view}
+use Rattle.store.proofs.ViewLaws.{slot-in}
 
 -- 1 of a test that holds
 abbrev pub one : Bool → ℕ
 one b = if b 1 0
 
--- how many of n numbers from a on pass a test
+-- ---- how many of n numbers from a on pass a test
+
 abbrev pub passing : (ℕ → Bool) → ℕ → ℕ → ℕ
 passing p a n = length (keep p (from a n))
 
-pub passing-first : (p : ℕ → Bool) (a n : ℕ) → passing p a (suc n) ≡ one (p a) + passing p (suc a) n
-unfolding keep from
-passing-first p a n = go (p a)
+passing-total : (p : ℕ → Bool) (l : List ℕ) → length (keep p l) ≡ total (λ x. one (p x)) l
+unfolding keep total
+passing-total p [] = refl
+passing-total p (x ∷ l) = go (p x) (passing-total p l)
   where
-    go : (b : Bool) → length (if b (a ∷ keep p (from (suc a) n)) (keep p (from (suc a) n))) ≡ one b + length (keep p (from (suc a) n))
-    go true = omega arith
-    go false = omega arith
+    go : (b : Bool) → length (keep p l) ≡ total (λ x. one (p x)) l → length (if b (x ∷ keep p l) (keep p l)) ≡ one b + total (λ x. one (p x)) l
+    go true e = omega arith
+    go false e = omega arith
 
 pub passing-none : (p : ℕ → Bool) (a : ℕ) → passing p a 0 ≡ 0
 unfolding keep from
@@ -33,79 +41,101 @@ passing-none p a = refl
 
 -- two tests that agree on the numbers
 pub passing-same : (p q : ℕ → Bool) (a n : ℕ) → ((y : ℕ) → a ≤ y → y < a + n → p y ≡ q y) → passing p a n ≡ passing q a n
-passing-same p q a zero h = passing-none p a ∙ sym (passing-none q a)
-passing-same p q a (suc n) h =
-    let f : one (p a) ≡ one (q a) = ap one (h a (omega arith) (omega arith)) in
-    omega (arith, passing-first p a n, passing-first q a n, f, passing-same p q (suc a) n (λ y g l. h y (omega arith) (omega arith)))
+passing-same p q a n h =
+    passing-total p (from a n) ∙ total-same (λ x. one (p x)) (λ x. one (q x)) a n (λ y g l. ap one (h y g l)) ∙ sym (passing-total q (from a n))
 
 -- two tests that agree but at x
 pub passing-but : (p q : ℕ → Bool) (x a n : ℕ) → a ≤ x → x < a + n → ((y : ℕ) → x ≢ y → p y ≡ q y) → passing p a n + one (q x) ≡ passing q a n + one (p x)
-passing-but p q x a zero g l h = absurd (omega arith)
-passing-but p q x a (suc n) g l h = elim (same? x a) [
-  | equal e b i ↦
-      let f : one (p x) ≡ one (p a) = ap (λ (y : ℕ). one (p y)) e in
-      let f′ : one (q x) ≡ one (q a) = ap (λ (y : ℕ). one (q y)) e in
-      omega (arith, passing-first p a n, passing-first q a n, f, f′, passing-same p q (suc a) n (λ y k m. h y (λ d. omega arith)))
-  | other d b i ↦
-      let f : one (p a) ≡ one (q a) = ap one (h a d) in
-      omega (arith, passing-first p a n, passing-first q a n, f, passing-but p q x (suc a) n (omega arith) (omega arith) h)
-]
+passing-but p q x a n g l h =
+    omega (arith, passing-total p (from a n), passing-total q (from a n), total-but (λ x. one (p x)) (λ x. one (q x)) x a n g l (λ y d. ap one (h y d)))
 
 -- one more number
 pub passing-more : (p : ℕ → Bool) (a n b : ℕ) → b ≡ a + n → passing p a (suc n) ≡ passing p a n + one (p b)
-passing-more p a zero b e =
-    let f : one (p a) ≡ one (p b) = let g : a ≡ b = omega arith in ap (λ (y : ℕ). one (p y)) g in
-    omega (arith, passing-first p a 0, passing-none p (suc a), passing-none p a, f)
-passing-more p a (suc n) b e =
-    omega (arith, passing-first p a (suc n), passing-first p a n, passing-more p (suc a) n b (omega arith))
+passing-more p a n b e = omega (arith, passing-total p (from a (suc n)), passing-total p (from a n), total-more (λ x. one (p x)) a n b e)
 
 -- a number that passes is counted
 pub passing-some : (p : ℕ → Bool) (x a n : ℕ) → a ≤ x → x < a + n → p x ≡ true → 0 < passing p a n
-passing-some p x a zero g l h = absurd (omega arith)
-passing-some p x a (suc n) g l h = elim (same? x a) [
-  | equal e b i ↦
-      let f : one (p a) ≡ 1 = ap (λ (y : ℕ). one (p y)) (sym e) ∙ ap one h in
-      omega (arith, passing-first p a n, f)
-  | other d b i ↦ omega (arith, passing-first p a n, passing-some p x (suc a) n (omega arith) (omega arith) h)
-]
+passing-some p x a n g l h =
+    let e : one (p x) ≡ 1 = ap one h in
+    omega (arith, e, passing-total p (from a n), total-some (λ x. one (p x)) x a n g l)
 
--- ---- the two counts
+-- ---- a number of the rules that is a sum over the issued slots
 
-module _ (s u : State) (e : u .issued ≡ s .issued) (x : ℕ) (h : x < s .issued) where
-  pub registered-but : ((y : ℕ) → x ≢ y → u .slotOf y .registered ≡ s .slotOf y .registered)
-      → registeredLanes u + one (s .slotOf x .registered) ≡ registeredLanes s + one (u .slotOf x .registered)
-  unfolding registeredLanes
-  registered-but f = rw e (passing-but (λ y. u .slotOf y .registered) (λ y. s .slotOf y .registered) x 0 (s .issued) (omega arith) (omega arith) f)
+pub record SlotSum : Type 0 where
+  pub number : State → ℕ
+  -- what a slot adds to it, as the rules see the slot and by its lane's words
+  pub by-rules : Slot → ℕ
+  pub by-words : Lane → ℕ
+  pub is-sum : (s : State) → number s ≡ sumOf by-rules s
+  pub agree : (t r : List ℕ) (x : ℕ) → by-rules (slotAt t r x) ≡ by-words (laneAt t x)
 
-  pub living-but : ((y : ℕ) → x ≢ y → u .slotOf y .living ≡ s .slotOf y .living)
-      → livingSenders u + one (s .slotOf x .living) ≡ livingSenders s + one (u .slotOf x .living)
-  unfolding livingSenders
-  living-but f = rw e (passing-but (λ y. u .slotOf y .living) (λ y. s .slotOf y .living) x 0 (s .issued) (omega arith) (omega arith) f)
-
--- one slot more is issued
-module _ (s u : State) (e : u .issued ≡ suc (s .issued)) where
-  pub registered-more : ((y : ℕ) → y < s .issued → u .slotOf y .registered ≡ s .slotOf y .registered)
-      → registeredLanes u ≡ registeredLanes s + one (u .slotOf (s .issued) .registered)
-  unfolding registeredLanes
-  registered-more f =
-      rw e
-      (passing-more (λ y. u .slotOf y .registered) 0 (s .issued) (s .issued) (omega arith)
-      ∙ ap (λ (k : ℕ). k + one (u .slotOf (s .issued) .registered))
-      (passing-same (λ y. u .slotOf y .registered) (λ y. s .slotOf y .registered) 0 (s .issued) (λ y g l. f y (omega arith))))
-
-  pub living-more : ((y : ℕ) → y < s .issued → u .slotOf y .living ≡ s .slotOf y .living)
-      → livingSenders u ≡ livingSenders s + one (u .slotOf (s .issued) .living)
-  unfolding livingSenders
-  living-more f =
-      rw e
-      (passing-more (λ y. u .slotOf y .living) 0 (s .issued) (s .issued) (omega arith)
-      ∙ ap (λ (k : ℕ). k + one (u .slotOf (s .issued) .living))
-      (passing-same (λ y. u .slotOf y .living) (λ y. s .slotOf y .living) 0 (s .issued) (λ y g l. f y (omega arith))))
-
-pub registered-some : (s : State) (x : ℕ) → x < s .issued → s .slotOf x .registered ≡ true → 0 < registeredLanes s
+pub registered-sum : (s : State) → registeredLanes s ≡ sumOf (λ m. one (m .registered)) s
 unfolding registeredLanes
-registered-some s x h e = passing-some (λ y. s .slotOf y .registered) x 0 (s .issued) (omega arith) (omega arith) e
+registered-sum s = passing-total (λ x. s .slotOf x .registered) (from 0 (s .issued))
 
-pub living-some : (s : State) (x : ℕ) → x < s .issued → s .slotOf x .living ≡ true → 0 < livingSenders s
+pub registered-agree : (t r : List ℕ) (x : ℕ) → one (slotAt t r x .registered) ≡ one (flag (laneAt t x .registered))
+unfolding slotAt
+registered-agree t r x = refl
+
+pub living-senders-sum : (s : State) → livingSenders s ≡ sumOf (λ m. one (m .living)) s
 unfolding livingSenders
-living-some s x h e = passing-some (λ y. s .slotOf y .living) x 0 (s .issued) (omega arith) (omega arith) e
+living-senders-sum s = passing-total (λ x. s .slotOf x .living) (from 0 (s .issued))
+
+pub living-agree : (t r : List ℕ) (x : ℕ) → one (slotAt t r x .living) ≡ one (flag (laneAt t x .living))
+unfolding slotAt
+living-agree t r x = refl
+
+abbrev pub lanes-sum : SlotSum
+lanes-sum =
+    record {
+      number = registeredLanes;
+      by-rules = λ m. one (m .registered);
+      by-words = λ l. one (flag (l .registered));
+      is-sum = registered-sum;
+      agree = registered-agree;
+    }
+
+abbrev pub living-sum : SlotSum
+living-sum =
+    record {
+      number = livingSenders;
+      by-rules = λ m. one (m .living);
+      by-words = λ l. one (flag (l .living));
+      is-sum = living-senders-sum;
+      agree = living-agree;
+    }
+
+module _ (c : SlotSum) where
+  -- by the words
+  abbrev part : List ℕ → ℕ → ℕ
+  part t x = c .by-words (laneAt t x)
+
+  number-is : (t r : List ℕ) → c .number (view t r) ≡ total (part t) (from 0 (issued t))
+  unfolding view
+  number-is t r =
+      c .is-sum (view t r)
+      ∙ total-same (λ x. c .by-rules (view t r .slotOf x)) (part t) 0 (issued t) (λ y g l. ap (c .by-rules) (slot-in t r y (omega arith)) ∙ c .agree t r y)
+
+  -- a slot's part is at most the number
+  pub number-some : (t r : List ℕ) (x : ℕ) → x < issued t → c .by-words (laneAt t x) ≤ c .number (view t r)
+  number-some t r x h = omega (arith, number-is t r, total-some (part t) x 0 (issued t) (omega arith) (omega arith))
+
+  module _ (t r u q : List ℕ) where
+    -- every slot has the part that it had
+    pub number-same : issued u ≡ issued t → ((y : ℕ) → c .by-words (laneAt u y) ≡ c .by-words (laneAt t y)) → c .number (view u q) ≡ c .number (view t r)
+    number-same i e = number-is u q ∙ rw i (total-same (part u) (part t) 0 (issued t) (λ y g l. e y)) ∙ sym (number-is t r)
+
+    -- lane x changes
+    pub number-but : issued u ≡ issued t → (x : ℕ) → x < issued t → ((y : ℕ) → x ≢ y → laneAt u y ≡ laneAt t y)
+        → c .number (view u q) + c .by-words (laneAt t x) ≡ c .number (view t r) + c .by-words (laneAt u x)
+    number-but i x h e =
+        let b = total-but (part u) (part t) x 0 (issued t) (omega arith) (omega arith) (λ y d. ap (c .by-words) (e y d)) in
+        omega (arith, number-is t r, rw i at (number-is u q), b)
+
+    -- one slot more is issued
+    pub number-more : issued u ≡ issued t + 1 → ((y : ℕ) → y < issued t → laneAt u y ≡ laneAt t y)
+        → c .number (view u q) ≡ c .number (view t r) + c .by-words (laneAt u (issued t))
+    number-more i e =
+        let b = total-more (part u) 0 (issued t) (issued t) (omega arith) in
+        let s = total-same (part u) (part t) 0 (issued t) (λ y g l. ap (c .by-words) (e y (omega arith))) in
+        omega (arith, number-is t r, rw (i ∙ add-one (issued t)) at (number-is u q), b, s)

@@ -1,5 +1,6 @@
 pub mod ViewLaws
 pub mod RefusalLaws
+pub mod HeaderWords
 pub mod StepLaws
 pub mod CountLaws
 pub mod StoreLaws

@@ -20,6 +20,7 @@ use Rattle.queues.proofs.QueueLaws.{shaped-putLane}
 use Rattle.store.specs.View.{flag, slotAt, view}
 use Rattle.store.specs.Registry.{retired, freeUnlessLast, retireLane}
 use Rattle.store.proofs.ViewLaws.{slot-in, view-put-flags, view-lane-count, view-freed}
+use Rattle.store.proofs.HeaderWords.{withWord}
 use Rattle.store.proofs.StepLaws.{Step, step-put-lane, step-lane-count, step-freed}
 use Rattle.store.proofs.RetireFrames.{shaped-lowered, room-lowered}
 
@@ -70,17 +71,17 @@ pub view-retire-lane : (t r : List ℕ) → Shaped t → (x : ℕ) → x < issue
 view-retire-lane t r s x h room = view-retire-as t r s x h (laneAt t x) refl refl refl refl refl refl refl room
 
 -- in a run of stores
-pub step-retire-lane : {t u : List ℕ} {x : ℕ} {l : Lane} {w : List ℕ} {f b n m : ℕ} → Step t u x l w f b n m → (o : Lane) → o .key .slot ≡ x → x < issued t
-    → freeCount u < slots u → Step t (retireLane u o) x (retired o) w f b (laneCount u - 1) m
+pub step-retire-lane : {t u : List ℕ} {x : ℕ} {l : Lane} {w : List ℕ} {g : ℕ → ℕ} → Step t u x l w g → (o : Lane) → o .key .slot ≡ x → x < issued t
+    → freeCount u < slots u → Step t (retireLane u o) x (retired o) w (withWord laneCount (laneCount u - 1) g)
 unfolding retireLane freeUnlessLast
-step-retire-lane {t = t} {u = u} {x = x} {l = l} {w = w} {f = f} {b = b} {n = n} {m = m} k o e h room = go (eqb (o .key .generation) 18446744073709551615)
+step-retire-lane {t = t} {u = u} {x = x} {l = l} {w = w} {g = g} k o e h room = go (eqb (o .key .generation) 18446744073709551615)
   where
     low : List ℕ
     low = setHead (putLane u (retired o)) 13 (laneCount u - 1)
 
-    step : Step t low x (retired o) w f b (laneCount u - 1) m
+    step : Step t low x (retired o) w (withWord laneCount (laneCount u - 1) g)
     step = step-lane-count (step-put-lane k (retired o) e h) (laneCount u - 1)
 
-    go : (c : Bool) → Step t (cond c low (free low (o .key .slot))) x (retired o) w f b (laneCount u - 1) m
+    go : (c : Bool) → Step t (cond c low (free low (o .key .slot))) x (retired o) w (withWord laneCount (laneCount u - 1) g)
     go true = step
     go false = step-freed step (o .key .slot) (room-lowered u (retired o) (laneCount u - 1) room)

@@ -49,11 +49,11 @@ module _ (u q : List ℕ) (s : Shaped u) (l : Lane) (x : ℕ) (at : l .key .slot
       ∙ put-put x (markedIf b a) a v
 
 -- in a run of stores
-pub step-marked-if-idle : {t u : List ℕ} {x : ℕ} {l : Lane} {w : List ℕ} {f b n m : ℕ} → Step t u x l w f b n m → (o : Lane) → o .key .slot < issued t
-    → Step t (markIfIdle u o) x l w f b n m
+pub step-marked-if-idle : {t u : List ℕ} {x : ℕ} {l : Lane} {w : List ℕ} {g : ℕ → ℕ} → Step t u x l w g → (o : Lane) → o .key .slot < issued t
+    → Step t (markIfIdle u o) x l w g
 unfolding markIfIdle
-step-marked-if-idle {t = t} {u = u} {x = x} {l = l} {w = w} {f = f} {b = b} {n = n} {m = m} k o h = go (eqb (o .pending) 0)
+step-marked-if-idle {t = t} {u = u} {x = x} {l = l} {w = w} {g = g} k o h = go (eqb (o .pending) 0)
   where
-    go : (c : Bool) → Step t (cond c (mark u (o .key .slot)) u) x l w f b n m
+    go : (c : Bool) → Step t (cond c (mark u (o .key .slot)) u) x l w g
     go true = step-marked k (o .key .slot) h
     go false = k

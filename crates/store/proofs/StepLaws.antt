@@ -1,29 +1,32 @@
 -- A run of stores that changes one lane: what it leaves of every other lane, of the header, of the queue and of the marks.
 -- Assumes nothing.
-use mathlib.Core.Path.{_≡_, refl, sym, ap, _∙_}
+use mathlib.Core.Path.{_≡_, refl, sym, ap, _∙_, subst}
 use mathlib.Core.Logic.{_≢_}
-use mathlib.Core.Bool.{true, false}
+use mathlib.Core.Bool.{Bool, true, false}
 use mathlib.Core.List.{List, [], _∷_, _++_}
 use Prim.Native.Nat.{ℕ, suc, _+_, _-_, _/_, _%_, _^_, _≤_, _<_}
 use native.Mathlib.Nat.{pow-suc}
 use native.Mathlib.Omega.{arith}
+use borrow.Author.Tests.{eqb-true}
 use lib.Dec.{eqb, ltb}
 use lib.ListN.{length}
 use lib.Bits.{or-lt}
 use lib.Pow.{pow-mono, pow-pos}
 use Rattle.model.specs.Lists as rules
+use Rattle.model.specs.Lists.{if, either}
 use Rattle.demands.proofs.Counting.{equal, other, same?}
 use Rattle.lane.specs.declared.lane.Lane.{Lane}
-use Rattle.lane.specs.Table.{HasRow, headerWords, setHead, laneAt, putLane}
-use Rattle.lane.proofs.TableLaws.{frames, lane-own, other-lane-kept, has-row}
-use Rattle.queues.specs.Header.{Shaped, issued, slots, budget, alive, capacity, firstCursor, fastSlot, laneCount, livingCount, freeCount, queueCount}
+use Rattle.lane.specs.Table.{HasRow, headerWords, head, setHead, laneAt, putLane}
+use Rattle.lane.proofs.TableLaws.{frames, head-putLane, lane-own, other-lane-kept, head-stored, other-head-kept, lane-setHead, has-row}
+use Rattle.queues.specs.Header.{Shaped, issued, slots, budget, alive, capacity, firstCursor, fastSlot, laneCount, livingCount, freeCount, queueFront, queueCount, setBudget, setFastSlot, setLaneCount, setLivingCount}
 use Rattle.queues.specs.Queue.{queueOf, pushBack, popFront, rotateLeft, remove}
 use Rattle.queues.specs.Registry.{free, reissue}
 use Rattle.ready.specs.Ready.{pageWord, groupWord, Linked, mark}
-use Rattle.queues.proofs.QueueLaws.{queue-frames, header-in, length-queue, queue-pushed-back, queue-popped-front, queue-rotated, queue-removed, shaped-pushed-back, shaped-popped-front, shaped-rotated, shaped-removed, shaped-putLane}
-use Rattle.queues.proofs.RegistryLaws.{registry-frames, shaped-freed, shaped-reissued}
+use Rattle.queues.proofs.QueueLaws.{queue-frames, head-pushed-back, head-popped-front, head-rotated, head-removed, header-in, length-queue, queue-pushed-back, queue-popped-front, queue-rotated, queue-removed, shaped-pushed-back, shaped-popped-front, shaped-rotated, shaped-removed, shaped-putLane}
+use Rattle.queues.proofs.RegistryLaws.{registry-frames, head-freed, head-reissued, shaped-freed, shaped-reissued}
 use Rattle.ready.proofs.MarkLaws.{marked-case, head-marked, lane-marked, queue-marked, page-marked, other-page-marked, linked-marked}
 use Rattle.store.specs.Order.{MarkWords, Stores}
+use Rattle.store.proofs.HeaderWords.{placeOf, Beside, beside, apart, withWord}
 use Rattle.store.proofs.ViewLaws.{row-in, without-alike}
 
 -- marks stay linked where page words, group words and the number of issued slots stay
@@ -71,213 +74,252 @@ mark-words-marked t x s h k =
           (λ z. simp frames (k .groups-fit g (rw same at l)));
     }
 
--- From t to u lane x became l and no other lane changed; the queue is now w, `fast_slot` f, the budget b, the counts of lanes and living senders n and m.
-pub record Step (t u : List ℕ) (x : ℕ) (l : Lane) (w : List ℕ) (f b n m : ℕ) : Type 0 where
+-- the header words that the queue and the free list are read by, and the others that such a run may change
+abbrev pub listed : ℕ → Bool
+listed j = either (eqb (placeOf queueFront) j) (either (eqb (placeOf queueCount) j) (eqb (placeOf freeCount) j))
+
+abbrev pub moved : ℕ → Bool
+moved j = either (eqb (placeOf fastSlot) j) (either (eqb (placeOf budget) j) (either (eqb (placeOf laneCount) j) (eqb (placeOf livingCount) j)))
+
+-- From t to u lane x became l and no other lane changed; the queue is now w, and of the other header words j is now h j.
+pub record Step (t u : List ℕ) (x : ℕ) (l : Lane) (w : List ℕ) (h : ℕ → ℕ) : Type 0 where
   pub shaped : Shaped u
   pub linked : Linked u
   pub mark-words : MarkWords t → MarkWords u
-  pub same-issued : issued u ≡ issued t
-  pub same-slots : slots u ≡ slots t
-  pub same-capacity : capacity u ≡ capacity t
-  pub same-alive : alive u ≡ alive t
-  pub same-cursor : firstCursor u ≡ firstCursor t
   pub own : laneAt u x ≡ l
   pub others : (y : ℕ) → x ≢ y → laneAt u y ≡ laneAt t y
   pub queue : queueOf u ≡ w
-  pub fast : fastSlot u ≡ f
-  pub poll : budget u ≡ b
-  pub lanes : laneCount u ≡ n
-  pub living : livingCount u ≡ m
+  pub heads : (j : ℕ) → Beside listed j → head u j ≡ h j
+  pub kept : (j : ℕ) → Beside moved j → h j ≡ head t j
 
 -- where a run starts: of any table with its shape and its marks linked, and so of a store in order
-pub step-from : (t : List ℕ) → Shaped t → Linked t → (x : ℕ) → Step t t x (laneAt t x) (queueOf t) (fastSlot t) (budget t) (laneCount t) (livingCount t)
+pub step-from : (t : List ℕ) → Shaped t → Linked t → (x : ℕ) → Step t t x (laneAt t x) (queueOf t) (head t)
 step-from t s k x =
     record {
       shaped = s;
       linked = k;
       mark-words = λ m. m;
-      same-issued = refl;
-      same-slots = refl;
-      same-capacity = refl;
-      same-alive = refl;
-      same-cursor = refl;
       own = refl;
       others = λ y n. refl;
       queue = refl;
-      fast = refl;
-      poll = refl;
-      lanes = refl;
-      living = refl;
+      heads = λ j i. refl;
+      kept = λ j i. refl;
     }
 
-pub step-start : (t r : List ℕ) → Stores t r → (x : ℕ) → Step t t x (laneAt t x) (queueOf t) (fastSlot t) (budget t) (laneCount t) (livingCount t)
+pub step-start : (t r : List ℕ) → Stores t r → (x : ℕ) → Step t t x (laneAt t x) (queueOf t) (head t)
 step-start t r o x = step-from t (o .shaped) (o .linked) x
 
--- the header words that no such run changes
-abbrev Sizes : Type 0
-Sizes = ℕ × ℕ × ℕ × ℕ × ℕ
-
-abbrev sizesOf : List ℕ → Sizes
-sizesOf t = (issued t, slots t, capacity t, alive t, firstCursor t)
-
--- A store that changes no lane, no mark and none of those words.
+-- A store that changes no lane, no mark and of the header only the words that the queue and the free list are read by.
 record Same (u v : List ℕ) : Type 0 where
-  sizes : sizesOf v ≡ sizesOf u
+  heads : (j : ℕ) → Beside listed j → head v j ≡ head u j
   lanes : (y : ℕ) → laneAt v y ≡ laneAt u y
   pages : (p : ℕ) → pageWord v p ≡ pageWord u p
   groups : (g : ℕ) → groupWord v g ≡ groupWord u g
 
-same-head : (u : List ℕ) (j v : ℕ) → ltb j headerWords ≡ true → eqb j 0 ≡ false → eqb j 4 ≡ false → eqb j 7 ≡ false → eqb j 8 ≡ false → eqb j 10 ≡ false → Same u (setHead u j v)
-same-head u j v p a b c d e =
-    record {
-      sizes = simp (frames, a, b, c, d, e);
-      lanes = λ y. simp (frames, p);
-      pages = λ y. simp (frames, p);
-      groups = λ y. simp (frames, p);
-    }
+module _ {t u : List ℕ} {x : ℕ} {l : Lane} {w : List ℕ} {h : ℕ → ℕ} (k : Step t u x l w h) where
+  -- ---- the header
 
-module _ {t u : List ℕ} {x : ℕ} {l : Lane} {w : List ℕ} {f b n m : ℕ} (k : Step t u x l w f b n m) where
-  step-same : {v w′ : List ℕ} {f′ b′ n′ m′ : ℕ} → Same u v → Shaped v → queueOf v ≡ w′ → fastSlot v ≡ f′ → budget v ≡ b′ → laneCount v ≡ n′ → livingCount v ≡ m′
-      → Step t v x l w′ f′ b′ n′ m′
-  step-same {v = v} same s q f′ b′ n′ m′ =
-      let e : issued v ≡ issued u = ap (λ (z : Sizes). z .0) (same .sizes) in
+  pub issued-kept : issued u ≡ issued t
+  issued-kept = k .heads (placeOf issued) (beside refl refl) ∙ k .kept (placeOf issued) (beside refl refl)
+
+  pub slots-kept : slots u ≡ slots t
+  slots-kept = k .heads (placeOf slots) (beside refl refl) ∙ k .kept (placeOf slots) (beside refl refl)
+
+  pub capacity-kept : capacity u ≡ capacity t
+  capacity-kept = k .heads (placeOf capacity) (beside refl refl) ∙ k .kept (placeOf capacity) (beside refl refl)
+
+  pub alive-kept : alive u ≡ alive t
+  alive-kept = k .heads (placeOf alive) (beside refl refl) ∙ k .kept (placeOf alive) (beside refl refl)
+
+  pub cursor-kept : firstCursor u ≡ firstCursor t
+  cursor-kept = k .heads (placeOf firstCursor) (beside refl refl) ∙ k .kept (placeOf firstCursor) (beside refl refl)
+
+  pub fast-now : fastSlot u ≡ h (placeOf fastSlot)
+  fast-now = k .heads (placeOf fastSlot) (beside refl refl)
+
+  pub budget-now : budget u ≡ h (placeOf budget)
+  budget-now = k .heads (placeOf budget) (beside refl refl)
+
+  pub lanes-now : laneCount u ≡ h (placeOf laneCount)
+  lanes-now = k .heads (placeOf laneCount) (beside refl refl)
+
+  pub living-now : livingCount u ≡ h (placeOf livingCount)
+  living-now = k .heads (placeOf livingCount) (beside refl refl)
+
+  -- ---- one store more
+
+  step-same : {v w′ : List ℕ} → Same u v → Shaped v → queueOf v ≡ w′ → Step t v x l w′ h
+  step-same {v = v} same s q =
+      let e : issued v ≡ issued u = same .heads (placeOf issued) (beside refl refl) in
       record {
         shaped = s;
         linked = linked-by u v e (same .pages) (same .groups) (k .linked);
         mark-words = λ q. mark-words-by u v e (same .pages) (same .groups) (k .mark-words q);
-        same-issued = e ∙ k .same-issued;
-        same-slots = ap (λ (z : Sizes). z .1) (same .sizes) ∙ k .same-slots;
-        same-capacity = ap (λ (z : Sizes). z .2) (same .sizes) ∙ k .same-capacity;
-        same-alive = ap (λ (z : Sizes). z .3) (same .sizes) ∙ k .same-alive;
-        same-cursor = ap (λ (z : Sizes). z .4) (same .sizes) ∙ k .same-cursor;
         own = same .lanes x ∙ k .own;
         others = λ y d. same .lanes y ∙ k .others y d;
         queue = q;
-        fast = f′;
-        poll = b′;
-        lanes = n′;
-        living = m′;
+        heads = λ j i. same .heads j i ∙ k .heads j i;
+        kept = k .kept;
       }
 
   -- lane x stored
-  pub step-put-lane : (o : Lane) → o .key .slot ≡ x → x < issued t → Step t (putLane u o) x o w f b n m
-  step-put-lane o e h =
+  pub step-put-lane : (o : Lane) → o .key .slot ≡ x → x < issued t → Step t (putLane u o) x o w h
+  step-put-lane o e a =
       record {
         shaped = shaped-putLane u (k .shaped) o;
         linked = linked-by u (putLane u o) (simp frames) (λ p. simp frames) (λ g. simp frames) (k .linked);
         mark-words = λ q. mark-words-by u (putLane u o) (simp frames) (λ p. simp frames) (λ g. simp frames) (k .mark-words q);
-        same-issued = simp frames (k .same-issued);
-        same-slots = simp frames (k .same-slots);
-        same-capacity = simp frames (k .same-capacity);
-        same-alive = simp frames (k .same-alive);
-        same-cursor = simp frames (k .same-cursor);
-        own = lane-own u o x e (has-row u x (row-in u (k .shaped) x (rw (k .same-issued) h)));
+        own = lane-own u o x e (has-row u x (row-in u (k .shaped) x (rw issued-kept a)));
         others = λ y d. other-lane-kept u o y (λ p. d (sym (p ∙ e))) ∙ k .others y d;
         queue = simp queue-frames (k .queue);
-        fast = simp frames (k .fast);
-        poll = simp frames (k .poll);
-        lanes = simp frames (k .lanes);
-        living = simp frames (k .living);
+        heads = λ j i. head-putLane u o j (i .in-header) ∙ k .heads j i;
+        kept = k .kept;
       }
 
   -- a slot marked
-  pub step-marked : (z : ℕ) → z < issued t → Step t (mark u z) x l w f b n m
-  step-marked z h =
-      let hd = head-marked u z in
+  pub step-marked : (z : ℕ) → z < issued t → Step t (mark u z) x l w h
+  step-marked z a =
       record {
         shaped = marked-case u z Shaped (λ e. simp frames (k .shaped)) (λ e. simp frames (k .shaped));
-        linked = linked-marked u z (k .shaped) (rw (k .same-issued) h) (k .linked);
-        mark-words = λ q. mark-words-marked u z (k .shaped) (rw (k .same-issued) h) (k .mark-words q);
-        same-issued = hd 0 refl ∙ k .same-issued;
-        same-slots = hd 4 refl ∙ k .same-slots;
-        same-capacity = hd 8 refl ∙ k .same-capacity;
-        same-alive = hd 7 refl ∙ k .same-alive;
-        same-cursor = hd 10 refl ∙ k .same-cursor;
+        linked = linked-marked u z (k .shaped) (rw issued-kept a) (k .linked);
+        mark-words = λ q. mark-words-marked u z (k .shaped) (rw issued-kept a) (k .mark-words q);
         own = lane-marked u z x ∙ k .own;
         others = λ y d. lane-marked u z y ∙ k .others y d;
         queue = queue-marked u z ∙ k .queue;
-        fast = hd 12 refl ∙ k .fast;
-        poll = hd 5 refl ∙ k .poll;
-        lanes = hd 13 refl ∙ k .lanes;
-        living = hd 14 refl ∙ k .living;
+        heads = λ j i. head-marked u z j (i .in-header) ∙ k .heads j i;
+        kept = k .kept;
       }
 
   -- a slot at the back of the queue, where that has room
-  pub step-pushed-back : (z : ℕ) → length w < slots t → Step t (pushBack u z) x l (w ++ (z ∷ [])) f b n m
-  step-pushed-back z h =
-      let room : queueCount u < slots u = omega (arith, length-queue u, ap length (k .queue), k .same-slots) in
+  pub step-pushed-back : (z : ℕ) → length w < slots t → Step t (pushBack u z) x l (w ++ (z ∷ [])) h
+  step-pushed-back z a =
+      let room : queueCount u < slots u = omega (arith, length-queue u, ap length (k .queue), slots-kept) in
       step-same
-      (record { sizes = simp queue-frames; lanes = λ y. simp queue-frames; pages = λ y. simp queue-frames; groups = λ y. simp queue-frames })
-      (shaped-pushed-back u (k .shaped) z room)
-      (queue-pushed-back u (k .shaped) z room ∙ ap (λ (q : List ℕ). q ++ (z ∷ [])) (k .queue))
-      (simp queue-frames (k .fast)) (simp queue-frames (k .poll)) (simp queue-frames (k .lanes)) (simp queue-frames (k .living))
+      (record {
+        heads = λ j i. head-pushed-back u z j (i .in-header) (apart i (placeOf queueCount) refl);
+        lanes = λ y. simp queue-frames;
+        pages = λ y. simp queue-frames;
+        groups = λ y. simp queue-frames;
+      })
+      (shaped-pushed-back u (k .shaped) z room) (queue-pushed-back u (k .shaped) z room ∙ ap (λ (q : List ℕ). q ++ (z ∷ [])) (k .queue))
 
   -- a slot out of the queue
-  pub step-removed : (z : ℕ) → Step t (remove u z) x l (rules.without z w) f b n m
+  pub step-removed : (z : ℕ) → Step t (remove u z) x l (rules.without z w) h
   step-removed z =
       step-same
-      (record { sizes = simp queue-frames; lanes = λ y. simp queue-frames; pages = λ y. simp queue-frames; groups = λ y. simp queue-frames })
-      (shaped-removed u (k .shaped) z)
-      (queue-removed u (k .shaped) z ∙ without-alike z (queueOf u) ∙ ap (rules.without z) (k .queue))
-      (simp queue-frames (k .fast)) (simp queue-frames (k .poll)) (simp queue-frames (k .lanes)) (simp queue-frames (k .living))
+      (record {
+        heads = λ j i. head-removed u z j (i .in-header) (apart i (placeOf queueCount) refl);
+        lanes = λ y. simp queue-frames;
+        pages = λ y. simp queue-frames;
+        groups = λ y. simp queue-frames;
+      })
+      (shaped-removed u (k .shaped) z) (queue-removed u (k .shaped) z ∙ without-alike z (queueOf u) ∙ ap (rules.without z) (k .queue))
 
   module _ (z : ℕ) (q : List ℕ) (e : w ≡ z ∷ q) where
     -- the front gone
-    pub step-popped-front : Step t (popFront u) x l q f b n m
+    pub step-popped-front : Step t (popFront u) x l q h
     step-popped-front =
         step-same
-        (record { sizes = simp queue-frames; lanes = λ y. simp queue-frames; pages = λ y. simp queue-frames; groups = λ y. simp queue-frames })
-        (shaped-popped-front u (k .shaped))
-        (queue-popped-front u (k .shaped) z q (k .queue ∙ e))
-        (simp queue-frames (k .fast)) (simp queue-frames (k .poll)) (simp queue-frames (k .lanes)) (simp queue-frames (k .living))
+        (record {
+          heads = λ j i. head-popped-front u j (apart i (placeOf queueFront) refl) (apart i (placeOf queueCount) refl);
+          lanes = λ y. simp queue-frames;
+          pages = λ y. simp queue-frames;
+          groups = λ y. simp queue-frames;
+        })
+        (shaped-popped-front u (k .shaped)) (queue-popped-front u (k .shaped) z q (k .queue ∙ e))
 
     -- the front at the back
-    pub step-rotated : Step t (rotateLeft u) x l (q ++ (z ∷ [])) f b n m
+    pub step-rotated : Step t (rotateLeft u) x l (q ++ (z ∷ [])) h
     step-rotated =
         step-same
-        (record { sizes = simp queue-frames; lanes = λ y. simp queue-frames; pages = λ y. simp queue-frames; groups = λ y. simp queue-frames })
-        (shaped-rotated u (k .shaped))
-        (queue-rotated u (k .shaped) z q (k .queue ∙ e))
-        (simp queue-frames (k .fast)) (simp queue-frames (k .poll)) (simp queue-frames (k .lanes)) (simp queue-frames (k .living))
+        (record {
+          heads = λ j i. head-rotated u j (i .in-header) (apart i (placeOf queueFront) refl);
+          lanes = λ y. simp queue-frames;
+          pages = λ y. simp queue-frames;
+          groups = λ y. simp queue-frames;
+        })
+        (shaped-rotated u (k .shaped)) (queue-rotated u (k .shaped) z q (k .queue ∙ e))
 
   -- a slot free again, where the free list has room
-  pub step-freed : (z : ℕ) → freeCount u < slots u → Step t (free u z) x l w f b n m
+  pub step-freed : (z : ℕ) → freeCount u < slots u → Step t (free u z) x l w h
   step-freed z room =
       step-same
-      (record { sizes = simp registry-frames; lanes = λ y. simp registry-frames; pages = λ y. simp registry-frames; groups = λ y. simp registry-frames })
-      (shaped-freed u (k .shaped) z room)
-      (simp registry-frames (k .queue))
-      (simp registry-frames (k .fast)) (simp registry-frames (k .poll)) (simp registry-frames (k .lanes)) (simp registry-frames (k .living))
+      (record {
+        heads = λ j i. head-freed u z j (i .in-header) (apart i (placeOf freeCount) refl);
+        lanes = λ y. simp registry-frames;
+        pages = λ y. simp registry-frames;
+        groups = λ y. simp registry-frames;
+      })
+      (shaped-freed u (k .shaped) z room) (simp registry-frames (k .queue))
 
   -- the slot freed last issued again
-  pub step-reissued : Step t (reissue u) x l w f b n m
+  pub step-reissued : Step t (reissue u) x l w h
   step-reissued =
       step-same
-      (record { sizes = simp registry-frames; lanes = λ y. simp registry-frames; pages = λ y. simp registry-frames; groups = λ y. simp registry-frames })
-      (shaped-reissued u (k .shaped))
-      (simp registry-frames (k .queue))
-      (simp registry-frames (k .fast)) (simp registry-frames (k .poll)) (simp registry-frames (k .lanes)) (simp registry-frames (k .living))
+      (record {
+        heads = λ j i. head-reissued u j (apart i (placeOf freeCount) refl);
+        lanes = λ y. simp registry-frames;
+        pages = λ y. simp registry-frames;
+        groups = λ y. simp registry-frames;
+      })
+      (shaped-reissued u (k .shaped)) (simp registry-frames (k .queue))
+
+  -- a header word stored that such a run may change, or one that has the value already
+  module _ (word : List ℕ → ℕ) (v : ℕ) (may : moved (placeOf word) ≡ true) where
+    kept-word : (j : ℕ) → Beside moved j → withWord word v h j ≡ head t j
+    kept-word j i = rw (apart i (placeOf word) may) (k .kept j i)
+
+    pub step-word : ltb (placeOf word) headerWords ≡ true → Shaped (setHead u (placeOf word) v) → queueOf (setHead u (placeOf word) v) ≡ w
+        → Step t (setHead u (placeOf word) v) x l w (withWord word v h)
+    step-word inside s q =
+        let n : List ℕ = setHead u (placeOf word) v in
+        let pages : (p : ℕ) → pageWord n p ≡ pageWord u p = λ p. simp (frames, inside) in
+        let groups : (g : ℕ) → groupWord n g ≡ groupWord u g = λ g. simp (frames, inside) in
+        let e : issued n ≡ issued u = other-head-kept u (placeOf word) v (placeOf issued) (apart {set = moved} (beside refl refl) (placeOf word) may) in
+        record {
+          shaped = s;
+          linked = linked-by u n e pages groups (k .linked);
+          mark-words = λ q. mark-words-by u n e pages groups (k .mark-words q);
+          own = lane-setHead u (placeOf word) v x inside ∙ k .own;
+          others = λ y d. lane-setHead u (placeOf word) v y inside ∙ k .others y d;
+          queue = q;
+          heads = λ j i. stored j i (eqb (placeOf word) j) refl;
+          kept = kept-word;
+        }
+      where
+        stored : (j : ℕ) → Beside listed j → (b : Bool) → eqb (placeOf word) j ≡ b → head (setHead u (placeOf word) v) j ≡ if b v (h j)
+        stored j i true e = subst (λ (z : ℕ). head (setHead u (placeOf word) v) z ≡ v) (eqb-true (placeOf word) j e) (head-stored u (placeOf word) v (header-in u (k .shaped)) inside)
+        stored j i false e = other-head-kept u (placeOf word) v j e ∙ k .heads j i
+
+    pub step-has : h (placeOf word) ≡ v → Step t u x l w (withWord word v h)
+    step-has e =
+        record {
+          shaped = k .shaped;
+          linked = k .linked;
+          mark-words = k .mark-words;
+          own = k .own;
+          others = k .others;
+          queue = k .queue;
+          heads = λ j i. k .heads j i ∙ has j (eqb (placeOf word) j) refl;
+          kept = kept-word;
+        }
+      where
+        has : (j : ℕ) (b : Bool) → eqb (placeOf word) j ≡ b → h j ≡ if b v (h j)
+        has j true i = ap h (sym (eqb-true (placeOf word) j i)) ∙ e
+        has j false i = refl
 
   -- the budget
-  pub step-budget : (v : ℕ) → Step t (setHead u 5 v) x l w f v n m
-  step-budget v =
-      step-same (same-head u 5 v refl refl refl refl refl refl) (simp frames (k .shaped)) (simp queue-frames (k .queue))
-      (simp frames (k .fast)) (simp (frames, header-in u (k .shaped))) (simp frames (k .lanes)) (simp frames (k .living))
+  pub step-budget : (v : ℕ) → Step t (setBudget u v) x l w (withWord budget v h)
+  step-budget v = step-word budget v refl refl (simp frames (k .shaped)) (simp queue-frames (k .queue))
 
   -- `fast_slot`
-  pub step-fast-slot : (v : ℕ) → Step t (setHead u 12 v) x l w v b n m
-  step-fast-slot v =
-      step-same (same-head u 12 v refl refl refl refl refl refl) (simp frames (k .shaped)) (simp queue-frames (k .queue))
-      (simp (frames, header-in u (k .shaped))) (simp frames (k .poll)) (simp frames (k .lanes)) (simp frames (k .living))
+  pub step-fast-slot : (v : ℕ) → Step t (setFastSlot u v) x l w (withWord fastSlot v h)
+  step-fast-slot v = step-word fastSlot v refl refl (simp frames (k .shaped)) (simp queue-frames (k .queue))
 
   -- the count of lanes
-  pub step-lane-count : (v : ℕ) → Step t (setHead u 13 v) x l w f b v m
-  step-lane-count v =
-      step-same (same-head u 13 v refl refl refl refl refl refl) (simp frames (k .shaped)) (simp queue-frames (k .queue))
-      (simp frames (k .fast)) (simp frames (k .poll)) (simp (frames, header-in u (k .shaped))) (simp frames (k .living))
+  pub step-lane-count : (v : ℕ) → Step t (setLaneCount u v) x l w (withWord laneCount v h)
+  step-lane-count v = step-word laneCount v refl refl (simp frames (k .shaped)) (simp queue-frames (k .queue))
 
   -- the count of living senders
-  pub step-living-count : (v : ℕ) → Step t (setHead u 14 v) x l w f b n v
-  step-living-count v =
-      step-same (same-head u 14 v refl refl refl refl refl refl) (simp frames (k .shaped)) (simp queue-frames (k .queue))
-      (simp frames (k .fast)) (simp frames (k .poll)) (simp frames (k .lanes)) (simp (frames, header-in u (k .shaped)))
+  pub step-living-count : (v : ℕ) → Step t (setLivingCount u v) x l w (withWord livingCount v h)
+  step-living-count v = step-word livingCount v refl refl (simp frames (k .shaped)) (simp queue-frames (k .queue))

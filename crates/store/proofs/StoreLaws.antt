@@ -40,8 +40,9 @@ use Rattle.store.specs.View.{flag, slotAt, view}
 use Rattle.store.specs.Order.{Flags, Fast, Stores, StoreInOrder}
 use Rattle.store.specs.Words.{Words}
 use Rattle.store.proofs.ViewLaws.{slot-in, row-in}
-use Rattle.store.proofs.CountLaws.{one, registered-but, living-but, registered-some, living-some}
-use Rattle.store.proofs.StepLaws.{Step}
+use Rattle.store.proofs.HeaderWords.{placeOf}
+use Rattle.store.proofs.CountLaws.{one, SlotSum, lanes-sum, living-sum, number-some, number-but}
+use Rattle.store.proofs.StepLaws.{Step, issued-kept, slots-kept, capacity-kept, alive-kept, cursor-kept, fast-now, budget-now, lanes-now, living-now}
 use Rattle.store.proofs.RefusalLaws.{seen}
 
 -- ---- what a call takes from a store in order
@@ -74,28 +75,19 @@ module _ (t r : List ℕ) (o : Stores t r) (x : ℕ) (h : x < issued t) where
   pub issued-ring-in : Within (newRing x (capacity t)) (length r)
   issued-ring-in = slot-ring-in t r o x below-slots
 
-  -- what the rules see of the slot's flags
   registered-view : view t r .slotOf x .registered ≡ flag (laneAt t x .registered)
   unfolding slotAt
   registered-view = rw (slot-in t r x h)
 
-  living-view : view t r .slotOf x .living ≡ flag (laneAt t x .living)
-  unfolding slotAt
-  living-view = rw (slot-in t r x h)
-
-  issued-view : x < view t r .issued
-  unfolding view
-  issued-view = h
-
   pub living-counted : laneAt t x .living ≡ 1 → 0 < livingCount t
-  living-counted e = omega (arith, o .living-counted, living-some (view t r) x issued-view (living-view ∙ flag-one _ e))
+  living-counted e = let f : one (flag (laneAt t x .living)) ≡ 1 = ap one (flag-one _ e) in omega (arith, f, o .living-counted, number-some living-sum t r x h)
 
   module _ (e : laneAt t x .registered ≡ 1) where
     pub registered-seen : view t r .slotOf x .registered ≡ true
     registered-seen = registered-view ∙ flag-one _ e
 
     pub lane-counted : 0 < laneCount t
-    lane-counted = omega (arith, o .lanes-counted, registered-some (view t r) x issued-view registered-seen)
+    lane-counted = let f : one (flag (laneAt t x .registered)) ≡ 1 = ap one (flag-one _ e) in omega (arith, f, o .lanes-counted, number-some lanes-sum t r x h)
 
     -- an unqueued lane finds room in the queue
     pub room-in-queue : laneAt t x .queued ≡ 0 → queueCount t < slots t
@@ -199,40 +191,19 @@ abbrev pub OtherWindows : List ℕ → ℕ → List ℕ → ℕ → ℕ → Type
 OtherWindows t x w f b =
     (y : ℕ) → x ≢ y → y < issued t → laneAt t y .registered ≡ 1 → 0 < laneAt t y .window → Fast y f w (laneAt t y .window) b
 
--- what a call owes for the lane x that became l, the queue w, `fast_slot` f, the budget b, and the counts n and m
-pub record Owes (t : List ℕ) (x : ℕ) (l : Lane) (w : List ℕ) (f b n m : ℕ) : Type 0 where
+-- what a call owes for the lane x that became l, the queue w and the header h
+pub record Owes (t : List ℕ) (x : ℕ) (l : Lane) (w : List ℕ) (h : ℕ → ℕ) : Type 0 where
   pub flags : Flags l
   pub order : l .registered ≡ 1 → InOrder (capacity t) l
-  pub fast-below : f < slots t
+  pub fast-below : h (placeOf fastSlot) < slots t
   -- lane x stands in the queue as its queued word says, the others stand there as before
   pub once : count x w ≤ 1
   pub flagged : l .registered ≡ 1 → l .queued ≡ count x w
   pub rest : (y : ℕ) → x ≢ y → count y w ≡ count y (queueOf t)
-  pub window : l .registered ≡ 1 → 0 < l .window → Fast x f w (l .window) b
-  pub windows : OtherWindows t x w f b
-  pub lane-count : n + laneAt t x .registered ≡ laneCount t + l .registered
-  pub living-count : m + laneAt t x .living ≡ livingCount t + l .living
-
--- what the rules see of a slot's two flags, by the words
-pub registered-by : (t r : List ℕ) (y : ℕ) → view t r .slotOf y .registered ≡ if (ltb y (issued t)) (flag (laneAt t y .registered)) false
-unfolding view slotAt vacant
-registered-by t r y = go (ltb y (issued t))
-  where
-    go : (c : Bool) → if c (slotAt t r y) vacant .registered ≡ if c (flag (laneAt t y .registered)) false
-    go true = refl
-    go false = refl
-
-pub living-by : (t r : List ℕ) (y : ℕ) → view t r .slotOf y .living ≡ if (ltb y (issued t)) (flag (laneAt t y .living)) false
-unfolding view slotAt vacant
-living-by t r y = go (ltb y (issued t))
-  where
-    go : (c : Bool) → if c (slotAt t r y) vacant .living ≡ if c (flag (laneAt t y .living)) false
-    go true = refl
-    go false = refl
-
--- a count that goes with the flag of one lane
-counts-agree : {z n a c g e i j v : ℕ} → z ≡ n → n + a ≡ c + g → c ≡ e → i + j ≡ e + v → j ≡ a → v ≡ g → z ≡ i
-counts-agree p q r s v w = omega arith
+  pub window : l .registered ≡ 1 → 0 < l .window → Fast x (h (placeOf fastSlot)) w (l .window) (h (placeOf budget))
+  pub windows : OtherWindows t x w (h (placeOf fastSlot)) (h (placeOf budget))
+  pub lane-count : h (placeOf laneCount) + laneAt t x .registered ≡ laneCount t + l .registered
+  pub living-count : h (placeOf livingCount) + laneAt t x .living ≡ livingCount t + l .living
 
 without-first : (x y : ℕ) (q : List ℕ) → x ≢ y → take 1 q ≡ y ∷ [] → take 1 (rules.without x q) ≡ y ∷ []
 unfolding rules.without rules.keep
@@ -244,7 +215,7 @@ without-first x y (a ∷ q) n e =
     first : {a b : ℕ} → a ∷ [] ≡ b ∷ [] → a ≡ b
     first p = cc
 
-module _ (t r u q : List ℕ) (o : Stores t r) (x : ℕ) (h : x < issued t) (l : Lane) (w : List ℕ) (f b n m : ℕ) (k : Step t u x l w f b n m) (d : Owes t x l w f b n m) where
+module _ (t r u q : List ℕ) (o : Stores t r) (x : ℕ) (h : x < issued t) (l : Lane) (w : List ℕ) (g : ℕ → ℕ) (k : Step t u x l w g) (d : Owes t x l w g) where
   -- what holds of lane x as it is now, and of the other lanes as they were, holds of the lanes now
   own-or : (P : ℕ → Lane → Type 0) (y : ℕ) → P x l → (x ≢ y → P y (laneAt t y)) → P y (laneAt u y)
   own-or P y a c = elim (same? x y) [
@@ -253,69 +224,48 @@ module _ (t r u q : List ℕ) (o : Stores t r) (x : ℕ) (h : x < issued t) (l :
   ]
 
   below : issued u ≤ issued t
-  below = omega (arith, k .same-issued)
+  below = omega (arith, issued-kept k)
 
   names-after : QueueNames u
   names-after =
       record {
         once = λ y. rw (k .queue) (elim (same? x y) [ equal p e i ↦ rw (← p) (d .once) | other g e i ↦ rw (d .rest y g) (o .named .once y) ]);
-        issued-only = λ y c. rw (k .same-issued) (elim (same? x y) [ equal p e i ↦ rw (← p) h | other g e i ↦ o .named .issued-only y (rw (k .queue, d .rest y g) at c) ]);
+        issued-only = λ y c. rw (issued-kept k) (elim (same? x y) [ equal p e i ↦ rw (← p) h | other g e i ↦ o .named .issued-only y (rw (k .queue, d .rest y g) at c) ]);
         flagged = λ y c. rw (k .queue)
-            (own-or (λ z j. z < issued t → j .registered ≡ 1 → j .queued ≡ count z w) y (λ z e. d .flagged e) (λ g z e. o .named .flagged y z e ∙ sym (d .rest y g)) (rw (k .same-issued) at c));
+            (own-or (λ z j. z < issued t → j .registered ≡ 1 → j .queued ≡ count z w) y (λ z e. d .flagged e) (λ g z e. o .named .flagged y z e ∙ sym (d .rest y g)) (rw (issued-kept k) at c));
       }
 
-  -- what the rules see of the slots now
-  issued-after : view u q .issued ≡ view t r .issued
-  unfolding view
-  issued-after = k .same-issued
-
-  registered-others : (y : ℕ) → x ≢ y → view u q .slotOf y .registered ≡ view t r .slotOf y .registered
-  registered-others y g =
-      registered-by u q y ∙ ap₂ (λ (i : ℕ) (j : Lane). if (ltb y i) (flag (j .registered)) false) (k .same-issued) (k .others y g) ∙ sym (registered-by t r y)
-
-  living-others : (y : ℕ) → x ≢ y → view u q .slotOf y .living ≡ view t r .slotOf y .living
-  living-others y g =
-      living-by u q y ∙ ap₂ (λ (i : ℕ) (j : Lane). if (ltb y i) (flag (j .living)) false) (k .same-issued) (k .others y g) ∙ sym (living-by t r y)
-
-  registered-own : view u q .slotOf x .registered ≡ flag (l .registered)
-  unfolding slotAt
-  registered-own = rw (slot-in u q x (rw (k .same-issued) h), k .own)
-
-  living-own : view u q .slotOf x .living ≡ flag (l .living)
-  unfolding slotAt
-  living-own = rw (slot-in u q x (rw (k .same-issued) h), k .own)
+  -- a header word that is a sum over the slots, where it goes with lane x
+  sum-after : (c : SlotSum) {z i j : ℕ} → z ≡ j → i ≡ c .number (view t r) → j + c .by-words (laneAt t x) ≡ i + c .by-words l → z ≡ c .number (view u q)
+  sum-after c e g a = omega (arith, e, g, a, number-but c t r u q (issued-kept k) x h (k .others), ap (c .by-words) (k .own))
 
   lanes-after : laneCount u ≡ registeredLanes (view u q)
   lanes-after =
-      counts-agree (k .lanes) (d .lane-count) (o .lanes-counted)
-      (registered-but (view t r) (view u q) issued-after x (issued-view t r o x h) registered-others)
-      (ap one (registered-view t r o x h) ∙ one-flag _ (o .flags x h .registered-flag))
-      (ap one registered-own ∙ one-flag _ (d .flags .registered-flag))
+      sum-after lanes-sum (lanes-now k) (o .lanes-counted)
+      (rw (one-flag _ (o .flags x h .registered-flag), one-flag _ (d .flags .registered-flag)) (d .lane-count))
 
   living-after : livingCount u ≡ livingSenders (view u q)
   living-after =
-      counts-agree (k .living) (d .living-count) (o .living-counted)
-      (living-but (view t r) (view u q) issued-after x (issued-view t r o x h) living-others)
-      (ap one (living-view t r o x h) ∙ one-flag _ (o .flags x h .living-flag))
-      (ap one living-own ∙ one-flag _ (d .flags .living-flag))
+      sum-after living-sum (living-now k) (o .living-counted)
+      (rw (one-flag _ (o .flags x h .living-flag), one-flag _ (d .flags .living-flag)) (d .living-count))
 
   -- the run of stores leaves what a store in order has beside the rules' state
   pub stores-after : slots t * capacity t ≤ length q → Stores u q
   stores-after long =
       record {
         shaped = k .shaped;
-        fast-below = rw (k .fast, k .same-slots) (d .fast-below);
-        power = rw (k .same-capacity) (o .power);
-        rings-room = rw (k .same-slots, k .same-capacity) long;
-        alive-flag = rw (k .same-alive) (o .alive-flag);
-        first-cursor = rw (k .same-cursor) (o .first-cursor);
-        flags = λ y c. own-or (λ z j. z < issued t → Flags j) y (λ z. d .flags) (λ g. o .flags y) (rw (k .same-issued) at c);
-        lanes = λ y c. rw (k .same-capacity) (own-or (λ z j. z < issued t → j .registered ≡ 1 → InOrder (capacity t) j) y (λ z. d .order) (λ g. o .lanes y) (rw (k .same-issued) at c));
+        fast-below = rw (fast-now k, slots-kept k) (d .fast-below);
+        power = rw (capacity-kept k) (o .power);
+        rings-room = rw (slots-kept k, capacity-kept k) long;
+        alive-flag = rw (alive-kept k) (o .alive-flag);
+        first-cursor = rw (cursor-kept k) (o .first-cursor);
+        flags = λ y c. own-or (λ z j. z < issued t → Flags j) y (λ z. d .flags) (λ g. o .flags y) (rw (issued-kept k) at c);
+        lanes = λ y c. rw (capacity-kept k) (own-or (λ z j. z < issued t → j .registered ≡ 1 → InOrder (capacity t) j) y (λ z. d .order) (λ g. o .lanes y) (rw (issued-kept k) at c));
         named = names-after;
         linked = k .linked;
         mark-words = k .mark-words (o .mark-words);
-        windows = λ y c. rw (k .fast, k .queue, k .poll)
-            (own-or (λ z j. z < issued t → j .registered ≡ 1 → 0 < j .window → Fast z f w (j .window) b) y (λ z. d .window) (λ g. d .windows y g) (rw (k .same-issued) at c));
+        windows = λ y c. rw (fast-now k, k .queue, budget-now k)
+            (own-or (λ z j. z < issued t → j .registered ≡ 1 → 0 < j .window → Fast z (g (placeOf fastSlot)) w (j .window) (g (placeOf budget))) y (λ z. d .window) (λ g. d .windows y g) (rw (issued-kept k) at c));
         lanes-counted = lanes-after;
         living-counted = living-after;
       }

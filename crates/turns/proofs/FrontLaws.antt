@@ -23,7 +23,7 @@ use Rattle.yring.specs.declared.ring.Ring.{Ring}
 use Rattle.lane.specs.Table.{headerWords, head, setHead, laneAt, putLane}
 use Rattle.lane.proofs.OrderLaws.{cond-holds, poll-keeps}
 use Rattle.lane.proofs.TableLaws.{frames, slot-of-lane}
-use Rattle.queues.specs.Header.{Shaped, issued, slots, queueCount, freeCount, budget, capacity, laneCount, fastSlot, livingCount}
+use Rattle.queues.specs.Header.{Shaped, issued, slots, queueCount, freeCount, budget, capacity, laneCount}
 use Rattle.queues.specs.Queue.{queueOf, frontSlot, popFront, rotateLeft}
 use Rattle.queues.specs.Registry.{freeOf, free}
 use Rattle.queues.proofs.QueueLaws.{queue-frames, header-in}
@@ -36,31 +36,32 @@ use Rattle.turns.specs.declared.turn.Turn.{Turn}
 use Rattle.turns.specs.declared.turn.Turn.the-variants as Turn
 use Rattle.turns.specs.Turn.{Turning, Ringed, retireIf, settleEmptyFront, meetBudget, lessOne, rotateIf, gaveFront, turnBy, pollFront, afterTurn, turnsWithin, turns}
 use Rattle.store.proofs.CountLaws.{one}
-use Rattle.store.proofs.StepLaws.{Step, step-from, step-put-lane, step-popped-front, step-rotated, step-freed, step-budget, step-lane-count}
+use Rattle.store.proofs.HeaderWords.{placeOf, withWord}
+use Rattle.store.proofs.StepLaws.{Step, slots-kept, lanes-now, step-from, step-put-lane, step-popped-front, step-rotated, step-freed, step-budget, step-lane-count}
 use Rattle.store.proofs.RetireFrames.{freed-unless-last-is, length-retire-lane}
 use Rattle.store.proofs.LaneFields.{Fixed, Flagged, flagged, Emptied, PollKept, poll-kept}
 use Rattle.turns.proofs.TurnLaws.{slot-below, some-lane, not-free, free-room, queue-is, front-issued, front-registered, front-alone, front-ordered, turning-step, turning-met}
 
 -- ---- retiring a lane that is in no queue
 
-module _ {t u : List ℕ} {x : ℕ} {l : Lane} {w : List ℕ} {f b n m : ℕ} (k : Turning t) (s : Step t u x l w f b n m) (h : x < issued t) (e : laneAt t x .registered ≡ 1)
-    (g : Lane) (at : g .key .slot ≡ x) (others : (y : ℕ) → x ≢ y → count y w ≡ count y (queueOf t)) (gone : count x w ≡ 0) (kept : freeOf u ≡ freeOf t) (lanes : n ≡ laneCount t) where
+module _ {t u : List ℕ} {x : ℕ} {l : Lane} {w : List ℕ} {hd : ℕ → ℕ} (k : Turning t) (s : Step t u x l w hd) (h : x < issued t) (e : laneAt t x .registered ≡ 1)
+    (g : Lane) (at : g .key .slot ≡ x) (others : (y : ℕ) → x ≢ y → count y w ≡ count y (queueOf t)) (gone : count x w ≡ 0) (kept : freeOf u ≡ freeOf t) (lanes : hd (placeOf laneCount) ≡ laneCount t) where
   abbrev lowered : List ℕ
   lowered = setHead (putLane u (retired g)) 13 (laneCount u - 1)
 
-  step-lowered : Step t lowered x (retired g) w f b (laneCount u - 1) m
+  step-lowered : Step t lowered x (retired g) w (withWord laneCount (laneCount u - 1) hd)
   step-lowered = step-lane-count (step-put-lane s (retired g) at h) (laneCount u - 1)
 
   one-less : laneCount u - 1 + one (flag (laneAt t x .registered)) ≡ laneCount t + 0
   one-less =
       let o : one (flag (laneAt t x .registered)) ≡ 1 = ap (λ (z : ℕ). one (flag z)) e in
-      omega (arith, s .lanes, lanes, o, some-lane t k x h e)
+      omega (arith, lanes-now s, lanes, o, some-lane t k x h e)
 
   free-lowered : freeOf lowered ≡ freeOf t
   free-lowered = let a : freeOf lowered ≡ freeOf u = simp registry-frames in a ∙ kept
 
   room-lowered : freeCount lowered < slots lowered
-  room-lowered = omega (arith, ap length free-lowered, step-lowered .same-slots, free-length lowered, free-length t, free-room t k x h e)
+  room-lowered = omega (arith, ap length free-lowered, slots-kept step-lowered, free-length lowered, free-length t, free-room t k x h e)
     where
       free-length : (v : List ℕ) → length (freeOf v) ≡ freeCount v
       free-length v = length-free v
@@ -89,7 +90,7 @@ module _ (t : List ℕ) (k : Turning t) (some : queueCount t ≡ 0 → ⊥) wher
   abbrev rest : List ℕ
   rest = queueOf (popFront t)
 
-  begun : Step t t x (laneAt t x) (queueOf t) (fastSlot t) (budget t) (laneCount t) (livingCount t)
+  begun : Step t t x (laneAt t x) (queueOf t) (head t)
   begun = step-from t (k .shaped) (k .linked) x
 
   rest-others : (y : ℕ) → x ≢ y → count y rest ≡ count y (queueOf t)
@@ -106,7 +107,7 @@ module _ (t : List ℕ) (k : Turning t) (some : queueCount t ≡ 0 → ⊥) wher
     left-registered : l .registered ≡ 1
     left-registered = ap (λ (z : Fixed). z .1) (e .0) ∙ front-registered t k some
 
-    step-left : Step t (popFront (putLane t l)) x l rest (fastSlot t) (budget t) (laneCount t) (livingCount t)
+    step-left : Step t (popFront (putLane t l)) x l rest (head t)
     step-left = step-popped-front (step-put-lane begun l left-slot (front-issued t k some)) x rest (queue-is t k some)
 
     free-left : freeOf (popFront (putLane t l)) ≡ freeOf t
@@ -133,7 +134,7 @@ module _ (t : List ℕ) (k : Turning t) (some : queueCount t ≡ 0 → ⊥) wher
     gave-registered : l .registered ≡ 1
     gave-registered = ap (λ (z : Flagged). z .1) e ∙ front-registered t k some
 
-    step-given : Step t (putLane t l) x l (queueOf t) (fastSlot t) (budget t) (laneCount t) (livingCount t)
+    step-given : Step t (putLane t l) x l (queueOf t) (head t)
     step-given = step-put-lane begun l gave-slot (front-issued t k some)
 
     counts-turned : (y : ℕ) → count y (rest ++ (x ∷ [])) ≡ count y (queueOf t)
@@ -143,7 +144,7 @@ module _ (t : List ℕ) (k : Turning t) (some : queueCount t ≡ 0 → ⊥) wher
     queued-given : l .queued ≡ count x (queueOf t)
     queued-given = ap (λ (z : Flagged). z .4) e ∙ k .names .flagged x (front-issued t k some) (front-registered t k some)
 
-    given-by : (u w : List ℕ) (b : ℕ) → Step t u x l w (fastSlot t) b (laneCount t) (livingCount t) → ((y : ℕ) → count y w ≡ count y (queueOf t)) → freeOf u ≡ freeOf t → Turning u
+    given-by : (u w : List ℕ) (b : ℕ) → Step t u x l w (withWord budget b (head t)) → ((y : ℕ) → count y w ≡ count y (queueOf t)) → freeOf u ≡ freeOf t → Turning u
     given-by u w b s c f =
         turning-step k s (front-issued t k some) (λ i. o) (λ y d. c y) (rw (c x) (k .names .once x)) (λ i. gave-registered) (λ i. queued-given ∙ sym (c x))
         (λ y d. ap (count y) f) (rw f (k .free-once x)) (λ i j. k .free-unregistered x (rw f at i) (front-registered t k some))

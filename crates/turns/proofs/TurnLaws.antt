@@ -29,7 +29,8 @@ use Rattle.queues.proofs.RegistryLaws.{registry-frames, length-free}
 use Rattle.store.specs.View.{flag}
 use Rattle.turns.specs.Turn.{registeredIn, Turning, Ringed, meetBudget}
 use Rattle.store.proofs.CountLaws.{one, passing-same, passing-but, passing-some}
-use Rattle.store.proofs.StepLaws.{Step, linked-by}
+use Rattle.store.proofs.HeaderWords.{placeOf}
+use Rattle.store.proofs.StepLaws.{Step, lanes-now, linked-by, issued-kept, slots-kept, capacity-kept}
 
 -- ---- what a registered lane gives
 
@@ -84,44 +85,44 @@ module _ (t : List ℕ) (k : Turning t) (some : queueCount t ≡ 0 → ⊥) wher
 
 -- ---- a run of stores that changes one lane
 
-module _ {t u : List ℕ} {x : ℕ} {l : Lane} {w : List ℕ} {f b n m : ℕ} (k : Turning t) (s : Step t u x l w f b n m) (h : x < issued t) where
+module _ {t u : List ℕ} {x : ℕ} {l : Lane} {w : List ℕ} {hd : ℕ → ℕ} (k : Turning t) (s : Step t u x l w hd) (h : x < issued t) where
   lane-case : (P : ℕ → Lane → Type 0) → P x l → ((y : ℕ) → x ≢ y → P y (laneAt t y)) → (y : ℕ) → P y (laneAt u y)
   lane-case P own others y = elim (same? x y) [
     | equal e p i ↦ subst (λ (z : ℕ). P z (laneAt u z)) e (subst (P x) (sym (s .own)) own)
     | other d p i ↦ subst (P y) (sym (s .others y d)) (others y d)
   ]
 
-  counted-step : n + one (flag (laneAt t x .registered)) ≡ laneCount t + one (flag (l .registered)) → laneCount u ≡ registeredIn u
+  counted-step : hd (placeOf laneCount) + one (flag (laneAt t x .registered)) ≡ laneCount t + one (flag (l .registered)) → laneCount u ≡ registeredIn u
   unfolding registeredIn
   counted-step e =
       let c = passing-but (λ y. flag (laneAt u y .registered)) (λ y. flag (laneAt t y .registered)) x 0 (issued t) (omega arith) (omega arith)
       (λ y d. ap (λ (z : Lane). flag (z .registered)) (s .others y d)) in
       let o : one (flag (laneAt u x .registered)) ≡ one (flag (l .registered)) = ap (λ (z : Lane). one (flag (z .registered))) (s .own) in
-      rw (s .same-issued) (omega (arith, s .lanes, k .counted, c, o, e))
+      rw (issued-kept s) (omega (arith, lanes-now s, k .counted, c, o, e))
 
   -- the lane's own place in the queue and in the free list; the other lanes have theirs
   pub turning-step : (l .registered ≡ 1 → InOrder (capacity t) l)
       → ((y : ℕ) → x ≢ y → count y w ≡ count y (queueOf t)) → count x w ≤ 1 → (1 ≤ count x w → l .registered ≡ 1) → (l .registered ≡ 1 → l .queued ≡ count x w)
       → ((y : ℕ) → x ≢ y → count y (freeOf u) ≡ count y (freeOf t)) → count x (freeOf u) ≤ 1 → (1 ≤ count x (freeOf u) → l .registered ≡ 1 → ⊥)
-      → n + one (flag (laneAt t x .registered)) ≡ laneCount t + one (flag (l .registered)) → Turning u
+      → hd (placeOf laneCount) + one (flag (laneAt t x .registered)) ≡ laneCount t + one (flag (l .registered)) → Turning u
   turning-step o wo w1 wr wq fo f1 fr c =
       record {
         shaped = s .shaped;
-        power = rw (s .same-capacity) (k .power);
+        power = rw (capacity-kept s) (k .power);
         names =
             record {
               once = λ y. rw (s .queue) (once y);
-              issued-only = λ y a. rw (s .same-issued) (only y (rw (s .queue) at a));
-              flagged = λ y a. rw (s .queue) (flagged y (rw (s .same-issued) at a));
+              issued-only = λ y a. rw (issued-kept s) (only y (rw (s .queue) at a));
+              flagged = λ y a. rw (s .queue) (flagged y (rw (issued-kept s) at a));
             };
         linked = s .linked;
-        lanes = λ y a. rw (s .same-capacity) (ordered y (rw (s .same-issued) at a));
+        lanes = λ y a. rw (capacity-kept s) (ordered y (rw (issued-kept s) at a));
         queued-registered = λ y a. registered y (rw (s .queue) at a);
         free-once = λ y. elim (same? x y) [
           | equal e p i ↦ rw (← e) f1
           | other d p i ↦ rw (fo y d) (k .free-once y)
         ];
-        free-issued = λ y a. rw (s .same-issued) (elim (same? x y) [
+        free-issued = λ y a. rw (issued-kept s) (elim (same? x y) [
           | equal e p i ↦ rw (← e) h
           | other d p i ↦ k .free-issued y (rw (fo y d) at a)
         ]);
@@ -156,7 +157,7 @@ module _ {t u : List ℕ} {x : ℕ} {l : Lane} {w : List ℕ} {f b n m : ℕ} (k
           lane-case (λ (y : ℕ) (z : Lane). 1 ≤ count y (freeOf u) → z .registered ≡ 1 → ⊥) fr (λ y d a. k .free-unregistered y (rw (fo y d) at a))
 
   pub ringed-step : (r : List ℕ) → Ringed t r → Ringed u r
-  ringed-step r g = rw (s .same-slots, s .same-capacity) g
+  ringed-step r g = rw (slots-kept s, capacity-kept s) g
 
 -- ---- a table with the same lanes registered
 
