@@ -2,7 +2,7 @@
 
 use crate::side::{Batch, Key, LaneId, Received, Sent, Side};
 
-type Words = [u64; 4];
+type Words = [u64; 8];
 
 const DONE: u64 = 0;
 const REGISTERED: u64 = 1;
@@ -88,7 +88,7 @@ impl<const CHECKED: bool> Library<CHECKED> {
     fn received(&self, tag: u64) -> Received {
         match tag {
             ITEM => {
-                let [item, channel, slot, generation] = self.words;
+                let [item, channel, slot, generation, ..] = self.words;
                 Received::Item(item, LaneId { channel, key: Key { slot, generation } })
             }
             EMPTY => Received::Empty,
@@ -104,7 +104,7 @@ impl<const CHECKED: bool> Side for Library<CHECKED> {
     fn open(capacity: usize, slots: usize) -> Self {
         let capacity = capacity.next_power_of_two();
         let (table, rings) = (vec![0; 24 * slots + 512], vec![0; slots * capacity]);
-        let mut new = Self { capacity, slots, table, rings, words: [0; 4], output: vec![0; OUTPUT], count: 0 };
+        let mut new = Self { capacity, slots, table, rings, words: [0; 8], output: vec![0; OUTPUT], count: 0 };
         new.reopen();
         new
     }

@@ -1,10 +1,11 @@
 /* The MPSC receiver of fanring.rs, one call at a time, on two stores that the caller lends.
 
-   STORES. `table` and `rings` are arrays of words. To open a channel of S slots the table needs at least 24 * S + 512 words and the ring store
-   at least S * C, with C the capacity rounded up to a power of two; table_len and rings_len are their lengths in words. Their words belong to the library from the opening on. There is no heap and no other state.
+   STORES. `table` and `rings` are arrays of words. To open a channel of S slots the table needs at least FANRING_TABLE_WORDS(S) words and the ring store
+   at least FANRING_RING_WORDS(S, C), with C the capacity rounded up to a power of two; table_len and rings_len are their lengths in words. Their words
+   belong to the library from the opening on. There is no heap and no other state.
 
-   ANSWERS. Each call returns a tag (enum fanring_tag) and puts the answer's numbers into words[0] and on. Words that the answer does not use are as they were.
-   A refusal leaves every word of both stores and of the output as it was.
+   ANSWERS. Each call returns a tag (enum fanring_tag) and puts the answer's numbers into words[0] and on; `words` has room for FANRING_WORDS. Words that
+   the answer does not use are as they were. A refusal leaves every word of both stores and of the output as it was.
 
    LANES. A lane is one sender's ring, named by its key. Its signal is idle or pending: a send marks the lane, which makes it pending; a receive that
    finds the lane empty makes it idle. Receives look for marked lanes and queue them; queued lanes have turns at the front. A send that finds the signal
@@ -12,15 +13,16 @@
    Credit is the places of items handed out. It goes back to the lane's sender when it reaches the release batch (half of C or 64, whichever is more, but
    at most C), when a receive finds the lane empty, on pause, on release_consumed and with every batch. So a send may still be refused 11 after a receive.
 
-   WHAT EVERY CALL RELIES ON. Each pointer is to as many words as its length says, `words` to four, aligned as uint64_t is; it is not NULL, also where the length is 0.
-   `table`, `rings`, `out` and `words` do not overlap. Nothing else uses them during the call: one call at a time on a pair of stores. (Two fanring_held or two
-   fanring_inner_held, which only read the stores, may run at one time.)
+   WHAT EVERY CALL RELIES ON. Each pointer is to as many words as its length says, `words` to FANRING_WORDS, aligned as uint64_t is; it is not NULL, also
+   where the length is 0. `table`, `rings`, `out` and `words` do not overlap. Nothing else uses them during the call: one call at a time on a pair of
+   stores. (Two fanring_held or two fanring_inner_held, which only read the stores, may run at one time.)
 
    CHECKED CALLS (fanring_..) rely on nothing else: they take any stores and any numbers. All but fanring_open test both stores first, which goes over
    every issued slot, and answer refused 5 if they are not in order.
 
-   INNER CALLS (fanring_inner_..) make no such test, and have a premise: the stores are in order. They are if fanring_open has opened them and answered FANRING_DONE, with these
-   lengths, and since then changed by these calls alone, checked or inner. With the premise broken, nothing is promised: not even that a call stays within the stores.
+   INNER CALLS (fanring_inner_..) make no such test, and have a premise: the stores are in order. They are if fanring_open has opened them and answered
+   FANRING_DONE, with these lengths, and since then nothing but these calls, checked or inner, has changed them. With the premise broken, nothing is
+   promised: not even that a call stays within the stores.
 
    The contracts are in crates/c_checked/src and crates/c_inner/src, and are proved. For x86-64 Linux. */
 #ifndef FANRING_H
@@ -32,6 +34,13 @@
 #ifdef __cplusplus
 extern "C" {
 #endif
+
+/* The words lent for an answer's numbers. Today's answers use four at most. */
+#define FANRING_WORDS 8
+
+/* The words that the stores of a channel of S slots need. C is a power of two: the opening rounds a capacity up, so for a capacity of 100 it is 128. */
+#define FANRING_TABLE_WORDS(S) (24 * (size_t)(S) + 512)
+#define FANRING_RING_WORDS(S, C) ((size_t)(S) * (size_t)(C))
 
 /* What a call returns, and the words that it sets. */
 enum fanring_tag {
@@ -71,84 +80,84 @@ enum fanring_refusal {
    FANRING_DONE; or refused 1, 2, 3, 4. */
 uint64_t fanring_open(
     uint64_t *table, size_t table_len, const uint64_t *rings, size_t rings_len,
-    uint64_t capacity, uint64_t slots, uint64_t channel, uint64_t cursor, uint64_t generation, uint64_t words[4]);
+    uint64_t capacity, uint64_t slots, uint64_t channel, uint64_t cursor, uint64_t generation, uint64_t words[FANRING_WORDS]);
 
 /* Registers a sender with a lane of its own, if fewer than `most` lanes are registered. The slot freed last is issued first, with generation + 1;
    else the next unused one. Answers FANRING_REGISTERED with the lane's key: words[0] slot, words[1] generation; or refused 5, 6, 7, 8, 9. Refused 9
    comes even with unused slots, while the slot freed last has a living sender, whose lane was closed: drop that sender. */
 uint64_t fanring_register_sender(
-    uint64_t *table, size_t table_len, const uint64_t *rings, size_t rings_len, uint64_t most, uint64_t words[4]);
+    uint64_t *table, size_t table_len, const uint64_t *rings, size_t rings_len, uint64_t most, uint64_t words[FANRING_WORDS]);
 
 /* Sends an item through the sender with this key. Answers FANRING_TAKEN with words[0], woken: 1 if the lane's signal went from idle to pending, else 0;
    or refused 5, 10, 12, 11. */
 uint64_t fanring_try_send(
     uint64_t *table, size_t table_len, uint64_t *rings, size_t rings_len, uint64_t slot, uint64_t generation,
-    uint64_t item, uint64_t words[4]);
+    uint64_t item, uint64_t words[FANRING_WORDS]);
 
 /* Sends an item and marks nothing: only a targeted receive finds it, until the lane is marked or queued otherwise; see fanring_poll_all_lanes. Answers
    FANRING_TAKEN with words[0] 0; or refused 5, 10, 12, 11. */
 uint64_t fanring_try_send_unsignaled(
     uint64_t *table, size_t table_len, uint64_t *rings, size_t rings_len, uint64_t slot, uint64_t generation,
-    uint64_t item, uint64_t words[4]);
+    uint64_t item, uint64_t words[FANRING_WORDS]);
 
 /* Drops the sender with this key: its lane is marked, and the living senders are one less. Items already sent can still be received, and the lane counts
    against `most` until a receive finds it empty, and it retires. Answers FANRING_DONE; or refused 5, 10. */
 uint64_t fanring_drop_sender(
     uint64_t *table, size_t table_len, const uint64_t *rings, size_t rings_len, uint64_t slot, uint64_t generation,
-    uint64_t words[4]);
+    uint64_t words[FANRING_WORDS]);
 
 /* Receives one item (plain), in bursts of at most 64 of a lane. Answers FANRING_ITEM with words[0] item, words[1] channel, words[2] slot, words[3]
    generation; FANRING_DISCONNECTED if no sender lives and, once empty lanes have retired, no lane is registered; else FANRING_EMPTY; or refused 5, 6.
    Disconnected is not final: it is answered before the first registration too, and a later one is taken. */
-uint64_t fanring_try_recv(uint64_t *table, size_t table_len, const uint64_t *rings, size_t rings_len, uint64_t words[4]);
+uint64_t fanring_try_recv(uint64_t *table, size_t table_len, const uint64_t *rings, size_t rings_len, uint64_t words[FANRING_WORDS]);
 
 /* Receives one item (fair): one of the front lane, which goes to the back. Answers as fanring_try_recv. */
-uint64_t fanring_try_recv_fair(uint64_t *table, size_t table_len, const uint64_t *rings, size_t rings_len, uint64_t words[4]);
+uint64_t fanring_try_recv_fair(uint64_t *table, size_t table_len, const uint64_t *rings, size_t rings_len, uint64_t words[FANRING_WORDS]);
 
 /* Receives one item of the lane with this id, paused or not (targeted); an unpaused lane that is not queued is then queued, at the back. Answers
    FANRING_ITEM with the words of fanring_try_recv; FANRING_EMPTY; FANRING_DISCONNECTED if this lane is empty and its own sender dropped, whether or not
    others live, and the lane retires; or refused 5, 6, 13. */
 uint64_t fanring_try_recv_from(
     uint64_t *table, size_t table_len, const uint64_t *rings, size_t rings_len,
-    uint64_t channel, uint64_t slot, uint64_t generation, uint64_t words[4]);
+    uint64_t channel, uint64_t slot, uint64_t generation, uint64_t words[FANRING_WORDS]);
 
 /* Receives items into out[0], out[1], .. in order, until the limit, or until nothing is queued and nothing is ready; then every lane gives back its
    credit. Answers FANRING_ITEMS with words[0] their count; FANRING_EMPTY or FANRING_DISCONNECTED if there was none, but 0 items if the limit is 0; or
    refused 5, 6, 14. The rest of out is as it was. */
 uint64_t fanring_try_recv_batch_into(
     uint64_t *table, size_t table_len, const uint64_t *rings, size_t rings_len, uint64_t *out, size_t out_len,
-    uint64_t limit, uint64_t words[4]);
+    uint64_t limit, uint64_t words[FANRING_WORDS]);
 
 /* Takes the lane with this id out of all receives but targeted ones; its credit goes back. While no sender lives and a paused lane has items, a receive
    that finds nothing answers FANRING_EMPTY and not FANRING_DISCONNECTED, until that lane is resumed, closed or emptied by targeted ones. Answers
    FANRING_DONE; or refused 5, 6, 13. */
 uint64_t fanring_pause(
     uint64_t *table, size_t table_len, const uint64_t *rings, size_t rings_len,
-    uint64_t channel, uint64_t slot, uint64_t generation, uint64_t words[4]);
+    uint64_t channel, uint64_t slot, uint64_t generation, uint64_t words[FANRING_WORDS]);
 
 /* Brings a paused lane back, queued at the back; a lane that is not paused stays as it is. Answers FANRING_DONE; or refused 5, 6, 13. */
 uint64_t fanring_resume(
     uint64_t *table, size_t table_len, const uint64_t *rings, size_t rings_len,
-    uint64_t channel, uint64_t slot, uint64_t generation, uint64_t words[4]);
+    uint64_t channel, uint64_t slot, uint64_t generation, uint64_t words[FANRING_WORDS]);
 
 /* Retires the lane with this id, with the items that it holds: none of them is handed out. A sender not dropped yet still counts as living, with its
    sends refused 12, and must be dropped. Answers FANRING_DONE; or refused 5, 6, 13. */
 uint64_t fanring_close_lane(
     uint64_t *table, size_t table_len, const uint64_t *rings, size_t rings_len,
-    uint64_t channel, uint64_t slot, uint64_t generation, uint64_t words[4]);
+    uint64_t channel, uint64_t slot, uint64_t generation, uint64_t words[FANRING_WORDS]);
 
 /* Every lane gives back the places of its items that were handed out. Answers FANRING_DONE; or refused 5, 6. */
-uint64_t fanring_release_consumed(uint64_t *table, size_t table_len, const uint64_t *rings, size_t rings_len, uint64_t words[4]);
+uint64_t fanring_release_consumed(uint64_t *table, size_t table_len, const uint64_t *rings, size_t rings_len, uint64_t words[FANRING_WORDS]);
 
 /* Queues every lane that is neither queued nor paused, so that items sent without a signal are found. Answers FANRING_DONE; or refused 5, 6. */
-uint64_t fanring_poll_all_lanes(uint64_t *table, size_t table_len, const uint64_t *rings, size_t rings_len, uint64_t words[4]);
+uint64_t fanring_poll_all_lanes(uint64_t *table, size_t table_len, const uint64_t *rings, size_t rings_len, uint64_t words[FANRING_WORDS]);
 
 /* Closes the receiver: its lanes stay as they are, and their senders find it closed. Answers FANRING_DONE; or refused 5, 6. */
-uint64_t fanring_close_receiver(uint64_t *table, size_t table_len, const uint64_t *rings, size_t rings_len, uint64_t words[4]);
+uint64_t fanring_close_receiver(uint64_t *table, size_t table_len, const uint64_t *rings, size_t rings_len, uint64_t words[FANRING_WORDS]);
 
 /* Counts the items in rings of registered lanes, paused ones too, also where the receiver is closed. Answers FANRING_HELD with words[0] the count; or
    refused 5. */
-uint64_t fanring_held(const uint64_t *table, size_t table_len, const uint64_t *rings, size_t rings_len, uint64_t words[4]);
+uint64_t fanring_held(const uint64_t *table, size_t table_len, const uint64_t *rings, size_t rings_len, uint64_t words[FANRING_WORDS]);
 
 /* ---- Inner calls: each does and answers what the checked call of its name does, without the test of the stores. Premise of each: the stores are in order,
    opened by fanring_open and since then changed by these calls alone ---- */
@@ -156,70 +165,70 @@ uint64_t fanring_held(const uint64_t *table, size_t table_len, const uint64_t *r
 /* Premise: the stores are in order. As fanring_register_sender: registers a sender with a lane of its own. Answers FANRING_REGISTERED;
    or refused 6, 7, 8, 9. */
 uint64_t fanring_inner_register_sender(
-    uint64_t *table, size_t table_len, const uint64_t *rings, size_t rings_len, uint64_t most, uint64_t words[4]);
+    uint64_t *table, size_t table_len, const uint64_t *rings, size_t rings_len, uint64_t most, uint64_t words[FANRING_WORDS]);
 
 /* Premise: the stores are in order. As fanring_try_send: sends an item through the sender with this key. Answers FANRING_TAKEN; or refused 10, 12, 11. */
 uint64_t fanring_inner_try_send(
     uint64_t *table, size_t table_len, uint64_t *rings, size_t rings_len, uint64_t slot, uint64_t generation,
-    uint64_t item, uint64_t words[4]);
+    uint64_t item, uint64_t words[FANRING_WORDS]);
 
 /* Premise: the stores are in order. As fanring_try_send_unsignaled: sends an item and marks nothing. Answers FANRING_TAKEN; or refused 10, 12, 11. */
 uint64_t fanring_inner_try_send_unsignaled(
     uint64_t *table, size_t table_len, uint64_t *rings, size_t rings_len, uint64_t slot, uint64_t generation,
-    uint64_t item, uint64_t words[4]);
+    uint64_t item, uint64_t words[FANRING_WORDS]);
 
 /* Premise: the stores are in order. As fanring_drop_sender: drops the sender with this key. Answers FANRING_DONE; or refused 10. */
 uint64_t fanring_inner_drop_sender(
     uint64_t *table, size_t table_len, const uint64_t *rings, size_t rings_len, uint64_t slot, uint64_t generation,
-    uint64_t words[4]);
+    uint64_t words[FANRING_WORDS]);
 
 /* Premise: the stores are in order. As fanring_try_recv: receives one item (plain). Answers FANRING_ITEM, FANRING_EMPTY, FANRING_DISCONNECTED;
    or refused 6. */
-uint64_t fanring_inner_try_recv(uint64_t *table, size_t table_len, const uint64_t *rings, size_t rings_len, uint64_t words[4]);
+uint64_t fanring_inner_try_recv(uint64_t *table, size_t table_len, const uint64_t *rings, size_t rings_len, uint64_t words[FANRING_WORDS]);
 
 /* Premise: the stores are in order. As fanring_try_recv_fair: receives one item (fair). Answers FANRING_ITEM, FANRING_EMPTY, FANRING_DISCONNECTED;
    or refused 6. */
-uint64_t fanring_inner_try_recv_fair(uint64_t *table, size_t table_len, const uint64_t *rings, size_t rings_len, uint64_t words[4]);
+uint64_t fanring_inner_try_recv_fair(uint64_t *table, size_t table_len, const uint64_t *rings, size_t rings_len, uint64_t words[FANRING_WORDS]);
 
 /* Premise: the stores are in order. As fanring_try_recv_from: receives one item of the lane with this id (targeted). Answers FANRING_ITEM, FANRING_EMPTY,
    FANRING_DISCONNECTED; or refused 6, 13. */
 uint64_t fanring_inner_try_recv_from(
     uint64_t *table, size_t table_len, const uint64_t *rings, size_t rings_len,
-    uint64_t channel, uint64_t slot, uint64_t generation, uint64_t words[4]);
+    uint64_t channel, uint64_t slot, uint64_t generation, uint64_t words[FANRING_WORDS]);
 
 /* Premise: the stores are in order. As fanring_try_recv_batch_into: receives items into out. Answers FANRING_ITEMS, FANRING_EMPTY, FANRING_DISCONNECTED;
    or refused 6, 14. */
 uint64_t fanring_inner_try_recv_batch_into(
     uint64_t *table, size_t table_len, const uint64_t *rings, size_t rings_len, uint64_t *out, size_t out_len,
-    uint64_t limit, uint64_t words[4]);
+    uint64_t limit, uint64_t words[FANRING_WORDS]);
 
 /* Premise: the stores are in order. As fanring_pause: takes the lane with this id out of all receives but targeted ones. Answers FANRING_DONE;
    or refused 6, 13. */
 uint64_t fanring_inner_pause(
     uint64_t *table, size_t table_len, const uint64_t *rings, size_t rings_len,
-    uint64_t channel, uint64_t slot, uint64_t generation, uint64_t words[4]);
+    uint64_t channel, uint64_t slot, uint64_t generation, uint64_t words[FANRING_WORDS]);
 
 /* Premise: the stores are in order. As fanring_resume: brings a paused lane back. Answers FANRING_DONE; or refused 6, 13. */
 uint64_t fanring_inner_resume(
     uint64_t *table, size_t table_len, const uint64_t *rings, size_t rings_len,
-    uint64_t channel, uint64_t slot, uint64_t generation, uint64_t words[4]);
+    uint64_t channel, uint64_t slot, uint64_t generation, uint64_t words[FANRING_WORDS]);
 
 /* Premise: the stores are in order. As fanring_close_lane: retires the lane with this id, with its items. Answers FANRING_DONE; or refused 6, 13. */
 uint64_t fanring_inner_close_lane(
     uint64_t *table, size_t table_len, const uint64_t *rings, size_t rings_len,
-    uint64_t channel, uint64_t slot, uint64_t generation, uint64_t words[4]);
+    uint64_t channel, uint64_t slot, uint64_t generation, uint64_t words[FANRING_WORDS]);
 
 /* Premise: the stores are in order. As fanring_release_consumed: every lane gives back its credit. Answers FANRING_DONE; or refused 6. */
-uint64_t fanring_inner_release_consumed(uint64_t *table, size_t table_len, const uint64_t *rings, size_t rings_len, uint64_t words[4]);
+uint64_t fanring_inner_release_consumed(uint64_t *table, size_t table_len, const uint64_t *rings, size_t rings_len, uint64_t words[FANRING_WORDS]);
 
 /* Premise: the stores are in order. As fanring_poll_all_lanes: queues every lane that is neither queued nor paused. Answers FANRING_DONE; or refused 6. */
-uint64_t fanring_inner_poll_all_lanes(uint64_t *table, size_t table_len, const uint64_t *rings, size_t rings_len, uint64_t words[4]);
+uint64_t fanring_inner_poll_all_lanes(uint64_t *table, size_t table_len, const uint64_t *rings, size_t rings_len, uint64_t words[FANRING_WORDS]);
 
 /* Premise: the stores are in order. As fanring_close_receiver: closes the receiver. Answers FANRING_DONE; or refused 6. */
-uint64_t fanring_inner_close_receiver(uint64_t *table, size_t table_len, const uint64_t *rings, size_t rings_len, uint64_t words[4]);
+uint64_t fanring_inner_close_receiver(uint64_t *table, size_t table_len, const uint64_t *rings, size_t rings_len, uint64_t words[FANRING_WORDS]);
 
 /* Premise: the stores are in order. As fanring_held: counts the items in rings of registered lanes. Answers FANRING_HELD. */
-uint64_t fanring_inner_held(const uint64_t *table, size_t table_len, const uint64_t *rings, size_t rings_len, uint64_t words[4]);
+uint64_t fanring_inner_held(const uint64_t *table, size_t table_len, const uint64_t *rings, size_t rings_len, uint64_t words[FANRING_WORDS]);
 
 #ifdef __cplusplus
 }

@@ -8,7 +8,7 @@
 #define STORES table, LENGTH(table), rings, LENGTH(rings)
 
 /* 2 slots at capacity 4 */
-static uint64_t table[24 * 2 + 512], rings[2 * 4], out[8], words[4];
+static uint64_t table[FANRING_TABLE_WORDS(2)], rings[FANRING_RING_WORDS(2, 4)], out[8], words[FANRING_WORDS];
 
 static void numbers(const char *word, const uint64_t *from, uint64_t count) {
     printf("%s", word);

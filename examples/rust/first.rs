@@ -3,15 +3,15 @@
 
 #[rustfmt::skip]
 unsafe extern "C" {
-    fn fanring_open(table: *mut u64, table_len: usize, rings: *const u64, rings_len: usize, capacity: u64, slots: u64, channel: u64, cursor: u64, generation: u64, words: *mut [u64; 4]) -> u64;
-    fn fanring_register_sender(table: *mut u64, table_len: usize, rings: *const u64, rings_len: usize, most: u64, words: *mut [u64; 4]) -> u64;
-    fn fanring_try_send(table: *mut u64, table_len: usize, rings: *mut u64, rings_len: usize, slot: u64, generation: u64, item: u64, words: *mut [u64; 4]) -> u64;
-    fn fanring_drop_sender(table: *mut u64, table_len: usize, rings: *const u64, rings_len: usize, slot: u64, generation: u64, words: *mut [u64; 4]) -> u64;
-    fn fanring_try_recv(table: *mut u64, table_len: usize, rings: *const u64, rings_len: usize, words: *mut [u64; 4]) -> u64;
-    fn fanring_inner_register_sender(table: *mut u64, table_len: usize, rings: *const u64, rings_len: usize, most: u64, words: *mut [u64; 4]) -> u64;
-    fn fanring_inner_try_send(table: *mut u64, table_len: usize, rings: *mut u64, rings_len: usize, slot: u64, generation: u64, item: u64, words: *mut [u64; 4]) -> u64;
-    fn fanring_inner_try_recv_batch_into(table: *mut u64, table_len: usize, rings: *const u64, rings_len: usize, out: *mut u64, out_len: usize, limit: u64, words: *mut [u64; 4]) -> u64;
-    fn fanring_inner_held(table: *const u64, table_len: usize, rings: *const u64, rings_len: usize, words: *mut [u64; 4]) -> u64;
+    fn fanring_open(table: *mut u64, table_len: usize, rings: *const u64, rings_len: usize, capacity: u64, slots: u64, channel: u64, cursor: u64, generation: u64, words: *mut [u64; 8]) -> u64;
+    fn fanring_register_sender(table: *mut u64, table_len: usize, rings: *const u64, rings_len: usize, most: u64, words: *mut [u64; 8]) -> u64;
+    fn fanring_try_send(table: *mut u64, table_len: usize, rings: *mut u64, rings_len: usize, slot: u64, generation: u64, item: u64, words: *mut [u64; 8]) -> u64;
+    fn fanring_drop_sender(table: *mut u64, table_len: usize, rings: *const u64, rings_len: usize, slot: u64, generation: u64, words: *mut [u64; 8]) -> u64;
+    fn fanring_try_recv(table: *mut u64, table_len: usize, rings: *const u64, rings_len: usize, words: *mut [u64; 8]) -> u64;
+    fn fanring_inner_register_sender(table: *mut u64, table_len: usize, rings: *const u64, rings_len: usize, most: u64, words: *mut [u64; 8]) -> u64;
+    fn fanring_inner_try_send(table: *mut u64, table_len: usize, rings: *mut u64, rings_len: usize, slot: u64, generation: u64, item: u64, words: *mut [u64; 8]) -> u64;
+    fn fanring_inner_try_recv_batch_into(table: *mut u64, table_len: usize, rings: *const u64, rings_len: usize, out: *mut u64, out_len: usize, limit: u64, words: *mut [u64; 8]) -> u64;
+    fn fanring_inner_held(table: *const u64, table_len: usize, rings: *const u64, rings_len: usize, words: *mut [u64; 8]) -> u64;
 }
 
 fn numbers(word: &str, from: &[u64]) -> String {
@@ -19,7 +19,7 @@ fn numbers(word: &str, from: &[u64]) -> String {
 }
 
 /// The answer's line.
-fn line(tag: u64, words: &[u64; 4], out: &[u64]) -> String {
+fn line(tag: u64, words: &[u64; 8], out: &[u64]) -> String {
     match tag {
         0 => "done".to_string(),
         1 => numbers("lane", &words[..2]),
@@ -38,7 +38,7 @@ struct Stores {
     table: [u64; 24 * 2 + 512],
     rings: [u64; 2 * 4],
     out: [u64; 8],
-    words: [u64; 4],
+    words: [u64; 8],
 }
 
 /// Makes a call on the stores, and prints its answer.
@@ -76,7 +76,7 @@ fn inner(s: &mut Stores) {
 }
 
 fn main() {
-    let mut stores = Stores { table: [0; 24 * 2 + 512], rings: [0; 2 * 4], out: [0; 8], words: [0; 4] };
+    let mut stores = Stores { table: [0; 24 * 2 + 512], rings: [0; 2 * 4], out: [0; 8], words: [0; 8] };
     checked(&mut stores);
     inner(&mut stores);
 }

@@ -1,5 +1,6 @@
 //! An answer of the library, read from its tag and words.
 
+use crate::calls::Words;
 use crate::{LaneId, LaneKey};
 
 /// An answer, as the library gives it.
@@ -21,7 +22,7 @@ pub(crate) enum Answer {
 
 impl Answer {
     #[inline]
-    pub(crate) fn read(tag: u64, words: [u64; 4]) -> Self {
+    pub(crate) fn read(tag: u64, words: Words) -> Self {
         let key = |slot, generation| LaneKey { slot, generation };
         let lane = LaneId { channel_id: words[1], key: key(words[2], words[3]) };
         match tag {

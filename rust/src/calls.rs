@@ -10,6 +10,7 @@ mod tests;
 use crate::answer::Answer;
 use crate::{Opening, Stores};
 use library::fanring_open;
+pub(crate) use library::Words;
 
 // The library's numbers are u64, and a slice's length is one of them.
 const _: () = assert!(usize::BITS == 64);
@@ -19,8 +20,8 @@ const _: () = assert!(usize::BITS == 64);
 /// They are so from the start and stay so: `open` makes one of these only where the opening was accepted, and every
 /// other function makes one inner call, which keeps them in order. `crate::Channel` names the theorems.
 ///
-/// Each call lends the two stores whole, with their lengths, and four words of its own. They are three objects, so they
-/// do not overlap; and `&mut self`, or `&self` where nothing is written, keeps others away meanwhile.
+/// Each call lends the two stores whole, with their lengths, and words of its own for the answer. They are three
+/// objects, so they do not overlap; and `&mut self`, or `&self` where nothing is written, keeps others away meanwhile.
 pub(crate) struct StoresInOrder {
     stores: Stores,
 }
@@ -29,7 +30,7 @@ impl StoresInOrder {
     /// The stores in order, or the refusal's number and the stores as they were.
     pub(crate) fn open(opening: &Opening, mut stores: Stores) -> Result<Self, (u64, Stores)> {
         let Stores { table, rings } = &mut stores;
-        let mut words = [0; 4];
+        let mut words = Words::default();
         // SAFETY: the opening has no premise on what the stores hold. The slices are whole and apart.
         let tag = unsafe {
             fanring_open(
@@ -42,7 +43,7 @@ impl StoresInOrder {
                 opening.channel_id,
                 opening.first_cursor,
                 opening.first_generation,
-                words.as_mut_ptr(),
+                &mut words,
             )
         };
         match Answer::read(tag, words) {

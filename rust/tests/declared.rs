@@ -1,5 +1,5 @@
-//! The functions that this crate declares are those of include/fanring.h, parameter by parameter. tests/header of the
-//! repository holds that file to crates `cfanring` and `cinner`.
+//! The functions that this crate declares are those of include/fanring.h, parameter by parameter, and it lends as many
+//! words for an answer. tests/header of the repository holds that file to crates `c_checked` and `c_inner`.
 
 use std::collections::BTreeMap;
 use std::fs;
@@ -10,9 +10,15 @@ fn read(path: &str) -> String {
     fs::read_to_string(&path).unwrap_or_else(|error| panic!("{}: {error}", path.display()))
 }
 
+/// With one space wherever there is space.
+fn on_one_line(text: &str) -> String {
+    text.split_whitespace().collect::<Vec<_>>().join(" ")
+}
+
 /// Function to parameters, of all that stands as `NAME(PARAMETERS` before such an end.
 fn functions(text: &str, end: &str) -> BTreeMap<String, Vec<String>> {
-    text.split(end)
+    on_one_line(text)
+        .split(end)
         .filter_map(|piece| piece.rsplit_once('('))
         .filter_map(|(before, parameters)| Some((before.split_whitespace().last()?, parameters)))
         .filter(|(name, _)| name.starts_with("fanring_"))
@@ -21,16 +27,16 @@ fn functions(text: &str, end: &str) -> BTreeMap<String, Vec<String>> {
 }
 
 fn items(parameters: &str) -> Vec<String> {
-    let words = |item: &str| item.split_whitespace().collect::<Vec<_>>().join(" ");
-    parameters.split(',').map(words).filter(|item| !item.is_empty()).collect()
+    parameters.split(',').map(on_one_line).filter(|item| !item.is_empty()).collect()
 }
 
 /// A parameter of C as Rust has it.
 fn in_rust(parameter: &str) -> String {
     let (kind, name) = parameter.rsplit_once(' ').expect("a type and a name");
-    match (kind, name.strip_prefix('*'), name.strip_suffix("[4]")) {
+    match (kind, name.strip_prefix('*'), name.strip_suffix("[FANRING_WORDS]")) {
         ("const uint64_t", Some(name), None) => format!("{name}: *const u64"),
-        ("uint64_t", Some(name), None) | ("uint64_t", None, Some(name)) => format!("{name}: *mut u64"),
+        ("uint64_t", Some(name), None) => format!("{name}: *mut u64"),
+        ("uint64_t", None, Some(name)) => format!("{name}: *mut Words"),
         ("uint64_t", None, None) => format!("{name}: u64"),
         ("size_t", None, None) => format!("{name}: usize"),
         _ => panic!("no such parameter: {parameter}"),
@@ -47,4 +53,15 @@ fn as_in_the_header() {
         let expected: Vec<String> = header[&name].iter().map(|parameter| in_rust(parameter)).collect();
         assert_eq!(parameters, expected, "of {name}");
     }
+}
+
+#[test]
+fn as_many_words() {
+    let lent = |path: &str, before: &str, after: &str| {
+        let text = read(path);
+        let (_, rest) = text.split_once(before).expect("the number is there");
+        rest.split_once(after).expect("it ends").0.to_string()
+    };
+    let header = lent("../include/fanring.h", "#define FANRING_WORDS ", "\n");
+    assert_eq!(lent("src/calls/library.rs", "type Words = [u64; ", "]"), header);
 }

@@ -2,7 +2,7 @@
 
 use std::time::Duration;
 
-use crate::calls::{self, CHECKED, INNER, Stores, Words};
+use crate::calls::{self, CHECKED, INNER, Stores, WORDS, Words};
 use crate::memory::Guarded;
 use crate::order::in_order;
 use crate::records::{self, Answer, Record};
@@ -56,7 +56,7 @@ impl Bench {
             table: Guarded::new(MOST_TABLE),
             rings: Guarded::new(MOST_RINGS),
             output: Guarded::new(MOST_OUTPUT),
-            words: Guarded::new(4),
+            words: Guarded::new(WORDS),
             table_before: Vec::new(),
             rings_before: Vec::new(),
             output_before: Vec::new(),
@@ -70,7 +70,7 @@ impl Bench {
         lend(&mut self.table, &mut self.table_before, table, in_front);
         lend(&mut self.rings, &mut self.rings_before, rings, in_front);
         lend(&mut self.output, &mut self.output_before, output, in_front);
-        self.words.place(4, in_front);
+        self.words.place(WORDS, in_front);
         self.ordered = None;
     }
 
@@ -94,7 +94,7 @@ impl Bench {
     /// Makes a checked call and looks at all it left.
     pub fn call(&mut self, record: &Record) -> Answer {
         self.words.words().fill(UNSET);
-        let words: &mut Words = self.words.words().try_into().expect("four words");
+        let words: &mut Words = self.words.words().try_into().expect("as many words as were placed");
         let mut stores = Stores { table: self.table.words(), rings: self.rings.words(), output: self.output.words() };
         let begin = watch::begin();
         let tag = if record.kind == records::OPEN {
@@ -187,7 +187,7 @@ impl Bench {
     /// Makes an inner call, on stores that are in order.
     pub fn inner(&mut self, record: &Record) -> Answer {
         assert_eq!(self.ordered, Some(true));
-        let words: &mut Words = self.words.words().try_into().expect("four words");
+        let words: &mut Words = self.words.words().try_into().expect("as many words as were placed");
         let mut stores = Stores { table: self.table.words(), rings: self.rings.words(), output: self.output.words() };
         let tag = INNER.call(&mut stores, record, words);
         calls::answer(tag, words, stores.output)

@@ -10,7 +10,7 @@ static CALLS: AtomicU64 = AtomicU64::new(0);
 static WITHIN: AtomicBool = AtomicBool::new(false);
 
 /// A call takes at most so many seconds.
-const LONGEST: u64 = 20;
+const LONGEST: u64 = 10;
 
 #[repr(C)]
 struct Timespec {

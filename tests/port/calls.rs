@@ -1,8 +1,10 @@
-//! The calls of the static library, checked ones and inner ones: a slice goes as pointer and length, an answer comes as a tag with its numbers in four lent words.
+//! The calls of the static library, checked ones and inner ones: a slice goes as pointer and length, an answer comes as a tag with its numbers in lent words.
 
 use crate::records::{self, Answer, Record};
 
-pub type Words = [u64; 4];
+/// `FANRING_WORDS` of include/fanring.h.
+pub const WORDS: usize = 8;
+pub type Words = [u64; WORDS];
 
 type Bare = unsafe extern "C" fn(*mut u64, usize, *const u64, usize, *mut Words) -> u64;
 type OneNumber = unsafe extern "C" fn(*mut u64, usize, *const u64, usize, u64, *mut Words) -> u64;
@@ -133,7 +135,7 @@ impl Calls {
 
 /// An answer's tag and words read. The channel of an item's lane is not part of document 01's line.
 pub fn answer(tag: u64, words: &Words, output: &[u64]) -> Answer {
-    let [a, b, c, d] = *words;
+    let [a, b, c, d, ..] = *words;
     match tag {
         0 => Answer::Done,
         1 => Answer::Lane(a, b),

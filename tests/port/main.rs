@@ -10,7 +10,7 @@ mod calls;
 #[path = "../streams/records.rs"]
 mod records;
 
-use calls::{CHECKED, Calls, INNER, Stores, Words};
+use calls::{CHECKED, Calls, INNER, Stores, WORDS, Words};
 use records::{Answer, Lent, Record};
 
 struct Port {
@@ -58,7 +58,7 @@ fn main() -> std::io::Result<()> {
         table: arbitrary(lent.table),
         rings: arbitrary(lent.rings),
         output: arbitrary(lent.output),
-        words: [0; 4],
+        words: [0; WORDS],
         calls: if inner { &INNER } else { &CHECKED },
         channel: None,
         inner,

@@ -1,4 +1,4 @@
--- An answer as C gets it: the call returns a tag, and puts the answer's numbers into the first of four lent words.
+-- An answer as C gets it: the call returns a tag, and puts the answer's numbers into the first of the lent words.
 -- Assumes nothing.
 use mathlib.Core.List.{List}
 use Prim.Native.Nat.{ℕ}
@@ -20,7 +20,7 @@ tag Disconnected = 6
 tag (Held n) = 7
 tag (Refused why) = 8
 
--- the four words after the call, of those before it; words that an answer does not use are as they were
+-- the lent words after the call, of those before it; words that an answer does not use are as they were
 unfoldable pub put : Answer → List ℕ → List ℕ
 put Done ws = ws
 -- "`lane 0 0` (slot, generation)"
@@ -37,7 +37,7 @@ put Disconnected ws = ws
 put (Held n) ws = set ws 0 n
 put (Refused why) ws = set ws 0 (number why)
 
--- "each exported call states its result, the next state and every word of the lent stores and output": the tag, the four words and the two stores, where w is what the call leaves
+-- "each exported call states its result, the next state and every word of the lent stores and output": the tag, the lent words and the two stores, where w is what the call leaves
 unfoldable pub told : List ℕ → Words → ℕ × List ℕ × List ℕ × List ℕ
 told ws w = (tag (w .0), put (w .0) ws, w .1, w .2)
 

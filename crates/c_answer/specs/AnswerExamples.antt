@@ -1,4 +1,4 @@
--- Each kind of answer as C gets it, where the four words held 9 before.
+-- Each kind of answer as C gets it, where the eight words held 9 before.
 -- Assumes nothing.
 use mathlib.Core.Path.{_≡_, refl}
 use mathlib.Core.Bool.{true}
@@ -19,19 +19,19 @@ id : LaneId
 id = record { channel = 7; key = record { slot = 3; generation = 8 } }
 
 gets : Answer → List ℕ
-gets a = tag a ∷ put a (9 ∷ 9 ∷ 9 ∷ 9 ∷ [])
+gets a = tag a ∷ put a (9 ∷ 9 ∷ 9 ∷ 9 ∷ 9 ∷ 9 ∷ 9 ∷ 9 ∷ [])
 
 answers-told :
     map gets (Done ∷ Registered key ∷ Taken true ∷ Item 11 id ∷ Items 2 ∷ Empty ∷ Disconnected ∷ Held 5 ∷ Refused Full ∷ [])
-    ≡ (0 ∷ 9 ∷ 9 ∷ 9 ∷ 9 ∷ [])
-    ∷ (1 ∷ 3 ∷ 8 ∷ 9 ∷ 9 ∷ [])
-    ∷ (2 ∷ 1 ∷ 9 ∷ 9 ∷ 9 ∷ [])
-    ∷ (3 ∷ 11 ∷ 7 ∷ 3 ∷ 8 ∷ [])
-    ∷ (4 ∷ 2 ∷ 9 ∷ 9 ∷ 9 ∷ [])
-    ∷ (5 ∷ 9 ∷ 9 ∷ 9 ∷ 9 ∷ [])
-    ∷ (6 ∷ 9 ∷ 9 ∷ 9 ∷ 9 ∷ [])
-    ∷ (7 ∷ 5 ∷ 9 ∷ 9 ∷ 9 ∷ [])
-    ∷ (8 ∷ 11 ∷ 9 ∷ 9 ∷ 9 ∷ [])
+    ≡ (0 ∷ 9 ∷ 9 ∷ 9 ∷ 9 ∷ 9 ∷ 9 ∷ 9 ∷ 9 ∷ [])
+    ∷ (1 ∷ 3 ∷ 8 ∷ 9 ∷ 9 ∷ 9 ∷ 9 ∷ 9 ∷ 9 ∷ [])
+    ∷ (2 ∷ 1 ∷ 9 ∷ 9 ∷ 9 ∷ 9 ∷ 9 ∷ 9 ∷ 9 ∷ [])
+    ∷ (3 ∷ 11 ∷ 7 ∷ 3 ∷ 8 ∷ 9 ∷ 9 ∷ 9 ∷ 9 ∷ [])
+    ∷ (4 ∷ 2 ∷ 9 ∷ 9 ∷ 9 ∷ 9 ∷ 9 ∷ 9 ∷ 9 ∷ [])
+    ∷ (5 ∷ 9 ∷ 9 ∷ 9 ∷ 9 ∷ 9 ∷ 9 ∷ 9 ∷ 9 ∷ [])
+    ∷ (6 ∷ 9 ∷ 9 ∷ 9 ∷ 9 ∷ 9 ∷ 9 ∷ 9 ∷ 9 ∷ [])
+    ∷ (7 ∷ 5 ∷ 9 ∷ 9 ∷ 9 ∷ 9 ∷ 9 ∷ 9 ∷ 9 ∷ [])
+    ∷ (8 ∷ 11 ∷ 9 ∷ 9 ∷ 9 ∷ 9 ∷ 9 ∷ 9 ∷ 9 ∷ [])
     ∷ []
 unfolding gets key id tag put number
 answers-told = refl

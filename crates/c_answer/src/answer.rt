@@ -1,13 +1,12 @@
-// An answer as a tag and four words.
+// An answer as a tag and words.
 ghost use mathlib.Core.Path.{_≡_};
 ghost use Rattle.c_answer.specs.Answer.{tag, put};
 ghost use lib.ListN.{set};
 use model::Answer;
 use model::LaneId;
 use model::LaneKey;
-use wire::line;
 
-fn put_key(words: &mut [u64; 4], key: LaneKey) -> u64
+fn put_key(words: &mut [u64; 8], key: LaneKey) -> u64
     ensures { λ r. ⌜ r ≡ 1 ⌝ }
     ensures { λ _. ⌜ now (words .exit) ≡ set (set (now (words .entry)) 0 (key .slot)) 1 (key .generation) ⌝ }
 {
@@ -16,7 +15,7 @@ fn put_key(words: &mut [u64; 4], key: LaneKey) -> u64
     1
 }
 
-fn put_item(words: &mut [u64; 4], item: u64, lane: LaneId) -> u64
+fn put_item(words: &mut [u64; 8], item: u64, lane: LaneId) -> u64
     ensures { λ r. ⌜ r ≡ 3 ⌝ }
     ensures { λ _. ⌜ now (words .exit) ≡ set (set (set (set (now (words .entry)) 0 item) 1 (lane .channel)) 2 (lane .key .slot)) 3 (lane .key .generation) ⌝ }
 {
@@ -28,7 +27,7 @@ fn put_item(words: &mut [u64; 4], item: u64, lane: LaneId) -> u64
 }
 
 // One number, and the tag that the answer has.
-fn put_one(words: &mut [u64; 4], number: u64, kind: u64) -> u64
+fn put_one(words: &mut [u64; 8], number: u64, kind: u64) -> u64
     ensures { λ r. ⌜ r ≡ kind ⌝ }
     ensures { λ _. ⌜ now (words .exit) ≡ set (now (words .entry)) 0 number ⌝ }
 {
@@ -37,7 +36,7 @@ fn put_one(words: &mut [u64; 4], number: u64, kind: u64) -> u64
 }
 
 // The tag; the numbers go to the words.
-pub fn tell(answer: Answer, words: &mut [u64; 4]) -> u64
+pub fn tell(answer: Answer, words: &mut [u64; 8]) -> u64
     ensures { λ r. ⌜ r ≡ tag answer ⌝ }
     ensures { λ _. ⌜ now (words .exit) ≡ put answer (now (words .entry)) ⌝ }
 {
@@ -50,6 +49,6 @@ pub fn tell(answer: Answer, words: &mut [u64; 4]) -> u64
         Answer::Empty => 5,
         Answer::Disconnected => 6,
         Answer::Held { count } => put_one(words, count, 7),
-        Answer::Refused { why } => put_one(words, line::number_of(why), 8),
+        Answer::Refused { why } => put_one(words, why.number(), 8),
     }
 }

@@ -1,2 +1,2 @@
-// An answer for C and Rust to read: a tag, with its numbers in four lent words.
+// An answer for C and Rust to read: a tag, with its numbers in lent words.
 pub mod answer;

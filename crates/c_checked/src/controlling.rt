@@ -1,9 +1,10 @@
-// The calls that hand nothing out, on any stores.
+// The checked calls that hand nothing out, on any stores.
 ghost use mathlib.Core.Path.{_≡_};
 ghost use Rattle.fanring.specs.Runs.{checkedWords};
 ghost use Rattle.model.specs.declared.ControlCall.the-variants.{CloseLane, CloseReceiver, CountHeld, Pause, PollAllLanes, ReleaseConsumed, Resume};
 ghost use Rattle.model.specs.declared.Call.the-variants.{Control};
 ghost use Rattle.c_answer.specs.Answer.{told};
+ghost use Rattle.c_answer.specs.Numbers.{laneId};
 use c_answer::answer;
 use fanring::batch;
 use fanring::lane_control;
@@ -19,9 +20,9 @@ pub extern "C" fn fanring_pause(
     channel: u64,
     slot: u64,
     generation: u64,
-    words: &mut [u64; 4],
+    words: &mut [u64; 8],
 ) -> u64
-    ensures { λ a. ⌜ (a, now (words .exit), now (table .exit), now (rings .entry)) ≡ told (now (words .entry)) (checkedWords (now (table .entry)) (now (rings .entry)) (Control (Pause (record { channel = channel; key = record { slot = slot; generation = generation } })))) ⌝ }
+    ensures { λ a. ⌜ (a, now (words .exit), now (table .exit), now (rings .entry)) ≡ told (now (words .entry)) (checkedWords (now (table .entry)) (now (rings .entry)) (Control (Pause (laneId channel slot generation)))) ⌝ }
 {
     let done = lane_control::pause(
         table,
@@ -45,9 +46,9 @@ pub extern "C" fn fanring_resume(
     channel: u64,
     slot: u64,
     generation: u64,
-    words: &mut [u64; 4],
+    words: &mut [u64; 8],
 ) -> u64
-    ensures { λ a. ⌜ (a, now (words .exit), now (table .exit), now (rings .entry)) ≡ told (now (words .entry)) (checkedWords (now (table .entry)) (now (rings .entry)) (Control (Resume (record { channel = channel; key = record { slot = slot; generation = generation } })))) ⌝ }
+    ensures { λ a. ⌜ (a, now (words .exit), now (table .exit), now (rings .entry)) ≡ told (now (words .entry)) (checkedWords (now (table .entry)) (now (rings .entry)) (Control (Resume (laneId channel slot generation)))) ⌝ }
 {
     let done = lane_control::resume(
         table,
@@ -71,9 +72,9 @@ pub extern "C" fn fanring_close_lane(
     channel: u64,
     slot: u64,
     generation: u64,
-    words: &mut [u64; 4],
+    words: &mut [u64; 8],
 ) -> u64
-    ensures { λ a. ⌜ (a, now (words .exit), now (table .exit), now (rings .entry)) ≡ told (now (words .entry)) (checkedWords (now (table .entry)) (now (rings .entry)) (Control (CloseLane (record { channel = channel; key = record { slot = slot; generation = generation } })))) ⌝ }
+    ensures { λ a. ⌜ (a, now (words .exit), now (table .exit), now (rings .entry)) ≡ told (now (words .entry)) (checkedWords (now (table .entry)) (now (rings .entry)) (Control (CloseLane (laneId channel slot generation)))) ⌝ }
 {
     let done = lane_control::close_lane(
         table,
@@ -94,7 +95,7 @@ pub extern "C" fn fanring_close_lane(
 pub extern "C" fn fanring_release_consumed(
     table: &mut [u64],
     rings: &[u64],
-    words: &mut [u64; 4],
+    words: &mut [u64; 8],
 ) -> u64
     ensures { λ a. ⌜ (a, now (words .exit), now (table .exit), now (rings .entry)) ≡ told (now (words .entry)) (checkedWords (now (table .entry)) (now (rings .entry)) (Control ReleaseConsumed)) ⌝ }
 {
@@ -107,7 +108,7 @@ pub extern "C" fn fanring_release_consumed(
 pub extern "C" fn fanring_poll_all_lanes(
     table: &mut [u64],
     rings: &[u64],
-    words: &mut [u64; 4],
+    words: &mut [u64; 8],
 ) -> u64
     ensures { λ a. ⌜ (a, now (words .exit), now (table .exit), now (rings .entry)) ≡ told (now (words .entry)) (checkedWords (now (table .entry)) (now (rings .entry)) (Control PollAllLanes)) ⌝ }
 {
@@ -120,7 +121,7 @@ pub extern "C" fn fanring_poll_all_lanes(
 pub extern "C" fn fanring_close_receiver(
     table: &mut [u64],
     rings: &[u64],
-    words: &mut [u64; 4],
+    words: &mut [u64; 8],
 ) -> u64
     ensures { λ a. ⌜ (a, now (words .exit), now (table .exit), now (rings .entry)) ≡ told (now (words .entry)) (checkedWords (now (table .entry)) (now (rings .entry)) (Control CloseReceiver)) ⌝ }
 {
@@ -130,7 +131,7 @@ pub extern "C" fn fanring_close_receiver(
 
 // The number of items in rings of registered lanes.
 #[no_mangle]
-pub extern "C" fn fanring_held(table: &[u64], rings: &[u64], words: &mut [u64; 4]) -> u64
+pub extern "C" fn fanring_held(table: &[u64], rings: &[u64], words: &mut [u64; 8]) -> u64
     ensures { λ a. ⌜ (a, now (words .exit), now (table .entry), now (rings .entry)) ≡ told (now (words .entry)) (checkedWords (now (table .entry)) (now (rings .entry)) (Control CountHeld)) ⌝ }
 {
     let done = recv::held(table, rings);

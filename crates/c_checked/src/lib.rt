@@ -1,4 +1,4 @@
-// The calls on any stores, for C and Rust to link.
+// The checked calls, on any stores, for C and Rust to link.
 pub mod controlling;
 pub mod receiving;
 pub mod sending;

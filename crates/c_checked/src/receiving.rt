@@ -1,11 +1,12 @@
-// The receives, on any stores.
+// The checked receives, on any stores.
 ghost use mathlib.Core.Path.{_≡_};
-ghost use Rattle.fanring.specs.Runs.{checkedWords};
-ghost use Rattle.model.specs.declared.ReceiveCall.the-variants.{TryRecv, TryRecvFair, TryRecvFrom};
+ghost use lib.ListN.{length};
+ghost use Rattle.model.specs.declared.ReceiveCall.the-variants.{TryRecv, TryRecvBatchInto, TryRecvFair, TryRecvFrom};
 ghost use Rattle.model.specs.declared.Call.the-variants.{Receive};
-ghost use Rattle.receive_batch.specs.Batch.{batchInto};
-ghost use Rattle.fanring.specs.Checked.{checkedInto};
+ghost use Rattle.refinement.specs.Runs.{receiveInto};
+ghost use Rattle.fanring.specs.Runs.{checkedCalls, checkedWords};
 ghost use Rattle.c_answer.specs.Answer.{told, toldInto};
+ghost use Rattle.c_answer.specs.Numbers.{laneId};
 use c_answer::answer;
 use fanring::batch;
 use fanring::lane_control;
@@ -15,7 +16,7 @@ use model::LaneKey;
 
 // Receives one item.
 #[no_mangle]
-pub extern "C" fn fanring_try_recv(table: &mut [u64], rings: &[u64], words: &mut [u64; 4]) -> u64
+pub extern "C" fn fanring_try_recv(table: &mut [u64], rings: &[u64], words: &mut [u64; 8]) -> u64
     ensures { λ a. ⌜ (a, now (words .exit), now (table .exit), now (rings .entry)) ≡ told (now (words .entry)) (checkedWords (now (table .entry)) (now (rings .entry)) (Receive TryRecv)) ⌝ }
 {
     let done = recv::try_recv(table, rings);
@@ -27,7 +28,7 @@ pub extern "C" fn fanring_try_recv(table: &mut [u64], rings: &[u64], words: &mut
 pub extern "C" fn fanring_try_recv_fair(
     table: &mut [u64],
     rings: &[u64],
-    words: &mut [u64; 4],
+    words: &mut [u64; 8],
 ) -> u64
     ensures { λ a. ⌜ (a, now (words .exit), now (table .exit), now (rings .entry)) ≡ told (now (words .entry)) (checkedWords (now (table .entry)) (now (rings .entry)) (Receive TryRecvFair)) ⌝ }
 {
@@ -43,9 +44,9 @@ pub extern "C" fn fanring_try_recv_from(
     channel: u64,
     slot: u64,
     generation: u64,
-    words: &mut [u64; 4],
+    words: &mut [u64; 8],
 ) -> u64
-    ensures { λ a. ⌜ (a, now (words .exit), now (table .exit), now (rings .entry)) ≡ told (now (words .entry)) (checkedWords (now (table .entry)) (now (rings .entry)) (Receive (TryRecvFrom (record { channel = channel; key = record { slot = slot; generation = generation } })))) ⌝ }
+    ensures { λ a. ⌜ (a, now (words .exit), now (table .exit), now (rings .entry)) ≡ told (now (words .entry)) (checkedWords (now (table .entry)) (now (rings .entry)) (Receive (TryRecvFrom (laneId channel slot generation)))) ⌝ }
 {
     let done = lane_control::try_recv_from(
         table,
@@ -68,9 +69,9 @@ pub extern "C" fn fanring_try_recv_batch_into(
     rings: &[u64],
     out: &mut [u64],
     limit: u64,
-    words: &mut [u64; 4],
+    words: &mut [u64; 8],
 ) -> u64
-    ensures { λ a. ⌜ (a, now (words .exit), now (table .exit), now (rings .entry), now (out .exit)) ≡ toldInto (now (words .entry)) (checkedInto (now (table .entry)) (now (rings .entry)) (now (out .entry)) (batchInto (now (table .entry)) (now (rings .entry)) (now (out .entry)) limit)) ⌝ }
+    ensures { λ a. ⌜ (a, now (words .exit), now (table .exit), now (rings .entry), now (out .exit)) ≡ toldInto (now (words .entry)) (receiveInto checkedCalls (now (table .entry)) (now (rings .entry)) (TryRecvBatchInto limit (length (now (out .entry)))) (now (out .entry))) ⌝ }
 {
     let done = batch::try_recv_batch_into(table, rings, out, limit);
     answer::tell(done, words)

@@ -1,10 +1,11 @@
-// Opening and the sender calls, on any stores.
+// Opening and the checked sender calls, on any stores.
 ghost use mathlib.Core.Path.{_≡_};
 ghost use Rattle.fanring.specs.Runs.{checkedWords};
 ghost use Rattle.model.specs.declared.SenderCall.the-variants.{DropSender, RegisterSender, TrySend, TrySendUnsignaled};
 ghost use Rattle.model.specs.declared.Call.the-variants.{Sender};
 ghost use Rattle.opening.specs.Opening.{openStore};
 ghost use Rattle.c_answer.specs.Answer.{told};
+ghost use Rattle.c_answer.specs.Numbers.{laneKey};
 use c_answer::answer;
 use fanring::mpsc;
 use fanring::send;
@@ -21,7 +22,7 @@ pub extern "C" fn fanring_open(
     channel: u64,
     cursor: u64,
     generation: u64,
-    words: &mut [u64; 4],
+    words: &mut [u64; 8],
 ) -> u64
     ensures { λ a. ⌜ (a, now (words .exit), now (table .exit), now (rings .entry)) ≡ told (now (words .entry)) (openStore (record { capacity = capacity; slots = slots; channel = channel; cursor = cursor; generation = generation }) (now (table .entry)) (now (rings .entry))) ⌝ }
 {
@@ -45,7 +46,7 @@ pub extern "C" fn fanring_register_sender(
     table: &mut [u64],
     rings: &[u64],
     most: u64,
-    words: &mut [u64; 4],
+    words: &mut [u64; 8],
 ) -> u64
     ensures { λ a. ⌜ (a, now (words .exit), now (table .exit), now (rings .entry)) ≡ told (now (words .entry)) (checkedWords (now (table .entry)) (now (rings .entry)) (Sender (RegisterSender most))) ⌝ }
 {
@@ -61,9 +62,9 @@ pub extern "C" fn fanring_try_send(
     slot: u64,
     generation: u64,
     item: u64,
-    words: &mut [u64; 4],
+    words: &mut [u64; 8],
 ) -> u64
-    ensures { λ a. ⌜ (a, now (words .exit), now (table .exit), now (rings .exit)) ≡ told (now (words .entry)) (checkedWords (now (table .entry)) (now (rings .entry)) (Sender (TrySend (record { slot = slot; generation = generation }) item))) ⌝ }
+    ensures { λ a. ⌜ (a, now (words .exit), now (table .exit), now (rings .exit)) ≡ told (now (words .entry)) (checkedWords (now (table .entry)) (now (rings .entry)) (Sender (TrySend (laneKey slot generation) item))) ⌝ }
 {
     let done = send::try_send(
         table,
@@ -85,9 +86,9 @@ pub extern "C" fn fanring_try_send_unsignaled(
     slot: u64,
     generation: u64,
     item: u64,
-    words: &mut [u64; 4],
+    words: &mut [u64; 8],
 ) -> u64
-    ensures { λ a. ⌜ (a, now (words .exit), now (table .exit), now (rings .exit)) ≡ told (now (words .entry)) (checkedWords (now (table .entry)) (now (rings .entry)) (Sender (TrySendUnsignaled (record { slot = slot; generation = generation }) item))) ⌝ }
+    ensures { λ a. ⌜ (a, now (words .exit), now (table .exit), now (rings .exit)) ≡ told (now (words .entry)) (checkedWords (now (table .entry)) (now (rings .entry)) (Sender (TrySendUnsignaled (laneKey slot generation) item))) ⌝ }
 {
     let done = send::try_send_unsignaled(
         table,
@@ -108,9 +109,9 @@ pub extern "C" fn fanring_drop_sender(
     rings: &[u64],
     slot: u64,
     generation: u64,
-    words: &mut [u64; 4],
+    words: &mut [u64; 8],
 ) -> u64
-    ensures { λ a. ⌜ (a, now (words .exit), now (table .exit), now (rings .entry)) ≡ told (now (words .entry)) (checkedWords (now (table .entry)) (now (rings .entry)) (Sender (DropSender (record { slot = slot; generation = generation })))) ⌝ }
+    ensures { λ a. ⌜ (a, now (words .exit), now (table .exit), now (rings .entry)) ≡ told (now (words .entry)) (checkedWords (now (table .entry)) (now (rings .entry)) (Sender (DropSender (laneKey slot generation)))) ⌝ }
 {
     let done = send::drop_sender(
         table,

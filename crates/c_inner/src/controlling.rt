@@ -1,9 +1,11 @@
-// The calls that hand nothing out, on stores in order, as an accepted opening and every call leave them.
+// The inner calls that hand nothing out, on stores in order, as an accepted opening and every call leave them.
 ghost use mathlib.Core.Path.{_≡_};
 ghost use Rattle.store.specs.Order.{StoreInOrder};
-ghost use Rattle.control.specs.Control.{pause, resume, closeLane, closeReceiver};
-ghost use Rattle.all_lanes.specs.AllLanes.{releaseConsumed, pollAllLanes, countHeld};
+ghost use Rattle.model.specs.declared.ControlCall.the-variants.{CloseLane, CloseReceiver, CountHeld, Pause, PollAllLanes, ReleaseConsumed, Resume};
+ghost use Rattle.model.specs.declared.Call.the-variants.{Control};
+ghost use Rattle.refinement.specs.Runs.{callWords};
 ghost use Rattle.c_answer.specs.Answer.{told};
+ghost use Rattle.c_answer.specs.Numbers.{laneId};
 use c_answer::answer;
 use control::lane_control;
 use model::LaneId;
@@ -17,10 +19,10 @@ pub extern "C" fn fanring_inner_pause(
     channel: u64,
     slot: u64,
     generation: u64,
-    words: &mut [u64; 4],
+    words: &mut [u64; 8],
 ) -> u64
     requires { ⌜ StoreInOrder (now table) (now rings) ⌝ }
-    ensures { λ a. ⌜ (a, now (words .exit), now (table .exit), now (rings .entry)) ≡ told (now (words .entry)) (pause (now (table .entry)) (now (rings .entry)) (record { channel = channel; key = record { slot = slot; generation = generation } })) ⌝ }
+    ensures { λ a. ⌜ (a, now (words .exit), now (table .exit), now (rings .entry)) ≡ told (now (words .entry)) (callWords (now (table .entry)) (now (rings .entry)) (Control (Pause (laneId channel slot generation)))) ⌝ }
 {
     let done = lane_control::pause(
         table,
@@ -44,10 +46,10 @@ pub extern "C" fn fanring_inner_resume(
     channel: u64,
     slot: u64,
     generation: u64,
-    words: &mut [u64; 4],
+    words: &mut [u64; 8],
 ) -> u64
     requires { ⌜ StoreInOrder (now table) (now rings) ⌝ }
-    ensures { λ a. ⌜ (a, now (words .exit), now (table .exit), now (rings .entry)) ≡ told (now (words .entry)) (resume (now (table .entry)) (now (rings .entry)) (record { channel = channel; key = record { slot = slot; generation = generation } })) ⌝ }
+    ensures { λ a. ⌜ (a, now (words .exit), now (table .exit), now (rings .entry)) ≡ told (now (words .entry)) (callWords (now (table .entry)) (now (rings .entry)) (Control (Resume (laneId channel slot generation)))) ⌝ }
 {
     let done = lane_control::resume(
         table,
@@ -71,10 +73,10 @@ pub extern "C" fn fanring_inner_close_lane(
     channel: u64,
     slot: u64,
     generation: u64,
-    words: &mut [u64; 4],
+    words: &mut [u64; 8],
 ) -> u64
     requires { ⌜ StoreInOrder (now table) (now rings) ⌝ }
-    ensures { λ a. ⌜ (a, now (words .exit), now (table .exit), now (rings .entry)) ≡ told (now (words .entry)) (closeLane (now (table .entry)) (now (rings .entry)) (record { channel = channel; key = record { slot = slot; generation = generation } })) ⌝ }
+    ensures { λ a. ⌜ (a, now (words .exit), now (table .exit), now (rings .entry)) ≡ told (now (words .entry)) (callWords (now (table .entry)) (now (rings .entry)) (Control (CloseLane (laneId channel slot generation)))) ⌝ }
 {
     let done = lane_control::close_lane(
         table,
@@ -95,10 +97,10 @@ pub extern "C" fn fanring_inner_close_lane(
 pub extern "C" fn fanring_inner_release_consumed(
     table: &mut [u64],
     rings: &[u64],
-    words: &mut [u64; 4],
+    words: &mut [u64; 8],
 ) -> u64
     requires { ⌜ StoreInOrder (now table) (now rings) ⌝ }
-    ensures { λ a. ⌜ (a, now (words .exit), now (table .exit), now (rings .entry)) ≡ told (now (words .entry)) (releaseConsumed (now (table .entry)) (now (rings .entry))) ⌝ }
+    ensures { λ a. ⌜ (a, now (words .exit), now (table .exit), now (rings .entry)) ≡ told (now (words .entry)) (callWords (now (table .entry)) (now (rings .entry)) (Control ReleaseConsumed)) ⌝ }
 {
     let done = all_lanes::all_lanes::release_consumed(table, rings);
     answer::tell(done, words)
@@ -109,10 +111,10 @@ pub extern "C" fn fanring_inner_release_consumed(
 pub extern "C" fn fanring_inner_poll_all_lanes(
     table: &mut [u64],
     rings: &[u64],
-    words: &mut [u64; 4],
+    words: &mut [u64; 8],
 ) -> u64
     requires { ⌜ StoreInOrder (now table) (now rings) ⌝ }
-    ensures { λ a. ⌜ (a, now (words .exit), now (table .exit), now (rings .entry)) ≡ told (now (words .entry)) (pollAllLanes (now (table .entry)) (now (rings .entry))) ⌝ }
+    ensures { λ a. ⌜ (a, now (words .exit), now (table .exit), now (rings .entry)) ≡ told (now (words .entry)) (callWords (now (table .entry)) (now (rings .entry)) (Control PollAllLanes)) ⌝ }
 {
     let done = all_lanes::all_lanes::poll_all_lanes(table, rings);
     answer::tell(done, words)
@@ -123,10 +125,10 @@ pub extern "C" fn fanring_inner_poll_all_lanes(
 pub extern "C" fn fanring_inner_close_receiver(
     table: &mut [u64],
     rings: &[u64],
-    words: &mut [u64; 4],
+    words: &mut [u64; 8],
 ) -> u64
     requires { ⌜ StoreInOrder (now table) (now rings) ⌝ }
-    ensures { λ a. ⌜ (a, now (words .exit), now (table .exit), now (rings .entry)) ≡ told (now (words .entry)) (closeReceiver (now (table .entry)) (now (rings .entry))) ⌝ }
+    ensures { λ a. ⌜ (a, now (words .exit), now (table .exit), now (rings .entry)) ≡ told (now (words .entry)) (callWords (now (table .entry)) (now (rings .entry)) (Control CloseReceiver)) ⌝ }
 {
     let done = lane_control::close_receiver(table, rings);
     answer::tell(done, words)
@@ -134,9 +136,9 @@ pub extern "C" fn fanring_inner_close_receiver(
 
 // The number of items in rings of registered lanes.
 #[no_mangle]
-pub extern "C" fn fanring_inner_held(table: &[u64], rings: &[u64], words: &mut [u64; 4]) -> u64
+pub extern "C" fn fanring_inner_held(table: &[u64], rings: &[u64], words: &mut [u64; 8]) -> u64
     requires { ⌜ StoreInOrder (now table) (now rings) ⌝ }
-    ensures { λ a. ⌜ (a, now (words .exit), now (table .entry), now (rings .entry)) ≡ told (now (words .entry)) (countHeld (now (table .entry)) (now (rings .entry))) ⌝ }
+    ensures { λ a. ⌜ (a, now (words .exit), now (table .entry), now (rings .entry)) ≡ told (now (words .entry)) (callWords (now (table .entry)) (now (rings .entry)) (Control CountHeld)) ⌝ }
 {
     let done = all_lanes::all_lanes::held(table, rings);
     answer::tell(done, words)

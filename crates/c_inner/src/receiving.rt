@@ -1,10 +1,12 @@
-// The receives, on stores in order, as an accepted opening and every call leave them.
+// The inner receives, on stores in order, as an accepted opening and every call leave them.
 ghost use mathlib.Core.Path.{_≡_};
+ghost use lib.ListN.{length};
 ghost use Rattle.store.specs.Order.{StoreInOrder};
-ghost use Rattle.receive.specs.Receive.{tryRecv, tryRecvFair};
-ghost use Rattle.receive_from.specs.Target.{tryRecvFrom};
-ghost use Rattle.receive_batch.specs.Batch.{batchInto};
+ghost use Rattle.model.specs.declared.ReceiveCall.the-variants.{TryRecv, TryRecvBatchInto, TryRecvFair, TryRecvFrom};
+ghost use Rattle.model.specs.declared.Call.the-variants.{Receive};
+ghost use Rattle.refinement.specs.Runs.{callWords, innerCalls, receiveInto};
 ghost use Rattle.c_answer.specs.Answer.{told, toldInto};
+ghost use Rattle.c_answer.specs.Numbers.{laneId};
 use c_answer::answer;
 use model::LaneId;
 use model::LaneKey;
@@ -17,10 +19,10 @@ use receive_from::target;
 pub extern "C" fn fanring_inner_try_recv(
     table: &mut [u64],
     rings: &[u64],
-    words: &mut [u64; 4],
+    words: &mut [u64; 8],
 ) -> u64
     requires { ⌜ StoreInOrder (now table) (now rings) ⌝ }
-    ensures { λ a. ⌜ (a, now (words .exit), now (table .exit), now (rings .entry)) ≡ told (now (words .entry)) (tryRecv (now (table .entry)) (now (rings .entry))) ⌝ }
+    ensures { λ a. ⌜ (a, now (words .exit), now (table .exit), now (rings .entry)) ≡ told (now (words .entry)) (callWords (now (table .entry)) (now (rings .entry)) (Receive TryRecv)) ⌝ }
 {
     let done = plain::try_recv(table, rings);
     answer::tell(done, words)
@@ -31,10 +33,10 @@ pub extern "C" fn fanring_inner_try_recv(
 pub extern "C" fn fanring_inner_try_recv_fair(
     table: &mut [u64],
     rings: &[u64],
-    words: &mut [u64; 4],
+    words: &mut [u64; 8],
 ) -> u64
     requires { ⌜ StoreInOrder (now table) (now rings) ⌝ }
-    ensures { λ a. ⌜ (a, now (words .exit), now (table .exit), now (rings .entry)) ≡ told (now (words .entry)) (tryRecvFair (now (table .entry)) (now (rings .entry))) ⌝ }
+    ensures { λ a. ⌜ (a, now (words .exit), now (table .exit), now (rings .entry)) ≡ told (now (words .entry)) (callWords (now (table .entry)) (now (rings .entry)) (Receive TryRecvFair)) ⌝ }
 {
     let done = plain::try_recv_fair(table, rings);
     answer::tell(done, words)
@@ -48,10 +50,10 @@ pub extern "C" fn fanring_inner_try_recv_from(
     channel: u64,
     slot: u64,
     generation: u64,
-    words: &mut [u64; 4],
+    words: &mut [u64; 8],
 ) -> u64
     requires { ⌜ StoreInOrder (now table) (now rings) ⌝ }
-    ensures { λ a. ⌜ (a, now (words .exit), now (table .exit), now (rings .entry)) ≡ told (now (words .entry)) (tryRecvFrom (now (table .entry)) (now (rings .entry)) (record { channel = channel; key = record { slot = slot; generation = generation } })) ⌝ }
+    ensures { λ a. ⌜ (a, now (words .exit), now (table .exit), now (rings .entry)) ≡ told (now (words .entry)) (callWords (now (table .entry)) (now (rings .entry)) (Receive (TryRecvFrom (laneId channel slot generation)))) ⌝ }
 {
     let done = target::try_recv_from(
         table,
@@ -74,10 +76,10 @@ pub extern "C" fn fanring_inner_try_recv_batch_into(
     rings: &[u64],
     out: &mut [u64],
     limit: u64,
-    words: &mut [u64; 4],
+    words: &mut [u64; 8],
 ) -> u64
     requires { ⌜ StoreInOrder (now table) (now rings) ⌝ }
-    ensures { λ a. ⌜ (a, now (words .exit), now (table .exit), now (rings .entry), now (out .exit)) ≡ toldInto (now (words .entry)) (batchInto (now (table .entry)) (now (rings .entry)) (now (out .entry)) limit) ⌝ }
+    ensures { λ a. ⌜ (a, now (words .exit), now (table .exit), now (rings .entry), now (out .exit)) ≡ toldInto (now (words .entry)) (receiveInto innerCalls (now (table .entry)) (now (rings .entry)) (TryRecvBatchInto limit (length (now (out .entry)))) (now (out .entry))) ⌝ }
 {
     let done = batch::try_recv_batch_into(table, rings, out, limit);
     answer::tell(done, words)

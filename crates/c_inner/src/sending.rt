@@ -1,8 +1,11 @@
-// The sender calls, on stores in order, as an accepted opening and every call leave them.
+// The inner sender calls, on stores in order, as an accepted opening and every call leave them.
 ghost use mathlib.Core.Path.{_≡_};
 ghost use Rattle.store.specs.Order.{StoreInOrder};
-ghost use Rattle.sender.specs.Sender.{registerSender, trySend, trySendUnsignaled, dropSender};
+ghost use Rattle.model.specs.declared.SenderCall.the-variants.{DropSender, RegisterSender, TrySend, TrySendUnsignaled};
+ghost use Rattle.model.specs.declared.Call.the-variants.{Sender};
+ghost use Rattle.refinement.specs.Runs.{callWords};
 ghost use Rattle.c_answer.specs.Answer.{told};
+ghost use Rattle.c_answer.specs.Numbers.{laneKey};
 use c_answer::answer;
 use model::LaneKey;
 use sender::sender as sends;
@@ -13,10 +16,10 @@ pub extern "C" fn fanring_inner_register_sender(
     table: &mut [u64],
     rings: &[u64],
     most: u64,
-    words: &mut [u64; 4],
+    words: &mut [u64; 8],
 ) -> u64
     requires { ⌜ StoreInOrder (now table) (now rings) ⌝ }
-    ensures { λ a. ⌜ (a, now (words .exit), now (table .exit), now (rings .entry)) ≡ told (now (words .entry)) (registerSender (now (table .entry)) (now (rings .entry)) most) ⌝ }
+    ensures { λ a. ⌜ (a, now (words .exit), now (table .exit), now (rings .entry)) ≡ told (now (words .entry)) (callWords (now (table .entry)) (now (rings .entry)) (Sender (RegisterSender most))) ⌝ }
 {
     let done = sends::register_sender(table, rings, most);
     answer::tell(done, words)
@@ -30,10 +33,10 @@ pub extern "C" fn fanring_inner_try_send(
     slot: u64,
     generation: u64,
     item: u64,
-    words: &mut [u64; 4],
+    words: &mut [u64; 8],
 ) -> u64
     requires { ⌜ StoreInOrder (now table) (now rings) ⌝ }
-    ensures { λ a. ⌜ (a, now (words .exit), now (table .exit), now (rings .exit)) ≡ told (now (words .entry)) (trySend (now (table .entry)) (now (rings .entry)) (record { slot = slot; generation = generation }) item) ⌝ }
+    ensures { λ a. ⌜ (a, now (words .exit), now (table .exit), now (rings .exit)) ≡ told (now (words .entry)) (callWords (now (table .entry)) (now (rings .entry)) (Sender (TrySend (laneKey slot generation) item))) ⌝ }
 {
     let done = sends::try_send(
         table,
@@ -55,10 +58,10 @@ pub extern "C" fn fanring_inner_try_send_unsignaled(
     slot: u64,
     generation: u64,
     item: u64,
-    words: &mut [u64; 4],
+    words: &mut [u64; 8],
 ) -> u64
     requires { ⌜ StoreInOrder (now table) (now rings) ⌝ }
-    ensures { λ a. ⌜ (a, now (words .exit), now (table .exit), now (rings .exit)) ≡ told (now (words .entry)) (trySendUnsignaled (now (table .entry)) (now (rings .entry)) (record { slot = slot; generation = generation }) item) ⌝ }
+    ensures { λ a. ⌜ (a, now (words .exit), now (table .exit), now (rings .exit)) ≡ told (now (words .entry)) (callWords (now (table .entry)) (now (rings .entry)) (Sender (TrySendUnsignaled (laneKey slot generation) item))) ⌝ }
 {
     let done = sends::try_send_unsignaled(
         table,
@@ -79,10 +82,10 @@ pub extern "C" fn fanring_inner_drop_sender(
     rings: &[u64],
     slot: u64,
     generation: u64,
-    words: &mut [u64; 4],
+    words: &mut [u64; 8],
 ) -> u64
     requires { ⌜ StoreInOrder (now table) (now rings) ⌝ }
-    ensures { λ a. ⌜ (a, now (words .exit), now (table .exit), now (rings .entry)) ≡ told (now (words .entry)) (dropSender (now (table .entry)) (now (rings .entry)) (record { slot = slot; generation = generation })) ⌝ }
+    ensures { λ a. ⌜ (a, now (words .exit), now (table .exit), now (rings .entry)) ≡ told (now (words .entry)) (callWords (now (table .entry)) (now (rings .entry)) (Sender (DropSender (laneKey slot generation)))) ⌝ }
 {
     let done = sends::drop_sender(
         table,

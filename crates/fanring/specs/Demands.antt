@@ -1,4 +1,4 @@
--- What is claimed of the calls: of each on any two stores, and of lists of them from an accepted opening on.
+-- What is claimed of the checked calls: of each on any two stores, and of lists of them from an accepted opening on.
 -- Most claims are crate `model`'s (its specs/Demand2.antt, Demand3.antt, Closed.antt, Held.antt), here of the words that the calls' contracts name; the last is crate `refinement`'s (its specs/RulesOnWords.antt, DisconnectedOnWords.antt).
 -- Assumes nothing.
 use mathlib.Core.Path.{_≡_}

@@ -1,4 +1,4 @@
--- Lists of calls on any two stores: each call tests them first, and is then the inner call.
+-- Lists of checked calls: each tests its two stores first, and is then the inner call.
 -- Assumes nothing.
 use mathlib.Core.Bool.{cond}
 use mathlib.Core.List.{List, []}

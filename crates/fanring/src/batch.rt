@@ -1,16 +1,17 @@
 // The batch, credit given back, and poll all lanes: src/mpsc/receiver/batch.rs.
 ghost use mathlib.Core.Path.{_≡_};
-ghost use Rattle.fanring.specs.Runs.{checkedWords};
+ghost use lib.ListN.{length};
 ghost use Rattle.model.specs.declared.ControlCall.the-variants.{PollAllLanes, ReleaseConsumed};
+ghost use Rattle.model.specs.declared.ReceiveCall.the-variants.{TryRecvBatchInto};
 ghost use Rattle.model.specs.declared.Call.the-variants.{Control};
-ghost use Rattle.receive_batch.specs.Batch.{batchInto};
-ghost use Rattle.fanring.specs.Checked.{checkedInto};
+ghost use Rattle.refinement.specs.Runs.{receiveInto};
+ghost use Rattle.fanring.specs.Runs.{checkedCalls, checkedWords};
 use model::Answer;
 use model::Refusal;
 
 // Receives up to `limit` items into the output, and gives back the places of all items that were handed out.
 pub fn try_recv_batch_into(t: &mut [u64], r: &[u64], out: &mut [u64], limit: u64) -> Answer
-    ensures { λ a. ⌜ (a, now (t .exit), now (r .entry), now (out .exit)) ≡ checkedInto (now (t .entry)) (now (r .entry)) (now (out .entry)) (batchInto (now (t .entry)) (now (r .entry)) (now (out .entry)) limit) ⌝ }
+    ensures { λ a. ⌜ (a, now (t .exit), now (r .entry), now (out .exit)) ≡ receiveInto checkedCalls (now (t .entry)) (now (r .entry)) (TryRecvBatchInto limit (length (now (out .entry)))) (now (out .entry)) ⌝ }
 {
     if !order::in_order(t, r) {
         return Answer::Refused {

@@ -1,4 +1,4 @@
-// Every call on any two stores: the stores are tested first, and a call on stores in order is the inner one.
+// The checked calls, on any two stores: the stores are tested first, and a call on stores in order is the inner one.
 pub mod batch;
 pub mod lane_control;
 pub mod mpsc;

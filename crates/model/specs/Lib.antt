@@ -29,6 +29,7 @@ pub mod Disconnected
 pub mod Examples
 pub mod ReadyExamples
 pub mod EventExamples
+pub mod HeldExamples
 pub mod BoundMet
 pub mod StretchExamples
 pub mod ShutOut

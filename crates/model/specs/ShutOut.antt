@@ -1,5 +1,5 @@
 -- Wrong rules, each document 01's but for one call: those that document 01 says demands 2 and 3 shut out.
--- That a demand does not hold of them is in proofs/ShutOut.antt.
+-- That a demand does not hold of them is in crates/demands/proofs/ShutOut.antt.
 -- Assumes nothing.
 use mathlib.Core.Bool.{false, not}
 use mathlib.Core.List.{List, [], _∷_}

@@ -1,4 +1,6 @@
-// The types that the code and the rules share: keys, calls and answers. Nothing here runs.
+// The types that the code and the rules share, keys, calls and answers, and the number of a refusal.
+ghost use mathlib.Core.Path.{_≡_};
+ghost use Rattle.model.specs.Answers.{number};
 
 // Names one lane of a channel: its slot, and which of that slot's lanes, one after the other.
 pub struct LaneKey {
@@ -71,6 +73,31 @@ pub enum Refusal {
     OutputShort,
     NoSuchLane,
     Malformed,
+}
+
+impl Refusal {
+    // Document 01's number of the refusal.
+    pub fn number(self) -> u64
+        ensures { λ r. ⌜ r ≡ number self ⌝ }
+    {
+        match self {
+            Refusal::CapacityOutOfRange => 1,
+            Refusal::SlotsOutOfRange => 2,
+            Refusal::RingStoreShort => 3,
+            Refusal::TableStoreShort => 4,
+            Refusal::StoreNotInOrder => 5,
+            Refusal::ReceiverClosed => 6,
+            Refusal::AtCapacity => 7,
+            Refusal::NoFreeSlot => 8,
+            Refusal::OlderSenderLives => 9,
+            Refusal::NoSuchSender => 10,
+            Refusal::LaneClosed => 12,
+            Refusal::Full => 11,
+            Refusal::OutputShort => 14,
+            Refusal::NoSuchLane => 13,
+            Refusal::Malformed => 15,
+        }
+    }
 }
 
 // What a call answers. The items of a batch are the first `count` words of its output.

@@ -10,14 +10,10 @@ ghost use Rattle.order_slot.specs.Tells.{Tells};
 ghost use Rattle.order_slot.specs.Clauses.{Names};
 ghost use Rattle.order.specs.Seen.{Seen};
 use crate::seen;
-use lane::lane::Lane;
 use lane::table;
 use queues::header::Header;
-
-// The columns of the rows that hold the queue's places and the free list's.
-const QUEUE_PLACE: usize = Lane::LANE_WORDS;
-
-const FREE_PLACE: usize = Lane::LANE_WORDS + 1;
+use queues::queue;
+use queues::registry;
 
 // The row after `row`, round a ring of `slots`.
 fn next_row(row: usize, slots: u64) -> usize
@@ -42,7 +38,7 @@ pub(crate) fn queue_holds(t: &[u64], seen: &mut [u64; 128]) -> bool
     let mut row = t[Header::FRONT] as usize;
     let mut k = 0;
     while k < n {
-        if !seen::note(seen, table::cell(t, QUEUE_PLACE, row), issued) {
+        if !seen::note(seen, table::cell(t, queue::PLACE, row), issued) {
             return false;
         }
         row = next_row(row, slots);
@@ -62,7 +58,11 @@ pub(crate) fn free_holds(t: &[u64], seen: &mut [u64; 128]) -> bool
     let mut k = 0;
     while k < n {
         k += 1;
-        if !seen::note(seen, table::cell(t, FREE_PLACE, (n - k) as usize), issued) {
+        if !seen::note(
+            seen,
+            table::cell(t, registry::PLACE, (n - k) as usize),
+            issued,
+        ) {
             return false;
         }
     }

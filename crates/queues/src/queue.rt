@@ -8,7 +8,7 @@ use lane::lane::Lane;
 use lane::table;
 
 // The column of the rows that holds the queue's places.
-const PLACE: usize = Lane::LANE_WORDS;
+pub const PLACE: usize = Lane::LANE_WORDS;
 
 // The row that is `n` past the front, round a ring of `slots`. A remainder would cost a division.
 fn row_of(front: u64, n: u64, slots: u64) -> usize

@@ -8,7 +8,7 @@ use lane::lane::Lane;
 use lane::table;
 
 // The column of the rows that holds the free list's places.
-const PLACE: usize = Lane::LANE_WORDS + 1;
+pub const PLACE: usize = Lane::LANE_WORDS + 1;
 
 pub fn free(t: &mut [u64], slot: u64)
     requires { ⌜ Shaped (now t) × (freeCount (now t) < slots (now t)) ⌝ }

@@ -26,6 +26,7 @@ pub mod DrainView
 pub mod TryRecvBatchLaws
 pub mod RefusedUnmoved
 pub mod CallLaws
+pub mod MadeOfCalls
 pub mod AsInner
 pub mod Simulation
 pub mod Demands

@@ -10,6 +10,7 @@ use Rattle.model.specs.declared.ReceiveCall.{ReceiveCall}
 use Rattle.model.specs.declared.ReceiveCall.the-variants.{TryRecv, TryRecvFair, TryRecvFrom, TryRecvBatchInto}
 use Rattle.model.specs.declared.Call.{Call}
 use Rattle.model.specs.declared.Call.the-variants.{Sender, Receive, Control}
+use Rattle.model.specs.declared.Answer.{Answer}
 use Rattle.model.specs.declared.Answer.the-variants.{Done}
 use Rattle.model.specs.Runs.{Rules, afterList}
 use Rattle.model.specs.Simulation.{runsThatFit}
@@ -50,11 +51,15 @@ callWords t r (Receive c) = receiveWords t r c
 callWords t r (Control c) = controlWords t r c
 
 -- Calls on two stores: what each answers and leaves, what a receive hands out, and the lent output as it leaves it.
--- There are two such: the inner calls and, in crate `fanring`, the calls that test their stores first. What is claimed of either is said once, of any.
+-- There are two such: the inner calls and, in crate `fanring`, the checked calls, which test their stores first. What is claimed of either is said once, of any.
 pub record StoreCalls : Type 0 where
   pub words : List ℕ → List ℕ → Call → Words
   pub hands : List ℕ → List ℕ → ReceiveCall → List (LaneKey × ℕ)
   pub output : List ℕ → List ℕ → ReceiveCall → List ℕ → List ℕ
+
+-- A receive with the output that it is lent, as contracts name it: the answer, and every word of both stores and of the output.
+abbrev pub receiveInto : StoreCalls → List ℕ → List ℕ → ReceiveCall → List ℕ → Answer × List ℕ × List ℕ × List ℕ
+receiveInto M t r c out = let w = M .words t r (Receive c) in (w .0, w .1, w .2, M .output t r c out)
 
 -- "each on the state and stores exactly as the last one left them": the state is every word of the table store and of the ring store
 abbrev pub listsOf : StoreCalls → Rules
@@ -67,6 +72,12 @@ listsOf M = record {
   hands = λ w c. M .hands (w .0) (w .1) c;
   output = λ w c out. M .output (w .0) (w .1) c out;
 }
+
+-- A list is made of what contracts name: its opening is `openStore`, and its calls and outputs are those of M.
+pub record MadeOfCalls (M : StoreCalls) : Type 0 where
+  pub opening : (o : Opening) (t r : List ℕ) → let w = openStore o t r in _≡_ {A = Answer × (List ℕ × List ℕ)} (listsOf M .opens o (t, r)) (w .0, (w .1, w .2))
+  pub call : (t r : List ℕ) (c : Call) → let w = M .words t r c in _≡_ {A = Answer × (List ℕ × List ℕ)} (listsOf M .step (t, r) c) (w .0, (w .1, w .2))
+  pub output-left : (t r : List ℕ) (c : ReceiveCall) (out : List ℕ) → listsOf M .output (t, r) c out ≡ M .output t r c out
 
 abbrev pub innerCalls : StoreCalls
 innerCalls = record { words = callWords; hands = handsWords; output = outputWords }

@@ -5,13 +5,13 @@ use mathlib.Core.List.{List}
 use Prim.Native.Nat.{ℕ, zero, suc, _-_, _≤_}
 use native.Mathlib.Omega.{arith}
 use lib.ListN.{take}
-use Rattle.wire.specs.Text.{Puts}
-use Rattle.wire.proofs.PutLaws.{puts-as, puts-none}
-use Rattle.replay.specs.declared.serve.Found.{Found}
-use Rattle.replay.specs.declared.serve.Found.the-variants.{Incomplete, Malformed, Answered}
+use Rattle.wire_line.specs.Text.{Puts}
+use Rattle.wire_line.proofs.PutLaws.{puts-as, puts-none}
+use Rattle.replay_serve.specs.declared.serve.Found.{Found}
+use Rattle.replay_serve.specs.declared.serve.Found.the-variants.{Incomplete, Malformed, Answered}
 use Rattle.replay.specs.declared.input.Next.{Next}
 use Rattle.replay.specs.declared.input.Next.the-variants.{Stop, Go}
-use Rattle.replay.specs.Serve.{malformedLine}
+use Rattle.replay_serve.specs.Serve.{malformedLine}
 use Rattle.replay.specs.Input.{cutLine, Kept, GoesOn, GoneOn}
 
 -- what was moved to the front is there after a read behind it

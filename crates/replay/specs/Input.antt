@@ -4,12 +4,12 @@ use mathlib.Core.List.{List, []}
 use mathlib.Core.Path.{_≡_}
 use Prim.Native.Nat.{ℕ, zero, suc, _-_, _≤_, _<_}
 use lib.ListN.{take, drop}
-use Rattle.wire.specs.Text.{Puts}
-use Rattle.replay.specs.declared.serve.Found.{Found}
-use Rattle.replay.specs.declared.serve.Found.the-variants.{Incomplete, Malformed, Answered}
+use Rattle.wire_line.specs.Text.{Puts}
+use Rattle.replay_serve.specs.declared.serve.Found.{Found}
+use Rattle.replay_serve.specs.declared.serve.Found.the-variants.{Incomplete, Malformed, Answered}
 use Rattle.replay.specs.declared.input.Next.{Next}
 use Rattle.replay.specs.declared.input.Next.the-variants.{Stop, Go}
-use Rattle.replay.specs.Serve.{malformedLine}
+use Rattle.replay_serve.specs.Serve.{malformedLine}
 
 -- "input ending inside a record" is malformed: the line that is due for so many bytes that are left
 abbrev pub cutLine : ℕ → List ℕ

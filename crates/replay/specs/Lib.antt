@@ -1,4 +1,1 @@
-pub mod Calls
-pub mod Serve
 pub mod Input
-pub mod Program

@@ -2,12 +2,12 @@
 ghost use mathlib.Core.Path.{_≡_};
 ghost use Prim.Native.Nat.{_-_, _≤_};
 ghost use lib.ListN.{length, take, drop};
-ghost use Rattle.wire.specs.Text.{Puts};
+ghost use Rattle.wire_line.specs.Text.{Puts};
 ghost use Rattle.replay.specs.Input.{cutLine, Kept, Awaited, GoneOn};
-use crate::serve::Found;
 use model::Answer;
 use model::Refusal;
-use wire::line;
+use replay_serve::serve::Found;
+use wire_line::line;
 
 // What the program goes on with: nothing, once a last text is written; or a place of the buffer and how many bytes it has.
 pub enum Next {

@@ -1,13 +1,12 @@
 // Document 01's replay program: reads records from standard input, and writes one line for each.
-mod calls;
 mod input;
-mod serve;
 
 ghost use mathlib.Core.Path.{_≡_};
 ghost use Prim.Native.Nat.{_≤_};
 ghost use lib.ListN.{length};
-ghost use Rattle.replay.specs.Calls.{started};
+ghost use Rattle.replay_serve.specs.Calls.{started};
 use input::Next;
+use replay_serve::serve;
 
 fn flush(text: &[u8], end: usize)
     requires { ⌜ end ≤ length (now text) ⌝ }

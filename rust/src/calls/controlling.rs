@@ -4,14 +4,14 @@ use super::library::{
     fanring_inner_close_lane, fanring_inner_close_receiver, fanring_inner_held, fanring_inner_pause,
     fanring_inner_poll_all_lanes, fanring_inner_release_consumed, fanring_inner_resume,
 };
-use super::StoresInOrder;
+use super::{StoresInOrder, Words};
 use crate::answer::Answer;
 use crate::{LaneId, Stores};
 
 impl StoresInOrder {
     pub(crate) fn pause(&mut self, id: LaneId) -> Answer {
         let Stores { table, rings } = &mut self.stores;
-        let mut words = [0; 4];
+        let mut words = Words::default();
         // SAFETY: the stores are in order; the slices are whole and apart.
         let tag = unsafe {
             fanring_inner_pause(
@@ -22,7 +22,7 @@ impl StoresInOrder {
                 id.channel_id,
                 id.key.slot,
                 id.key.generation,
-                words.as_mut_ptr(),
+                &mut words,
             )
         };
         Answer::read(tag, words)
@@ -30,7 +30,7 @@ impl StoresInOrder {
 
     pub(crate) fn resume(&mut self, id: LaneId) -> Answer {
         let Stores { table, rings } = &mut self.stores;
-        let mut words = [0; 4];
+        let mut words = Words::default();
         // SAFETY: the stores are in order; the slices are whole and apart.
         let tag = unsafe {
             fanring_inner_resume(
@@ -41,7 +41,7 @@ impl StoresInOrder {
                 id.channel_id,
                 id.key.slot,
                 id.key.generation,
-                words.as_mut_ptr(),
+                &mut words,
             )
         };
         Answer::read(tag, words)
@@ -49,7 +49,7 @@ impl StoresInOrder {
 
     pub(crate) fn close_lane(&mut self, id: LaneId) -> Answer {
         let Stores { table, rings } = &mut self.stores;
-        let mut words = [0; 4];
+        let mut words = Words::default();
         // SAFETY: the stores are in order; the slices are whole and apart.
         let tag = unsafe {
             fanring_inner_close_lane(
@@ -60,7 +60,7 @@ impl StoresInOrder {
                 id.channel_id,
                 id.key.slot,
                 id.key.generation,
-                words.as_mut_ptr(),
+                &mut words,
             )
         };
         Answer::read(tag, words)
@@ -68,58 +68,39 @@ impl StoresInOrder {
 
     pub(crate) fn release_consumed(&mut self) -> Answer {
         let Stores { table, rings } = &mut self.stores;
-        let mut words = [0; 4];
+        let mut words = Words::default();
         // SAFETY: the stores are in order; the slices are whole and apart.
         let tag = unsafe {
-            fanring_inner_release_consumed(
-                table.as_mut_ptr(),
-                table.len(),
-                rings.as_ptr(),
-                rings.len(),
-                words.as_mut_ptr(),
-            )
+            fanring_inner_release_consumed(table.as_mut_ptr(), table.len(), rings.as_ptr(), rings.len(), &mut words)
         };
         Answer::read(tag, words)
     }
 
     pub(crate) fn poll_all_lanes(&mut self) -> Answer {
         let Stores { table, rings } = &mut self.stores;
-        let mut words = [0; 4];
+        let mut words = Words::default();
         // SAFETY: the stores are in order; the slices are whole and apart.
         let tag = unsafe {
-            fanring_inner_poll_all_lanes(
-                table.as_mut_ptr(),
-                table.len(),
-                rings.as_ptr(),
-                rings.len(),
-                words.as_mut_ptr(),
-            )
+            fanring_inner_poll_all_lanes(table.as_mut_ptr(), table.len(), rings.as_ptr(), rings.len(), &mut words)
         };
         Answer::read(tag, words)
     }
 
     pub(crate) fn close_receiver(&mut self) -> Answer {
         let Stores { table, rings } = &mut self.stores;
-        let mut words = [0; 4];
+        let mut words = Words::default();
         // SAFETY: the stores are in order; the slices are whole and apart.
         let tag = unsafe {
-            fanring_inner_close_receiver(
-                table.as_mut_ptr(),
-                table.len(),
-                rings.as_ptr(),
-                rings.len(),
-                words.as_mut_ptr(),
-            )
+            fanring_inner_close_receiver(table.as_mut_ptr(), table.len(), rings.as_ptr(), rings.len(), &mut words)
         };
         Answer::read(tag, words)
     }
 
     pub(crate) fn held(&self) -> Answer {
         let Stores { table, rings } = &self.stores;
-        let mut words = [0; 4];
+        let mut words = Words::default();
         // SAFETY: the stores are in order; the slices are whole and apart, and nothing is written to them.
-        let tag =
-            unsafe { fanring_inner_held(table.as_ptr(), table.len(), rings.as_ptr(), rings.len(), words.as_mut_ptr()) };
+        let tag = unsafe { fanring_inner_held(table.as_ptr(), table.len(), rings.as_ptr(), rings.len(), &mut words) };
         Answer::read(tag, words)
     }
 }

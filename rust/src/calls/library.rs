@@ -1,8 +1,11 @@
 //! What the library exports, as far as it is called here.
 
-// The contracts are in the repository's crates: the opening, for any stores, in `cfanring`; the inner calls, for stores
-// in order, in `cinner`. A slice is a pointer and its length in words; `words` points at four. The slices and `words`
-// must not overlap. The result is the answer's tag; its numbers go to `words`.
+/// The words lent for an answer's numbers: `FANRING_WORDS` of them, in the repository's include/fanring.h.
+pub(crate) type Words = [u64; 8];
+
+// The contracts are in the repository's crates: the opening, a checked call, for any stores, in `c_checked`; the inner
+// calls, for stores in order, in `c_inner`. A slice is a pointer and its length in words. The slices and `words` must
+// not overlap. The result is the answer's tag; its numbers go to `words`.
 extern "C" {
     pub(super) fn fanring_open(
         table: *mut u64,
@@ -14,7 +17,7 @@ extern "C" {
         channel: u64,
         cursor: u64,
         generation: u64,
-        words: *mut u64,
+        words: *mut Words,
     ) -> u64;
     pub(super) fn fanring_inner_register_sender(
         table: *mut u64,
@@ -22,7 +25,7 @@ extern "C" {
         rings: *const u64,
         rings_len: usize,
         most: u64,
-        words: *mut u64,
+        words: *mut Words,
     ) -> u64;
     pub(super) fn fanring_inner_try_send(
         table: *mut u64,
@@ -32,7 +35,7 @@ extern "C" {
         slot: u64,
         generation: u64,
         item: u64,
-        words: *mut u64,
+        words: *mut Words,
     ) -> u64;
     pub(super) fn fanring_inner_try_send_unsignaled(
         table: *mut u64,
@@ -42,7 +45,7 @@ extern "C" {
         slot: u64,
         generation: u64,
         item: u64,
-        words: *mut u64,
+        words: *mut Words,
     ) -> u64;
     pub(super) fn fanring_inner_drop_sender(
         table: *mut u64,
@@ -51,21 +54,21 @@ extern "C" {
         rings_len: usize,
         slot: u64,
         generation: u64,
-        words: *mut u64,
+        words: *mut Words,
     ) -> u64;
     pub(super) fn fanring_inner_try_recv(
         table: *mut u64,
         table_len: usize,
         rings: *const u64,
         rings_len: usize,
-        words: *mut u64,
+        words: *mut Words,
     ) -> u64;
     pub(super) fn fanring_inner_try_recv_fair(
         table: *mut u64,
         table_len: usize,
         rings: *const u64,
         rings_len: usize,
-        words: *mut u64,
+        words: *mut Words,
     ) -> u64;
     pub(super) fn fanring_inner_try_recv_from(
         table: *mut u64,
@@ -75,7 +78,7 @@ extern "C" {
         channel: u64,
         slot: u64,
         generation: u64,
-        words: *mut u64,
+        words: *mut Words,
     ) -> u64;
     pub(super) fn fanring_inner_try_recv_batch_into(
         table: *mut u64,
@@ -85,7 +88,7 @@ extern "C" {
         out: *mut u64,
         out_len: usize,
         limit: u64,
-        words: *mut u64,
+        words: *mut Words,
     ) -> u64;
     pub(super) fn fanring_inner_pause(
         table: *mut u64,
@@ -95,7 +98,7 @@ extern "C" {
         channel: u64,
         slot: u64,
         generation: u64,
-        words: *mut u64,
+        words: *mut Words,
     ) -> u64;
     pub(super) fn fanring_inner_resume(
         table: *mut u64,
@@ -105,7 +108,7 @@ extern "C" {
         channel: u64,
         slot: u64,
         generation: u64,
-        words: *mut u64,
+        words: *mut Words,
     ) -> u64;
     pub(super) fn fanring_inner_close_lane(
         table: *mut u64,
@@ -115,34 +118,34 @@ extern "C" {
         channel: u64,
         slot: u64,
         generation: u64,
-        words: *mut u64,
+        words: *mut Words,
     ) -> u64;
     pub(super) fn fanring_inner_release_consumed(
         table: *mut u64,
         table_len: usize,
         rings: *const u64,
         rings_len: usize,
-        words: *mut u64,
+        words: *mut Words,
     ) -> u64;
     pub(super) fn fanring_inner_poll_all_lanes(
         table: *mut u64,
         table_len: usize,
         rings: *const u64,
         rings_len: usize,
-        words: *mut u64,
+        words: *mut Words,
     ) -> u64;
     pub(super) fn fanring_inner_close_receiver(
         table: *mut u64,
         table_len: usize,
         rings: *const u64,
         rings_len: usize,
-        words: *mut u64,
+        words: *mut Words,
     ) -> u64;
     pub(super) fn fanring_inner_held(
         table: *const u64,
         table_len: usize,
         rings: *const u64,
         rings_len: usize,
-        words: *mut u64,
+        words: *mut Words,
     ) -> u64;
 }

@@ -3,7 +3,7 @@
 use super::library::{
     fanring_inner_try_recv, fanring_inner_try_recv_batch_into, fanring_inner_try_recv_fair, fanring_inner_try_recv_from,
 };
-use super::StoresInOrder;
+use super::{StoresInOrder, Words};
 use crate::answer::Answer;
 use crate::{LaneId, Stores};
 
@@ -11,27 +11,20 @@ impl StoresInOrder {
     #[inline]
     pub(crate) fn try_recv(&mut self) -> Answer {
         let Stores { table, rings } = &mut self.stores;
-        let mut words = [0; 4];
+        let mut words = Words::default();
         // SAFETY: the stores are in order; the slices are whole and apart.
-        let tag = unsafe {
-            fanring_inner_try_recv(table.as_mut_ptr(), table.len(), rings.as_ptr(), rings.len(), words.as_mut_ptr())
-        };
+        let tag =
+            unsafe { fanring_inner_try_recv(table.as_mut_ptr(), table.len(), rings.as_ptr(), rings.len(), &mut words) };
         Answer::read(tag, words)
     }
 
     #[inline]
     pub(crate) fn try_recv_fair(&mut self) -> Answer {
         let Stores { table, rings } = &mut self.stores;
-        let mut words = [0; 4];
+        let mut words = Words::default();
         // SAFETY: the stores are in order; the slices are whole and apart.
         let tag = unsafe {
-            fanring_inner_try_recv_fair(
-                table.as_mut_ptr(),
-                table.len(),
-                rings.as_ptr(),
-                rings.len(),
-                words.as_mut_ptr(),
-            )
+            fanring_inner_try_recv_fair(table.as_mut_ptr(), table.len(), rings.as_ptr(), rings.len(), &mut words)
         };
         Answer::read(tag, words)
     }
@@ -39,7 +32,7 @@ impl StoresInOrder {
     #[inline]
     pub(crate) fn try_recv_from(&mut self, id: LaneId) -> Answer {
         let Stores { table, rings } = &mut self.stores;
-        let mut words = [0; 4];
+        let mut words = Words::default();
         // SAFETY: the stores are in order; the slices are whole and apart.
         let tag = unsafe {
             fanring_inner_try_recv_from(
@@ -50,7 +43,7 @@ impl StoresInOrder {
                 id.channel_id,
                 id.key.slot,
                 id.key.generation,
-                words.as_mut_ptr(),
+                &mut words,
             )
         };
         Answer::read(tag, words)
@@ -58,7 +51,7 @@ impl StoresInOrder {
 
     pub(crate) fn try_recv_batch_into(&mut self, out: &mut [u64], limit: u64) -> Answer {
         let Stores { table, rings } = &mut self.stores;
-        let mut words = [0; 4];
+        let mut words = Words::default();
         // SAFETY: the stores are in order; the slices are whole and apart, the output too, which another owner lends.
         let tag = unsafe {
             fanring_inner_try_recv_batch_into(
@@ -69,7 +62,7 @@ impl StoresInOrder {
                 out.as_mut_ptr(),
                 out.len(),
                 limit,
-                words.as_mut_ptr(),
+                &mut words,
             )
         };
         Answer::read(tag, words)

@@ -3,14 +3,14 @@
 use super::library::{
     fanring_inner_drop_sender, fanring_inner_register_sender, fanring_inner_try_send, fanring_inner_try_send_unsignaled,
 };
-use super::StoresInOrder;
+use super::{StoresInOrder, Words};
 use crate::answer::Answer;
 use crate::{LaneKey, Stores};
 
 impl StoresInOrder {
     pub(crate) fn register_sender(&mut self, most: u64) -> Answer {
         let Stores { table, rings } = &mut self.stores;
-        let mut words = [0; 4];
+        let mut words = Words::default();
         // SAFETY: the stores are in order; the slices are whole and apart.
         let tag = unsafe {
             fanring_inner_register_sender(
@@ -19,7 +19,7 @@ impl StoresInOrder {
                 rings.as_ptr(),
                 rings.len(),
                 most,
-                words.as_mut_ptr(),
+                &mut words,
             )
         };
         Answer::read(tag, words)
@@ -28,7 +28,7 @@ impl StoresInOrder {
     #[inline]
     pub(crate) fn try_send(&mut self, key: LaneKey, item: u64) -> Answer {
         let Stores { table, rings } = &mut self.stores;
-        let mut words = [0; 4];
+        let mut words = Words::default();
         // SAFETY: the stores are in order; the slices are whole and apart. The item goes to the ring store.
         let tag = unsafe {
             fanring_inner_try_send(
@@ -39,7 +39,7 @@ impl StoresInOrder {
                 key.slot,
                 key.generation,
                 item,
-                words.as_mut_ptr(),
+                &mut words,
             )
         };
         Answer::read(tag, words)
@@ -48,7 +48,7 @@ impl StoresInOrder {
     #[inline]
     pub(crate) fn try_send_unsignaled(&mut self, key: LaneKey, item: u64) -> Answer {
         let Stores { table, rings } = &mut self.stores;
-        let mut words = [0; 4];
+        let mut words = Words::default();
         // SAFETY: the stores are in order; the slices are whole and apart. The item goes to the ring store.
         let tag = unsafe {
             fanring_inner_try_send_unsignaled(
@@ -59,7 +59,7 @@ impl StoresInOrder {
                 key.slot,
                 key.generation,
                 item,
-                words.as_mut_ptr(),
+                &mut words,
             )
         };
         Answer::read(tag, words)
@@ -67,7 +67,7 @@ impl StoresInOrder {
 
     pub(crate) fn drop_sender(&mut self, key: LaneKey) -> Answer {
         let Stores { table, rings } = &mut self.stores;
-        let mut words = [0; 4];
+        let mut words = Words::default();
         // SAFETY: the stores are in order; the slices are whole and apart.
         let tag = unsafe {
             fanring_inner_drop_sender(
@@ -77,7 +77,7 @@ impl StoresInOrder {
                 rings.len(),
                 key.slot,
                 key.generation,
-                words.as_mut_ptr(),
+                &mut words,
             )
         };
         Answer::read(tag, words)

@@ -1,20 +1,21 @@
 //! The checked calls' own test of order, after each of many inner calls.
 
-use super::StoresInOrder;
+use super::{StoresInOrder, Words};
 use crate::answer::Answer;
 use crate::{LaneId, LaneKey, Opening, Stores};
 
 extern "C" {
-    fn fanring_held(table: *const u64, table_len: usize, rings: *const u64, rings_len: usize, words: *mut u64) -> u64;
+    fn fanring_held(table: *const u64, table_len: usize, rings: *const u64, rings_len: usize, words: *mut Words)
+        -> u64;
 }
 
 impl StoresInOrder {
     /// The checked call, which answers refusal 5 where stores are not in order.
     fn checked_held(&self) -> Answer {
         let Stores { table, rings } = &self.stores;
-        let mut words = [0; 4];
+        let mut words = Words::default();
         // SAFETY: the checked calls have no premise on what the stores hold. The slices are whole and apart.
-        let tag = unsafe { fanring_held(table.as_ptr(), table.len(), rings.as_ptr(), rings.len(), words.as_mut_ptr()) };
+        let tag = unsafe { fanring_held(table.as_ptr(), table.len(), rings.as_ptr(), rings.len(), &mut words) };
         Answer::read(tag, words)
     }
 }

@@ -1,7 +1,7 @@
 -- `replay::main` meets its contract.
 -- Assumes nothing.
 use mathlib.Core.Path.{refl}
-use Rattle.replay.specs.Calls.{started}
+use Rattle.replay_serve.specs.Calls.{started}
 use borrow.Author.Needs.{needs}
 use Rattle.replay.proofs.main.Statement.{statement}
 use Rattle.replay.proofs.main.Tie as tie

@@ -43,7 +43,7 @@ returns-8 c = tells (c .before .before .before .before .before .args .words .now
 
 returns-9 : tie.Need-returns-9
 unfolding tag put
-returns-9 c = tells (c .before .before .before .before .before .before .args .words .now) (c .before .before .before .before .answer6 .given .1) (c .put-one4 .ensures .0, c .put-one4 .ensures .1 ∙ ap (λ (x : ℕ). set (c .before .before .before .before .before .before .args .words .now) 0 x) (c .before .number-of .ensures))
+returns-9 c = tells (c .before .before .before .before .before .before .args .words .now) (c .before .before .before .before .answer6 .given .1) (c .put-one4 .ensures .0, c .put-one4 .ensures .1 ∙ ap (λ (x : ℕ). set (c .before .before .before .before .before .before .args .words .now) 0 x) (c .before .number .ensures))
 
 pub tell-spec : {M : Type 1} → statement M
 tell-spec =

@@ -1,11 +1,14 @@
 -- `c_inner::sending::fanring_inner_try_send` meets its contract.
 -- Assumes nothing.
 use borrow.Author.Needs.{needs}
+use Rattle.sender.specs.Sender.{senderWords}
+use Rattle.refinement.specs.Runs.{callWords}
 use Rattle.c_answer.proofs.ToldLaws.{told-of}
 use Rattle.c_inner.proofs.sending.fanring_inner_try_send.Statement.{statement}
 use Rattle.c_inner.proofs.sending.fanring_inner_try_send.Tie as tie
 
 returns : tie.Need-returns
+unfolding callWords senderWords
 returns c = told-of (c .before .before .before .before .before .before .before .before .before .before .before .args .words .now) (c .tell .ensures .0) (c .tell .ensures .1) (c .before .before .before .before .before .before .try-send .ensures)
 
 pub fanring-inner-try-send-spec : {M : Type 1} → statement M

@@ -2,6 +2,8 @@
 -- Assumes nothing.
 use borrow.Author.Tests.{not-true, not-false}
 use borrow.Author.Needs.{needs}
+use Rattle.receive_batch.specs.Batch.{batchInto}
+use Rattle.refinement.specs.Runs.{receiveWords, outputWords, callWords}
 use Rattle.fanring.proofs.CheckedLaws.{refuses-into, passes-into}
 use Rattle.fanring.proofs.batch.try_recv_batch_into.Statement.{statement}
 use Rattle.fanring.proofs.batch.try_recv_batch_into.Tie as tie
@@ -13,7 +15,8 @@ try-recv-batch-into-requires : tie.Need-try-recv-batch-into-requires
 try-recv-batch-into-requires c κs = c .before .before .before .in-order .ensures .0 (not-false _ (c .before .before .if1 .left))
 
 returns-2 : tie.Need-returns-2
-returns-2 c = passes-into (c .before .before .before .before .before .before .before .before .in-order .ensures) (not-false _ (c .before .before .before .before .before .before .before .if1 .left)) _ (c .before .before .before .before .try-recv-batch-into .ensures)
+unfolding callWords receiveWords outputWords batchInto
+returns-2 c = passes-into (c .before .before .before .before .before .before .before .before .in-order .ensures) (not-false _ (c .before .before .before .before .before .before .before .if1 .left)) _ _ (c .before .before .before .before .try-recv-batch-into .ensures)
 
 pub try-recv-batch-into-spec : {M : Type 1} → statement M
 try-recv-batch-into-spec = tie.close (tie.spec (λ c κs. search needs) (λ c. search needs) returns try-recv-batch-into-requires (λ c. search needs) (λ c. search needs) returns-2)

@@ -2,7 +2,7 @@
 -- Assumes nothing.
 use native.Mathlib.Omega.{arith}
 use Rattle.model.specs.Answers.{line}
-use Rattle.wire.proofs.PutLaws.{puts-as}
+use Rattle.wire_line.proofs.PutLaws.{puts-as}
 use Rattle.replay.proofs.InputLaws.{puts-no-line, cut-line}
 use borrow.Author.Needs.{needs}
 use Rattle.replay.proofs.input.ending.Statement.{statement}

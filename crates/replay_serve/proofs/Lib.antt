@@ -1,0 +1,4 @@
+pub mod ServeLaws
+pub mod CallLaws
+pub mod ReadLaws
+pub mod ProgramLaws

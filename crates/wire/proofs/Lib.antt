@@ -1,8 +1,0 @@
-pub mod NumberLaws
-pub mod KindLaws
-pub mod DecimalLaws
-pub mod PutLaws
-pub mod ParseLaws
-pub mod Examples
-pub mod MoreLaws
-pub mod StreamLaws

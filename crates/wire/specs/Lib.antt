@@ -1,4 +1,0 @@
-pub mod Record
-pub mod Text
-pub mod Stream
-pub mod Examples

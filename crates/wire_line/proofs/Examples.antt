@@ -1,0 +1,20 @@
+-- The lines of document 01's example compute, and so do those of the other answers.
+-- Assumes nothing.
+use mathlib.Core.Path.{_≡_, refl}
+use mathlib.Core.Bool.{false}
+use mathlib.Core.List.{[], _∷_}
+use Rattle.model.specs.Answers.{line, number}
+use Rattle.model.specs.declared.Answer.the-variants.{Taken, Items, Held, Refused}
+use Rattle.model.specs.declared.Refusal.the-variants as Refusal
+use Rattle.wire_line.specs.Text.{codes, digitsIn, digits, decimal, spaced}
+use Rattle.wire_line.specs.Examples.{sevenAnswers, texts}
+
+-- "`done`, `lane 0 0`, `taken 1`, `item 11 0 0`, `empty`, `done`, `disconnected`", "one line each, no header"
+pub seven-lines : texts sevenAnswers [] ≡ codes "done\nlane 0 0\ntaken 1\nitem 11 0 0\nempty\ndone\ndisconnected\n"
+unfolding line spaced decimal digits digitsIn
+seven-lines = refl
+
+-- "`items N` and the N values on that line, a space before each; `held N`; `refused N`"; "(woken: 1 or 0)"
+pub other-lines : texts (Items 2 ∷ Items 0 ∷ Held 1203 ∷ Refused Refusal.Malformed ∷ Taken false ∷ []) (100 ∷ 9 ∷ 7 ∷ []) ≡ codes "items 2 100 9\nitems 0\nheld 1203\nrefused 15\ntaken 0\n"
+unfolding line number spaced decimal digits digitsIn
+other-lines = refl

@@ -1,0 +1,2 @@
+// Document 01's lines as bytes: what the replay program writes.
+pub mod line;

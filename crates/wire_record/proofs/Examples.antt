@@ -1,0 +1,59 @@
+-- The records of document 01's example compute, and so do inputs around it.
+-- Assumes nothing.
+use mathlib.Core.Path.{_≡_, refl}
+use mathlib.Core.List.{List, [], _∷_, _++_}
+use Rattle.model.specs.declared.ReceiveCall.the-variants.{TryRecv, TryRecvBatchInto}
+use Rattle.model.specs.declared.Call.the-variants.{Receive}
+use Rattle.wire_record.specs.declared.record.Record.the-variants.{Call}
+use Rattle.wire_record.specs.declared.record.Parsed.the-variants.{Incomplete, Malformed, Whole}
+use Rattle.wire_record.specs.Record.{number, parseAs, parse}
+use Rattle.wire_record.specs.Stream.{streamIn, stream, ended, malformed}
+use Rattle.wire_record.specs.Examples.{u64, receive, sevenBytes, sevenRecords, eachKindBytes, eachKindRecords}
+
+pub receive-is : parse receive ≡ Whole (Call (Receive TryRecv)) 4
+unfolding parse parseAs number
+receive-is = refl
+
+pub seven-records : stream sevenBytes ≡ record { records = sevenRecords; ending = ended }
+unfolding stream streamIn parse parseAs number
+seven-records = refl
+
+pub each-kind : stream eachKindBytes ≡ record { records = eachKindRecords; ending = ended }
+unfolding stream streamIn parse parseAs number
+each-kind = refl
+
+-- "input ending inside a record"
+pub cut-record : stream (receive ++ (2 ∷ 0 ∷ 5 ∷ [])) ≡ record { records = Call (Receive TryRecv) ∷ []; ending = malformed }
+unfolding stream streamIn parse parseAs number
+cut-record = refl
+
+-- "it stops": what follows a malformed record is not read
+pub stops-there : stream (receive ++ (3 ∷ 0 ∷ 5 ∷ 0 ∷ 0 ∷ []) ++ receive) ≡ record { records = Call (Receive TryRecv) ∷ []; ending = malformed }
+unfolding stream streamIn parse parseAs number
+stops-there = refl
+
+-- "a kind not listed", in its low and in its high byte, and "a length that is not its kind's"
+pub not-listed : parse (2 ∷ 0 ∷ 16 ∷ 0 ∷ []) ≡ Malformed
+unfolding parse parseAs number
+not-listed = refl
+
+pub not-listed-high : parse (2 ∷ 0 ∷ 5 ∷ 1 ∷ []) ≡ Malformed
+unfolding parse parseAs number
+not-listed-high = refl
+
+pub other-length : parse ((10 ∷ 0 ∷ 5 ∷ 0 ∷ []) ++ u64 0) ≡ Malformed
+unfolding parse parseAs number
+other-length = refl
+
+pub other-length-high : parse (2 ∷ 1 ∷ 5 ∷ 0 ∷ []) ≡ Malformed
+unfolding parse parseAs number
+other-length-high = refl
+
+-- the beginning of a batch, and a batch with each byte of its limit another
+pub begun : parse (10 ∷ 0 ∷ 8 ∷ 0 ∷ 1 ∷ 0 ∷ 0 ∷ []) ≡ Incomplete
+unfolding parse parseAs number
+begun = refl
+
+pub batch : parse (10 ∷ 0 ∷ 8 ∷ 0 ∷ 8 ∷ 7 ∷ 6 ∷ 5 ∷ 4 ∷ 3 ∷ 2 ∷ 1 ∷ 255 ∷ []) ≡ Whole (Call (Receive (TryRecvBatchInto 72623859790382856 64))) 12
+unfolding parse parseAs number
+batch = refl

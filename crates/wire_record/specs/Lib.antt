@@ -1,0 +1,3 @@
+pub mod Record
+pub mod Stream
+pub mod Examples
