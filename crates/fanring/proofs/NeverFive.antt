@@ -39,7 +39,7 @@ use Rattle.control.specs.Control.{pause, resume, closeLane, closeReceiver}
 use Rattle.all_lanes.specs.AllLanes.{releaseConsumed, pollAllLanes, countHeld}
 use Rattle.control.specs.Calls.{controlWords}
 use Rattle.receive.specs.Receive.{tryRecv, tryRecvFair}
-use Rattle.receive_batch.specs.Batch.{roomVerdict, batchVerdict, tryRecvBatchInto}
+use Rattle.receive_batch.specs.Batch.{roomVerdict, batchVerdict, batchWords}
 use Rattle.receive_from.specs.Target.{tryRecvFrom}
 use Rattle.refinement.specs.Runs.{receiveWords, callWords}
 use Rattle.refinement.proofs.RefusedUnmoved.{answer-one-accepted, take-from-accepted, batch-accepted}
@@ -162,7 +162,7 @@ module _ (t r : List ℕ) where
   control-never CountHeld = result (countHeld t r) refl
 
   receive-never : (c : ReceiveCall) → NotRefusedFive (receiveWords t r c)
-  unfolding receiveWords tryRecv tryRecvFair tryRecvFrom tryRecvBatchInto
+  unfolding receiveWords tryRecv tryRecvFair tryRecvFrom batchWords
   receive-never TryRecv = unless-result (receiver-verdict t) _ (answer-one-accepted _ _)
   receive-never TryRecvFair = unless-result (receiver-verdict t) _ (answer-one-accepted _ _)
   receive-never (TryRecvFrom i) = unless-result (id-verdict t i) _ (take-from-accepted t r _)

@@ -30,7 +30,7 @@ use Rattle.store.specs.Words.{unlessRefused, withRings}
 use Rattle.turns.specs.Turn.{Turning}
 use Rattle.turns.specs.Drained.{Idle}
 use Rattle.all_lanes.specs.AllLanes.{forSlots, AllRefundable, releaseSlot, releaseAll}
-use Rattle.receive_batch.specs.Batch.{drained, drainInto, roomVerdict, batchVerdict, answerItems, RestsAt, batchAnswer, tryRecvBatchInto, handedBy, batchHands, batchInto}
+use Rattle.receive_batch.specs.Batch.{drained, drainInto, roomVerdict, batchVerdict, answerItems, RestsAt, batchAnswer, batchWords, handedBy, batchHands, tryRecvBatchInto}
 use Rattle.store.proofs.CountLaws.{one}
 use Rattle.store.proofs.StepLaws.{Step, step-from, step-put-lane}
 use Rattle.store.proofs.CreditLaws.{GivesBack, gives-back}
@@ -102,16 +102,16 @@ module _ (t r out : List ℕ) (limit : ℕ) where
       let w = unlessRefused v t r (withRings r (batchAnswer t r limit)) in
       (w .0, w .1, w .2, rules.writtenTo (handedBy v (drained t r limit .0)) out)
 
-  is-by-verdict : batchInto t r out limit ≡ by-verdict (batchVerdict t limit (length out))
-  unfolding batchInto tryRecvBatchInto batchHands by-verdict
+  is-by-verdict : tryRecvBatchInto t r out limit ≡ by-verdict (batchVerdict t limit (length out))
+  unfolding tryRecvBatchInto batchWords batchHands by-verdict
   is-by-verdict = refl
 
-  pub batch-refused : (why : Refusal) → batchVerdict t limit (length out) ≡ Refuse why → (Refused why, t, r, out) ≡ batchInto t r out limit
+  pub batch-refused : (why : Refusal) → batchVerdict t limit (length out) ≡ Refuse why → (Refused why, t, r, out) ≡ tryRecvBatchInto t r out limit
   unfolding by-verdict unlessRefused handedBy
   batch-refused why e = sym (is-by-verdict ∙ ap by-verdict e ∙ ap (λ (o : List ℕ). (Refused why, t, r, o)) (output-none out))
 
   module _ (n : ℕ) (u o : List ℕ) (d : (n, u, o) ≡ drainInto t r out limit) where
-    pub batch-done : (a : Answer) (v w : List ℕ) → batchVerdict t limit (length out) ≡ Pass → w ≡ releaseAll u → (a, v) ≡ answerItems limit n w → (a, v, r, o) ≡ batchInto t r out limit
+    pub batch-done : (a : Answer) (v w : List ℕ) → batchVerdict t limit (length out) ≡ Pass → w ≡ releaseAll u → (a, v) ≡ answerItems limit n w → (a, v, r, o) ≡ tryRecvBatchInto t r out limit
     unfolding by-verdict unlessRefused handedBy batchAnswer drainInto
     batch-done a v w e p q =
         ap (λ (z : Answer × List ℕ). (z .0, z .1, r, o)) (q ∙ ap (answerItems limit n) p)

@@ -150,8 +150,8 @@ RestsAt limit n t = n ≡ 0 → (limit ≡ 0 → ⊥) → Idle t
 unfoldable pub batchAnswer : List ℕ → List ℕ → ℕ → Answer × List ℕ
 batchAnswer t r limit = let d = drained t r limit in answerItems limit (length (d .0)) (releaseAll (d .1))
 
-unfoldable pub tryRecvBatchInto : List ℕ → List ℕ → ℕ → ℕ → Words
-tryRecvBatchInto t r limit room = unlessRefused (batchVerdict t limit room) t r (withRings r (batchAnswer t r limit))
+unfoldable pub batchWords : List ℕ → List ℕ → ℕ → ℕ → Words
+batchWords t r limit room = unlessRefused (batchVerdict t limit room) t r (withRings r (batchAnswer t r limit))
 
 -- what is handed out; nothing by a call that is refused
 unfoldable pub handedBy : Verdict → List (LaneKey × ℕ) → List (LaneKey × ℕ)
@@ -162,7 +162,7 @@ unfoldable pub batchHands : List ℕ → List ℕ → ℕ → ℕ → List (Lane
 batchHands t r limit room = handedBy (batchVerdict t limit room) (drained t r limit .0)
 
 -- the answer, the table store, the ring store and the output
-unfoldable pub batchInto : List ℕ → List ℕ → List ℕ → ℕ → Answer × List ℕ × List ℕ × List ℕ
-batchInto t r out limit =
-    let w = tryRecvBatchInto t r limit (length out) in
+unfoldable pub tryRecvBatchInto : List ℕ → List ℕ → List ℕ → ℕ → Answer × List ℕ × List ℕ × List ℕ
+tryRecvBatchInto t r out limit =
+    let w = batchWords t r limit (length out) in
     (w .0, w .1, w .2, rules.writtenTo (batchHands t r limit (length out)) out)

@@ -21,7 +21,7 @@ ghost use Rattle.receive_batch.specs.Batch.{
   batchVerdict,
   RestsAt,
   answerItems,
-  batchInto,
+  tryRecvBatchInto,
 };
 use lane::lane::Lane;
 use lane::lane::Refill;
@@ -215,7 +215,7 @@ fn answer_items(t: &mut [u64], limit: u64, received: u64) -> Answer
 // Receives up to `limit` items into the output, and gives back the places of all items that were handed out.
 pub fn try_recv_batch_into(t: &mut [u64], r: &[u64], out: &mut [u64], limit: u64) -> Answer
     requires { ⌜ StoreInOrder (now t) (now r) ⌝ }
-    ensures { λ a. ⌜ (a, now (t .exit), now (r .entry), now (out .exit)) ≡ batchInto (now (t .entry)) (now (r .entry)) (now (out .entry)) limit ⌝ }
+    ensures { λ a. ⌜ (a, now (t .exit), now (r .entry), now (out .exit)) ≡ tryRecvBatchInto (now (t .entry)) (now (r .entry)) (now (out .entry)) limit ⌝ }
 {
     match batch_verdict(t, limit, out.len() as u64) {
         Verdict::Refuse { why } => Answer::Refused { why: why },

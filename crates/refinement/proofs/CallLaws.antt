@@ -18,7 +18,7 @@ use Rattle.lane.specs.Table.{laneAt}
 use Rattle.queues.specs.Queue.{queueOf}
 use Rattle.store.specs.View.{view}
 use Rattle.store.specs.Order.{StoreInOrder}
-use Rattle.receive_batch.specs.Batch.{tryRecvBatchInto, batchHands, batchInto}
+use Rattle.receive_batch.specs.Batch.{batchWords, batchHands, tryRecvBatchInto}
 use Rattle.refinement.specs.Runs.{receiveWords, handsWords, outputWords, callWords}
 use Rattle.store.proofs.RefusalLaws.{seen}
 use Rattle.sender.proofs.SenderLaws.{sender-calls-alike, sender-calls-keep-order}
@@ -47,7 +47,7 @@ unfolding callWords receiveWords outputWords HasRoom
 output-unmoved t r TryRecv out h why e = refl
 output-unmoved t r TryRecvFair out h why e = refl
 output-unmoved t r (TryRecvFrom i) out h why e = refl
-output-unmoved t r (TryRecvBatchInto limit room) out h why e = batch-output-unmoved t r out limit why (ap (λ (n : ℕ). (tryRecvBatchInto t r limit n) .0) h ∙ e)
+output-unmoved t r (TryRecvBatchInto limit room) out h why e = batch-output-unmoved t r out limit why (ap (λ (n : ℕ). (batchWords t r limit n) .0) h ∙ e)
 
 module _ (t r : List ℕ) (o : StoreInOrder t r) where
   pub call-alike : (c : Call) → seen (callWords t r c) ≡ (outcome (view t r) c) .1
@@ -76,7 +76,7 @@ module _ (t r : List ℕ) (o : StoreInOrder t r) where
   hands-alike (TryRecvBatchInto limit room) = try-recv-batch-hands t r o limit room
 
   pub output-alike : (c : ReceiveCall) (out : List ℕ) → HasRoom c out → outputWords t r c out ≡ outputAfter (view t r) c out
-  unfolding outputWords outputAfter HasRoom batchInto
+  unfolding outputWords outputAfter HasRoom tryRecvBatchInto
   output-alike TryRecv out h = refl
   output-alike TryRecvFair out h = refl
   output-alike (TryRecvFrom i) out h = refl

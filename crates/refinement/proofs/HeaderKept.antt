@@ -43,7 +43,7 @@ use Rattle.turns.specs.Drained.{retireEmptyPaused, retireEmptyPausedLanes, empt
 use Rattle.receive.specs.Receive.{elseTake, takeFromWindow, fastTook, takeFast, takeIfPopped, takeFrontWindow, pollLoop, tryRecvRefill, takeOne, takeLone, takeFair, answerOne, tryRecv, tryRecvFair}
 use Rattle.turns.specs.Due.{collectIfDue}
 use Rattle.receive_from.specs.Target.{settleTarget, queueTarget, keepTarget, targetTook, takeFrom, tryRecvFrom}
-use Rattle.receive_batch.specs.Batch.{lookBy, lookFront, afterLook, runDownWithin, runDown, elseFront, refreshActive, fullBudget, chunkSize, gaveChunk, chunkGiven, HandsAndTable, chunkThen, drainedWithin, drained, answerItems, batchAnswer, tryRecvBatchInto}
+use Rattle.receive_batch.specs.Batch.{lookBy, lookFront, afterLook, runDownWithin, runDown, elseFront, refreshActive, fullBudget, chunkSize, gaveChunk, chunkGiven, HandsAndTable, chunkThen, drainedWithin, drained, answerItems, batchAnswer, batchWords}
 use Rattle.refinement.specs.Runs.{receiveWords, callWords}
 use Rattle.store.proofs.HeaderWords.{placeOf, beside, apart}
 use Rattle.turns.proofs.FrontLaws.{head-left, head-met, head-gave}
@@ -268,7 +268,7 @@ module _ {c : KeptWord} where
   -- ---- every call
 
   receive-at : (t r : List ℕ) (s : ReceiveCall) → At c t → At c ((receiveWords t r s) .1)
-  unfolding receiveWords tryRecv tryRecvFair tryRecvFrom takeFrom tryRecvBatchInto
+  unfolding receiveWords tryRecv tryRecvFair tryRecvFrom takeFrom batchWords
   receive-at t r TryRecv h = unless-at t h _ r _ (at-answer (channel t) (takeOne t r) (at-one t r h))
   receive-at t r TryRecvFair h = unless-at t h _ r _ (at-answer (channel t) (takeFair t r) (at-fair t r h))
   receive-at t r (TryRecvFrom i) h = unless-at t h _ r _ (at-target t r h (i .key .slot) (refill (laneAt t (i .key .slot))))

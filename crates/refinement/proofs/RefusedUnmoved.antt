@@ -37,7 +37,7 @@ use Rattle.control.specs.Control.{pause, resume, closeLane, closeReceiver}
 use Rattle.all_lanes.specs.AllLanes.{releaseConsumed, pollAllLanes, countHeld}
 use Rattle.turns.specs.Drained.{retireEmptyPausedLanes, emptyOrDrained, nothingTaken}
 use Rattle.receive.specs.Receive.{takeOne, takeFair, answerOne, tryRecv, tryRecvFair}
-use Rattle.receive_batch.specs.Batch.{drained, batchVerdict, answerItems, batchAnswer, tryRecvBatchInto, handedBy, batchHands, batchInto}
+use Rattle.receive_batch.specs.Batch.{drained, batchVerdict, answerItems, batchAnswer, batchWords, handedBy, batchHands, tryRecvBatchInto}
 use Rattle.receive_from.specs.Target.{settleTarget, targetTook, takeFrom, tryRecvFrom}
 use Rattle.refinement.specs.Runs.{}
 use Rattle.control.specs.Calls.{controlWords}
@@ -158,12 +158,12 @@ module _ (t r : List ℕ) (limit : ℕ) where
   unfolding batchAnswer
   batch-accepted = answer-items-accepted limit _ _
 
-  pub batch-unmoved : (room : ℕ) → Unmoved t r (tryRecvBatchInto t r limit room)
-  unfolding tryRecvBatchInto
+  pub batch-unmoved : (room : ℕ) → Unmoved t r (batchWords t r limit room)
+  unfolding batchWords
   batch-unmoved room = unless-accepted t r _ _ batch-accepted
 
-pub batch-output-unmoved : (t r out : List ℕ) (limit : ℕ) (why : Refusal) → (tryRecvBatchInto t r limit (length out)) .0 ≡ Refused why → (batchInto t r out limit) .3 ≡ out
-unfolding tryRecvBatchInto batchInto batchHands unlessRefused handedBy writtenTo accepted
+pub batch-output-unmoved : (t r out : List ℕ) (limit : ℕ) (why : Refusal) → (batchWords t r limit (length out)) .0 ≡ Refused why → (tryRecvBatchInto t r out limit) .3 ≡ out
+unfolding batchWords tryRecvBatchInto batchHands unlessRefused handedBy writtenTo accepted
 batch-output-unmoved t r out limit why e = go (batchVerdict t limit (length out)) e
   where
     go : (v : Verdict) → (unlessRefused v t r (withRings r (batchAnswer t r limit))) .0 ≡ Refused why → writtenTo (handedBy v (drained t r limit .0)) out ≡ out

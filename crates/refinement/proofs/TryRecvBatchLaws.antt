@@ -29,7 +29,7 @@ use Rattle.store.specs.Refusal.{andThen}
 use Rattle.store.specs.Words.{Words, withRings}
 use Rattle.turns.specs.Drained.{nothingTaken}
 use Rattle.all_lanes.specs.AllLanes.{releaseAll}
-use Rattle.receive_batch.specs.Batch.{HandsAndTable, drained, roomVerdict, batchVerdict, answerItems, batchAnswer, tryRecvBatchInto, handedBy, batchHands}
+use Rattle.receive_batch.specs.Batch.{HandsAndTable, drained, roomVerdict, batchVerdict, answerItems, batchAnswer, batchWords, handedBy, batchHands}
 use Rattle.store.proofs.RefusalLaws.{seen, firstOf, first-of-append, receiver-verdict, refused-alike, unless-refused-case}
 use Rattle.all_lanes.proofs.ReleaseConsumedLaws.{view-release-all, stores-release-all}
 use Rattle.refinement.proofs.NothingTakenLaws.{nothing-taken-alike, nothing-taken-keeps}
@@ -119,13 +119,13 @@ module _ (t r : List ℕ) (o : StoreInOrder t r) (limit room : ℕ) where
       answer-items-alike (d .1) r (taken .in-order) limit (d .0)
       ∙ ap (λ (z : Took). (rules.answerItems limit (z .0) (rules.releaseAll (z .1))) .1) (taken .alike)
 
-  pub try-recv-batch-alike : seen (tryRecvBatchInto t r limit room) ≡ (rules.tryRecvBatchInto (view t r) limit room) .1
-  unfolding tryRecvBatchInto rules.tryRecvBatchInto outcome
+  pub try-recv-batch-alike : seen (batchWords t r limit room) ≡ (rules.tryRecvBatchInto (view t r) limit room) .1
+  unfolding batchWords rules.tryRecvBatchInto outcome
   try-recv-batch-alike =
       refused-alike (batchVerdict t limit room) (tests t r limit room) t r (withRings r (batchAnswer t r limit)) outcome (batch-verdict t r limit room) (λ e. batch-answer-alike)
 
-  pub try-recv-batch-keeps : StoreInOrder ((tryRecvBatchInto t r limit room) .1) ((tryRecvBatchInto t r limit room) .2)
-  unfolding tryRecvBatchInto batchAnswer
+  pub try-recv-batch-keeps : StoreInOrder ((batchWords t r limit room) .1) ((batchWords t r limit room) .2)
+  unfolding batchWords batchAnswer
   try-recv-batch-keeps =
       unless-refused-case (λ (z : Words). StoreInOrder (z .1) (z .2)) (batchVerdict t limit room) t r (withRings r (batchAnswer t r limit)) (λ why e. o)
       (λ e. answer-items-keeps (d .1) r (taken .in-order) limit (length (d .0)))

@@ -20,7 +20,7 @@ use Rattle.sender.specs.Sender.{senderWords}
 use Rattle.control.specs.Calls.{controlWords}
 use Rattle.receive.specs.Receive.{tryRecv, tryRecvFair}
 use Rattle.receive_from.specs.Target.{tryRecvFrom}
-use Rattle.receive_batch.specs.Batch.{tryRecvBatchInto, batchHands, batchInto}
+use Rattle.receive_batch.specs.Batch.{batchWords, batchHands, tryRecvBatchInto}
 use Rattle.refinement.specs.Hands.{handsOf}
 
 -- every receive
@@ -28,7 +28,7 @@ unfoldable pub receiveWords : List ℕ → List ℕ → ReceiveCall → Words
 receiveWords t r TryRecv = tryRecv t r
 receiveWords t r TryRecvFair = tryRecvFair t r
 receiveWords t r (TryRecvFrom i) = tryRecvFrom t r i
-receiveWords t r (TryRecvBatchInto limit room) = tryRecvBatchInto t r limit room
+receiveWords t r (TryRecvBatchInto limit room) = batchWords t r limit room
 
 -- what a receive hands out: a single one the item that it answers
 unfoldable pub handsWords : List ℕ → List ℕ → ReceiveCall → List (LaneKey × ℕ)
@@ -42,7 +42,7 @@ unfoldable pub outputWords : List ℕ → List ℕ → ReceiveCall → List ℕ 
 outputWords t r TryRecv out = out
 outputWords t r TryRecvFair out = out
 outputWords t r (TryRecvFrom i) out = out
-outputWords t r (TryRecvBatchInto limit room) out = (batchInto t r out limit) .3
+outputWords t r (TryRecvBatchInto limit room) out = (tryRecvBatchInto t r out limit) .3
 
 -- every call
 unfoldable pub callWords : List ℕ → List ℕ → Call → Words

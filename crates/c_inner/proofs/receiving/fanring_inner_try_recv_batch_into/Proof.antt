@@ -1,14 +1,14 @@
 -- `c_inner::receiving::fanring_inner_try_recv_batch_into` meets its contract.
 -- Assumes nothing.
 use borrow.Author.Needs.{needs}
-use Rattle.receive_batch.specs.Batch.{batchInto}
+use Rattle.receive_batch.specs.Batch.{tryRecvBatchInto}
 use Rattle.refinement.specs.Runs.{receiveWords, outputWords, callWords}
 use Rattle.c_answer.proofs.ToldLaws.{told-into}
 use Rattle.c_inner.proofs.receiving.fanring_inner_try_recv_batch_into.Statement.{statement}
 use Rattle.c_inner.proofs.receiving.fanring_inner_try_recv_batch_into.Tie as tie
 
 returns : tie.Need-returns
-unfolding callWords receiveWords outputWords batchInto
+unfolding callWords receiveWords outputWords tryRecvBatchInto
 returns c = told-into (c .before .before .before .before .before .before .before .before .before .before .before .before .args .words .now) (c .tell .ensures .0) (c .tell .ensures .1) (c .before .before .before .before .before .before .try-recv-batch-into .ensures)
 
 pub fanring-inner-try-recv-batch-into-spec : {M : Type 1} → statement M

@@ -2,7 +2,7 @@
 -- Assumes nothing.
 use borrow.Author.Tests.{not-true, not-false}
 use borrow.Author.Needs.{needs}
-use Rattle.receive_batch.specs.Batch.{batchInto}
+use Rattle.receive_batch.specs.Batch.{tryRecvBatchInto}
 use Rattle.refinement.specs.Runs.{receiveWords, outputWords, callWords}
 use Rattle.fanring.proofs.CheckedLaws.{refuses-into, passes-into}
 use Rattle.fanring.proofs.batch.try_recv_batch_into.Statement.{statement}
@@ -15,7 +15,7 @@ try-recv-batch-into-requires : tie.Need-try-recv-batch-into-requires
 try-recv-batch-into-requires c κs = c .before .before .before .in-order .ensures .0 (not-false _ (c .before .before .if1 .left))
 
 returns-2 : tie.Need-returns-2
-unfolding callWords receiveWords outputWords batchInto
+unfolding callWords receiveWords outputWords tryRecvBatchInto
 returns-2 c = passes-into (c .before .before .before .before .before .before .before .before .in-order .ensures) (not-false _ (c .before .before .before .before .before .before .before .if1 .left)) _ _ (c .before .before .before .before .try-recv-batch-into .ensures)
 
 pub try-recv-batch-into-spec : {M : Type 1} → statement M
