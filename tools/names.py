@@ -3,6 +3,7 @@
 A list has a line for each name; # starts a comment. The new names hold all at one time, so that two may be exchanged.
 
     crate OLD NEW                     a crate: its folder, and whatever names it
+    proofs CRATE NEW                  proofs/ of a crate, which become crate NEW above it; NEW's other files, and crates.txt, are left to a person
     module CRATE::OLD CRATE::NEW      a file of a crate: src/OLD.rt with proofs/OLD/, or OLD.antt in specs/ or proofs/
     name [CRATE [MODULE]] OLD NEW     a definition, one of specs/
     law [CRATE [MODULE]] OLD NEW      a law, or whatever else proofs/ has
@@ -20,7 +21,7 @@ import re
 
 import source
 
-KINDS = {"crate", "module", "name", "law", "fn"}
+KINDS = {"crate", "proofs", "module", "name", "law", "fn"}
 MODULE = re.compile(r"Rattle·(\w+)(?:·(?:specs|proofs))?\.(specs|proofs)\.(.+)")
 USE = re.compile(r"^[ \t]*(pub |ghost )?use\s+([^\s;{]+?)(?:\.\{([^}]*)\})?(?:\s+as\s+(\S+?))?[ \t]*;?[ \t]*$", re.M)
 
@@ -33,17 +34,19 @@ class Names:
     """A list of changed names."""
 
     def __init__(self, text):
-        self.crates, self.modules, self.names, self.functions = {}, {}, [], {}
+        self.crates, self.parted, self.modules, self.names, self.functions = {}, {}, {}, [], {}
         for number, line in enumerate(text.split("\n"), 1):
             words = line.split("#")[0].split()
             if not words:
                 continue
             places = {"name": (0, 2), "law": (0, 2), "fn": (1, 2)}.get(words[0], (0, 0))
             if words[0] not in KINDS or not places[0] <= len(words) - 3 <= places[1]:
-                raise Wrong(f"line {number}: expected 'crate', 'module', 'name', 'law' or 'fn' and two names: {line.strip()}")
+                raise Wrong(f"line {number}: expected 'crate', 'proofs', 'module', 'name', 'law' or 'fn' and two names: {line.strip()}")
             kind, *where, old, new = words
             if kind == "crate":
                 self.crates[old] = new
+            elif kind == "proofs":
+                self.parted[old] = new
             elif kind == "module":
                 crate, _, name = old.partition("::")
                 if not name or not new.startswith(crate + "::"):
@@ -60,6 +63,8 @@ class Names:
         if part[0] != "crates" or len(part) < 3:
             return path
         part[1] = self.crates.get(part[1], part[1])
+        if part[2] == "proofs":
+            part[1] = self.parted.get(part[1], part[1])
         if len(part) > 3:
             folder, (stem, dot, ending) = part[2], part[3].partition(".")
             if (folder, ending) in (("src", "rt"), ("specs", "antt"), ("proofs", "antt"), ("proofs", "")):
@@ -110,6 +115,10 @@ class Names:
         if path == "crates.txt":
             text = "\n".join(line if line.startswith("#") else re.sub(r"\w+", lambda m: self.crates.get(m[0], m[0]), line)
                              for line in text.split("\n"))
+        for crate, new in self.parted.items():
+            if own == new:
+                text = text.replace(f"Rattle.{crate}.proofs.", f"Rattle.{new}.proofs.").replace(f"Rattle.{crate}.specs.", f"Rattle.{crate}.specs.")
+            text = text.replace(f"Rattle.{crate}.proofs.", f"Rattle.{new}.proofs.").replace(f"crates/{crate}/proofs", f"crates/{new}/proofs")
         for (crate, old), new in self.modules.items():
             text = re.sub(rf"(?<![\w:]){crate}::{old}(?!\w)", f"{crate}::{new}", text)
             text = re.sub(rf"(Rattle.{crate}(?:·\w+)?\.(?:specs|proofs)\.(?:declared\.)?){old}(?!{source.PART})", rf"\g<1>{new}", text)
