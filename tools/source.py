@@ -97,11 +97,18 @@ def antt_items(text, laws=False):
 # .rt
 
 
+# A comment, or a literal of bytes, in which // is no comment.
+APART = re.compile(r"//[^\n]*|b\"(?:[^\"\\]|\\.)*\"|b'(?:[^'\\]|\\.)+'")
+
+
+def uncommented_rt(text):
+    """Text with blanks in place of comments; the places stay."""
+    return APART.sub(lambda found: " " * len(found[0]) if found[0].startswith("//") else found[0], text)
+
+
 def bare_rt(text):
     """Text without comments, and with a blank in place of each character of a literal; the places stay."""
-    def blank(found):
-        return re.sub(r"[^\n]", " ", found[0]) if found[0].startswith("//") else found[0][:2] + "_" * (len(found[0]) - 3) + found[0][-1]
-    return re.sub(r"//[^\n]*|b\"(?:[^\"\\]|\\.)*\"|b'(?:[^'\\]|\\.)+'", blank, text)
+    return APART.sub(lambda found: found[0][:2] + re.sub(r"[^\n]", "_", found[0][2:-1]) + found[0][-1], uncommented_rt(text))
 
 
 def past(text, at, left, right):
@@ -133,7 +140,8 @@ FUNCTION = re.compile(r"(\bpub(?:\([^)]*\))?\s+)?(extern\s+\"C\"\s+)?\bfn\s+(\w+
 
 
 def functions(text):
-    """The functions of an .rt file, in order."""
+    """The functions of an .rt file, in order. Literals are blank in parameters and clauses, and as they are written in promise and body."""
+    written = uncommented_rt(text)
     text = bare_rt(text)
     holders = [(m.start(), past(text, m.end() - 1, "{", "}"), m[1]) for m in re.finditer(r"\bimpl\s+(\w+)\s*\{", text)]
     found = []
@@ -157,13 +165,13 @@ def functions(text):
         end = past(text, brace, "{", "}")
         holder = [name + "::" for first, last, name in holders if first < start.start() < last]
         found.append(Function(bool(start[1]), "".join(holder) + start[3], parameters, result, clauses["requires"], clauses["ensures"],
-                              text[start.start():brace], text[brace:end], start.start(), end))
+                              written[start.start():brace], written[brace:end], start.start(), end))
     return found
 
 
 def rt_items(text):
     """The types and constants of an .rt file."""
-    bare = bare_rt(text)
+    written, bare = uncommented_rt(text), bare_rt(text)
     holders = [(m.start(), past(bare, m.end() - 1, "{", "}"), m[1]) for m in re.finditer(r"\bimpl\s+(\w+)\s*\{", bare)]
     inside = [(f.start, f.end) for f in functions(text)]
     found = []
@@ -180,10 +188,5 @@ def rt_items(text):
             while bare[m.end():end].count("[") > bare[m.end():end].count("]"):
                 end = bare.index(";", end + 1)
         holder = [name + "::" for first, last, name in holders if first < m.start() < last]
-        found.append(Item("".join(holder) + m[2], spaced(text_between(text, m.start(), end)), ""))
+        found.append(Item("".join(holder) + m[2], spaced(written[m.start():end]), ""))
     return found
-
-
-def text_between(text, start, end):
-    """A part of an .rt file as it is written, without comments."""
-    return re.sub(r"//[^\n]*", "", text[start:end])
