@@ -4,26 +4,16 @@ use mathlib.Core.Path.{_≡_, refl}
 use mathlib.Core.Bool.{true, false}
 use mathlib.Core.List.{List, [], _∷_, _++_}
 use Prim.Native.Nat.{ℕ}
-use Rattle.model.specs.declared.LaneKey.{LaneKey}
-use Rattle.model.specs.declared.LaneId.{LaneId}
-use Rattle.model.specs.declared.SenderCall.the-variants.{RegisterSender, TrySend, TrySendUnsignaled}
+use Rattle.model.specs.declared.SenderCall.the-variants.{TrySend, TrySendUnsignaled}
 use Rattle.model.specs.declared.ReceiveCall.the-variants.{TryRecv}
 use Rattle.model.specs.declared.ControlCall.the-variants.{Pause, CloseLane}
 use Rattle.model.specs.declared.Call.the-variants.{Sender, Control}
 use Rattle.model.specs.declared.Refusal.the-variants.{Full}
-use Rattle.model.specs.declared.Answer.the-variants.{Done, Registered, Taken, Refused}
+use Rattle.model.specs.declared.Answer.the-variants.{Done, Taken, Refused}
 use Rattle.model.specs.Runs.{accepted, Tick, gives, ends, sameKey}
 use Rattle.model.specs.Ledger.{atOpening, changeLane, addItem, removeOldest, setPaused, setClosed, addRegistered, applyCall, note, ledgerAfter}
 use Rattle.model.specs.Held.{heldBy, heldByLanes}
-
-lane : ℕ → LaneKey
-lane x = record { slot = x; generation = 0 }
-
-laneId : ℕ → LaneId
-laneId x = record { channel = 7; key = lane x }
-
-registered : ℕ → Tick
-registered x = ends (Sender (RegisterSender 9)) (Registered (lane x))
+use Rattle.model.specs.StretchExamples.{lane, laneId, registered}
 
 sent : ℕ → Tick
 sent x = ends (Sender (TrySend (lane x) 5)) (Taken true)

@@ -19,10 +19,10 @@ use Rattle.model.specs.Stretch.{endsWait, endsStretch, looks, findsNothi
 use Rattle.model.specs.Demand2.{outOf, into, shuts, HasRoom}
 use Rattle.model.specs.Demand3.{bound}
 
-lane : ℕ → LaneKey
+unfoldable pub lane : ℕ → LaneKey
 lane x = record { slot = x; generation = 0 }
 
-laneId : ℕ → LaneId
+unfoldable pub laneId : ℕ → LaneId
 laneId x = record { channel = 7; key = lane x }
 
 -- items of lane 0, and one of lane 1
@@ -114,7 +114,7 @@ has-room = (refl, (tt, (tt, tt)))
 
 -- ---- where the stretch of lane 1 may begin
 
-registered : ℕ → Tick
+unfoldable pub registered : ℕ → Tick
 registered x = ends (Sender (RegisterSender 9)) (Registered (lane x))
 
 -- an item sent ordinarily to lane x, to one that is idle and to one that is pending already, and one sent unsignalled

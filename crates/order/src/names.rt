@@ -38,7 +38,7 @@ pub(crate) fn queue_holds(t: &[u64], seen: &mut [u64; 128]) -> bool
     let mut row = t[Header::FRONT] as usize;
     let mut k = 0;
     while k < n {
-        if !seen::note(seen, table::cell(t, queue::PLACE, row), issued) {
+        if !seen::note(seen, table::cell(t, queue::COLUMN, row), issued) {
             return false;
         }
         row = next_row(row, slots);
@@ -60,7 +60,7 @@ pub(crate) fn free_holds(t: &[u64], seen: &mut [u64; 128]) -> bool
         k += 1;
         if !seen::note(
             seen,
-            table::cell(t, registry::PLACE, (n - k) as usize),
+            table::cell(t, registry::COLUMN, (n - k) as usize),
             issued,
         ) {
             return false;

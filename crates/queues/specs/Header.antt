@@ -57,6 +57,9 @@ laneCount t = head t 13
 abbrev pub livingCount : List ℕ → ℕ
 livingCount t = head t 14
 
+abbrev pub setIssued : List ℕ → ℕ → List ℕ
+setIssued t v = setHead t 0 v
+
 abbrev pub setQueueFront : List ℕ → ℕ → List ℕ
 setQueueFront t v = setHead t 1 v
 
@@ -66,14 +69,11 @@ setQueueCount t v = setHead t 2 v
 abbrev pub setFreeCount : List ℕ → ℕ → List ℕ
 setFreeCount t v = setHead t 3 v
 
-abbrev pub setGroupCursor : List ℕ → ℕ → List ℕ
-setGroupCursor t v = setHead t 6 v
-
-abbrev pub setIssued : List ℕ → ℕ → List ℕ
-setIssued t v = setHead t 0 v
-
 abbrev pub setBudget : List ℕ → ℕ → List ℕ
 setBudget t v = setHead t 5 v
+
+abbrev pub setGroupCursor : List ℕ → ℕ → List ℕ
+setGroupCursor t v = setHead t 6 v
 
 abbrev pub setAlive : List ℕ → ℕ → List ℕ
 setAlive t v = setHead t 7 v

@@ -8,7 +8,7 @@ use lane::lane::Lane;
 use lane::table;
 
 // The column of the rows that holds the queue's places.
-pub const PLACE: usize = Lane::LANE_WORDS;
+pub const COLUMN: usize = Lane::LANE_WORDS;
 
 // The row that is `n` past the front, round a ring of `slots`. A remainder would cost a division.
 fn row_of(front: u64, n: u64, slots: u64) -> usize
@@ -26,7 +26,7 @@ pub fn front_slot(t: &[u64]) -> u64
     requires { ⌜ Shaped (now t) ⌝ }
     ensures { λ r. ⌜ r ≡ frontSlot (now (t .entry)) ⌝ }
 {
-    table::cell(t, PLACE, t[Header::FRONT] as usize)
+    table::cell(t, COLUMN, t[Header::FRONT] as usize)
 }
 
 pub fn push_back(t: &mut [u64], slot: u64)
@@ -35,7 +35,7 @@ pub fn push_back(t: &mut [u64], slot: u64)
 {
     let n = t[Header::QUEUED];
     let row = row_of(t[Header::FRONT], n, t[Header::SLOTS]);
-    table::set_cell(t, PLACE, row, slot);
+    table::set_cell(t, COLUMN, row, slot);
     t[Header::QUEUED] = n + 1;
 }
 
@@ -57,7 +57,7 @@ pub fn rotate_left(t: &mut [u64])
     let slot = front_slot(t);
     let back = row_of(t[Header::FRONT], t[Header::QUEUED], t[Header::SLOTS]);
     let next = row_of(t[Header::FRONT], 1, t[Header::SLOTS]);
-    table::set_cell(t, PLACE, back, slot);
+    table::set_cell(t, COLUMN, back, slot);
     t[Header::FRONT] = next as u64;
 }
 
@@ -72,10 +72,10 @@ pub fn remove(t: &mut [u64], slot: u64)
     let mut kept = 0;
     let mut i = 0;
     while i < n {
-        let x = table::cell(t, PLACE, row_of(first, i, slots));
+        let x = table::cell(t, COLUMN, row_of(first, i, slots));
         i += 1;
         if x != slot {
-            table::set_cell(t, PLACE, row_of(first, kept, slots), x);
+            table::set_cell(t, COLUMN, row_of(first, kept, slots), x);
             kept += 1;
         }
     }

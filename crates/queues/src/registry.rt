@@ -8,14 +8,14 @@ use lane::lane::Lane;
 use lane::table;
 
 // The column of the rows that holds the free list's places.
-pub const PLACE: usize = Lane::LANE_WORDS + 1;
+pub const COLUMN: usize = Lane::LANE_WORDS + 1;
 
 pub fn free(t: &mut [u64], slot: u64)
     requires { ⌜ Shaped (now t) × (freeCount (now t) < slots (now t)) ⌝ }
     ensures { λ _. ⌜ now (t .exit) ≡ free (now (t .entry)) slot ⌝ }
 {
     let n = t[Header::FREE];
-    table::set_cell(t, PLACE, n as usize, slot);
+    table::set_cell(t, COLUMN, n as usize, slot);
     t[Header::FREE] = n + 1;
 }
 
@@ -25,7 +25,7 @@ pub fn last_freed(t: &[u64]) -> u64
     ensures { λ r. ⌜ r ≡ lastFreed (now (t .entry)) ⌝ }
 {
     let n = t[Header::FREE];
-    table::cell(t, PLACE, (n - 1) as usize)
+    table::cell(t, COLUMN, (n - 1) as usize)
 }
 
 // Takes the slot that was freed last off the list.

@@ -11,9 +11,9 @@ use native.Mathlib.Omega.{arith}
 use borrow.Author.Tests.{eqb-true, eqb-false, ne-eqb}
 use lib.Dec.{ltb, leb, eqb}
 use lib.ListN.{length}
-use Rattle.lane.specs.Table.{headerWords, HasRow, head, setCell, setHead, laneAt}
+use Rattle.lane.specs.Table.{headerWords, HasRow, head, setCell, laneAt}
 use Rattle.lane.proofs.TableLaws.{frames, has-row}
-use Rattle.queues.specs.Header.{Shaped, issued, slots}
+use Rattle.queues.specs.Header.{Shaped, issued, slots, setIssued}
 use Rattle.queues.specs.Queue.{queueOf}
 use Rattle.queues.specs.Registry.{freeOf}
 use Rattle.ready.specs.Bits.{bit}
@@ -101,12 +101,12 @@ module _ (t : List ℕ) (s : Shaped t) (room : issued t < slots t) (k : Linked t
   unset : (w b : ℕ) → (bit w b ≡ 1 → ⊥) → bit w b ≡ 0
   unset w b n = omega (arith, mod-lt (w / 2 ^ b) (zero-lt-suc 1))
 
-  pub linked-issued : Linked (setHead (openPage t (issued t)) 0 (issued t + 1))
+  pub linked-issued : Linked (setIssued (openPage t (issued t)) (issued t + 1))
   linked-issued =
       let x = issued t in
       let u = openPage t x in
       let header : leb headerWords (length u) ≡ true = rw (length-opened t x) (header-in t s) in
-      let one : issued (setHead u 0 (x + 1)) ≡ x + 1 = simp (frames, header) in
+      let one : issued (setIssued u (x + 1)) ≡ x + 1 = simp (frames, header) in
       record {
         of-issued = λ y h b.
             let h′ : 64 * (y / 64) < x + 1 = rw one at h in

@@ -140,6 +140,6 @@ unfoldable pub collectReady : Bool → List ℕ → List ℕ
 collectReady all t = collectedFrom (groupCount (issued t)) (groupCount (issued t)) all t (groupCursor t)
 
 -- whether one of the first n groups has bits
-unfoldable pub anyReady : ℕ → List ℕ → Bool
-anyReady zero t = false
-anyReady (suc k) t = cond (eqb (groupWord t k) 0) (anyReady k t) true
+unfoldable pub hasReady : ℕ → List ℕ → Bool
+hasReady zero t = false
+hasReady (suc k) t = cond (eqb (groupWord t k) 0) (hasReady k t) true

@@ -30,7 +30,7 @@ ghost use Rattle.ready.specs.Ready.{
   groupCount,
   groupAt,
   collectReady,
-  anyReady,
+  hasReady,
 };
 use lane::lane::Lane;
 use lane::table;
@@ -298,7 +298,7 @@ pub fn collect_ready(t: &mut [u64], all: bool)
 // Whether any group has bits.
 fn has_ready(t: &[u64]) -> bool
     requires { ⌜ Shaped (now t) ⌝ }
-    ensures { λ r. ⌜ r ≡ anyReady (groupCount (issued (now (t .entry)))) (now (t .entry)) ⌝ }
+    ensures { λ r. ⌜ r ≡ hasReady (groupCount (issued (now (t .entry)))) (now (t .entry)) ⌝ }
 {
     let mut left = group_count(t[Header::ISSUED]);
     while left != 0 {

@@ -13,9 +13,9 @@ use Rattle.lane.specs.declared.lane.Popped.{Popped}
 use Rattle.lane.specs.declared.lane.Popped.the-variants as Popped
 use Rattle.yring.specs.Ring.{Within, newRing}
 use Rattle.lane.specs.Lane.{popWindow, fairWindow, popFair, popFast, popLone}
-use Rattle.lane.specs.Table.{laneAt, putLane, setHead}
+use Rattle.lane.specs.Table.{laneAt, putLane}
 use Rattle.lane.proofs.WindowLaws.{pop-fast-none, pop-fast-some, pop-fair-none, pop-fair-some}
-use Rattle.queues.specs.Header.{Shaped, issued, slots, queueCount, budget, capacity, channel, fastSlot}
+use Rattle.queues.specs.Header.{Shaped, issued, slots, queueCount, budget, capacity, channel, fastSlot, setBudget}
 use Rattle.queues.specs.Queue.{frontSlot}
 use Rattle.turns.specs.declared.turn.Took.{Took}
 use Rattle.turns.specs.declared.turn.Took.the-variants as Took
@@ -79,7 +79,7 @@ window-rests t item l = omega arith
 pub window-channel : (t u : List ℕ) (took : Took) (item : ℕ) (l : Lane) → (took, u) ≡ takeFromWindow t item l → channel u ≡ channel t
 unfolding takeFromWindow
 window-channel t u took item l e =
-    let same : channel (setHead (putLane t l) 5 (budget t - 1)) ≡ channel t = simp frames in
+    let same : channel (setBudget (putLane t l) (budget t - 1)) ≡ channel t = simp frames in
     ap (λ (o : Took × List ℕ). channel (o .1)) e ∙ same
 
 module _ (t r : List ℕ) (l : Lane) (k : FastOpen t r l) (ring : Ring) (a : ring ≡ newRing (fastSlot t) (capacity t)) (x : Taken) (e : x ≡ popWindow ring r l) where

@@ -21,10 +21,10 @@ use Rattle.yring.specs.Ring.{newRing}
 use Rattle.lane.specs.Order.{InOrder, poppedLane}
 use Rattle.lane.specs.Lane.{popFast, grantFast, openFor, closeFast, reload, popLone}
 use Rattle.yring.specs.Lists.{scatter}
-use Rattle.lane.specs.Table.{laneAt, words, cellAt, putLane, setHead}
+use Rattle.lane.specs.Table.{laneAt, words, cellAt, putLane}
 use Rattle.lane.proofs.OrderLaws.{cond-holds, closed-reload-keeps, window-for-fits}
 use Rattle.lane.proofs.TableLaws.{frames, slot-of-lane}
-use Rattle.queues.specs.Header.{Shaped, issued, slots, queueCount, budget, capacity, fastSlot}
+use Rattle.queues.specs.Header.{Shaped, issued, slots, queueCount, budget, capacity, fastSlot, setBudget, setFastSlot}
 use Rattle.queues.proofs.QueueLaws.{header-in}
 use Rattle.queues.specs.Queue.{frontSlot}
 use Rattle.ready.specs.Ready.{collectReady}
@@ -149,7 +149,7 @@ unmoved-is t u o e k = subst (Unmoved t) (sym e) k
 
 -- ---- what is kept, and where nothing is taken no lane is queued
 
-pub fair-keeps : (t : List ℕ) → Turning t → Keeps t (setHead (collectReady true t) 5 64)
+pub fair-keeps : (t : List ℕ) → Turning t → Keeps t (setBudget (collectReady true t) 64)
 fair-keeps t k =
     let c = collect-keeps true t k in
     keeps-then c (record { turning = turning-budget (collectReady true t) (c .turning) 64; long = simp frames; same-slots = simp frames; same-capacity = simp frames })
@@ -207,7 +207,7 @@ refill-rest t r k =
 pub take-fair-rest : (t r : List ℕ) → Turning t → Rests (takeFair t r)
 unfolding takeFair
 take-fair-rest t r k =
-    let v = setHead (collectReady true t) 5 64 in
+    let v = setBudget (collectReady true t) 64 in
     else-rest (takeLone v r) (λ u. turns u r true)
     (λ u e. turns-rest u r true (subst Turning (sym (unmoved-is v u _ (sym e) (take-lone-unmoved v r))) (fair-keeps t k .turning)))
 
@@ -234,20 +234,20 @@ scatter-after [] t p k v n = refl
 scatter-after (w ∷ ws) t p k v n =
     ap (λ u. scatter u (λ i. p (suc i)) ws) (set-comm t k (p 0) v w (n 0)) ∙ scatter-after ws (set t (p 0) w) (λ i. p (suc i)) k v (λ i. n (suc i))
 
-lane-after-fast : (t : List ℕ) (l : Lane) (v : ℕ) → putLane (setHead t 12 v) l ≡ setHead (putLane t l) 12 v
+lane-after-fast : (t : List ℕ) (l : Lane) (v : ℕ) → putLane (setFastSlot t v) l ≡ setFastSlot (putLane t l) v
 unfolding putLane
 lane-after-fast t l v = scatter-after (words l) t (λ i. cellAt i (l .key .slot)) 12 v (λ i e. omega arith)
 
 -- `fast_slot` may be stored after the item is counted
-pub fast-after : (t u : List ℕ) (took : Took) (item : ℕ) (l : Lane) (v : ℕ) → (took, u) ≡ takeFromWindow t item l → (took, setHead u 12 v) ≡ takeFromWindow (setHead t 12 v) item l
+pub fast-after : (t u : List ℕ) (took : Took) (item : ℕ) (l : Lane) (v : ℕ) → (took, u) ≡ takeFromWindow t item l → (took, setFastSlot u v) ≡ takeFromWindow (setFastSlot t v) item l
 unfolding takeFromWindow
 fast-after t u took item l v e =
-    let same : budget (setHead t 12 v) ≡ budget t = simp frames in
-    ap (λ (o : Took × List ℕ). (o .0, setHead (o .1) 12 v)) e
+    let same : budget (setFastSlot t v) ≡ budget t = simp frames in
+    ap (λ (o : Took × List ℕ). (o .0, setFastSlot (o .1) v)) e
     ∙ ap (λ (w : List ℕ). (Took.Item item (l .key), w))
-    (set-comm (putLane t l) 5 12 (budget t - 1) v (λ z. omega arith) ∙ ap₂ (λ (w : List ℕ) (b : ℕ). setHead w 5 (b - 1)) (sym (lane-after-fast t l v)) (sym same))
+    (set-comm (putLane t l) 5 12 (budget t - 1) v (λ z. omega arith) ∙ ap₂ (λ (w : List ℕ) (b : ℕ). setBudget w (b - 1)) (sym (lane-after-fast t l v)) (sym same))
 
-window-long : (t : List ℕ) (item : ℕ) (l : Lane) (v : ℕ) → length ((takeFromWindow (setHead t 12 v) item l) .1) ≡ length t
+window-long : (t : List ℕ) (item : ℕ) (l : Lane) (v : ℕ) → length ((takeFromWindow (setFastSlot t v) item l) .1) ≡ length t
 unfolding takeFromWindow
 window-long t item l v = simp frames
 
@@ -260,11 +260,11 @@ pub take-lone-long : (t r : List ℕ) → length ((takeLone t r) .1) ≡ length 
 unfolding takeLone
 take-lone-long t r = cond-holds (λ (o : Took × List ℕ). length (o .1) ≡ length t) (eqb (queueCount t) 1) _ (Took.Nothing, t) (λ e. open-long t _) (λ e. refl)
 
-pub fair-budget : (t : List ℕ) → Turning t → 0 < budget (setHead (collectReady true t) 5 64)
+pub fair-budget : (t : List ℕ) → Turning t → 0 < budget (setBudget (collectReady true t) 64)
 fair-budget t k = simp (frames, header-in (collectReady true t) (collect-keeps true t k .turning .shaped)) (omega arith)
 
 pub counted-long : (t u : List ℕ) (took : Took) (item : ℕ) (l : Lane) → (took, u) ≡ takeFromWindow t item l → length u ≡ length t
 unfolding takeFromWindow
 counted-long t u took item l e =
-    let same : length (setHead (putLane t l) 5 (budget t - 1)) ≡ length t = simp frames in
+    let same : length (setBudget (putLane t l) (budget t - 1)) ≡ length t = simp frames in
     ap (λ (o : Took × List ℕ). length (o .1)) e ∙ same

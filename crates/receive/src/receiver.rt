@@ -186,7 +186,7 @@ fn answer_refill(t: &mut [u64], r: &[u64]) -> Answer
 // First the open window at `fast_slot`, with no look-up of the queue and no look for ready lanes. Each
 // way out calls the rest itself, with `r` lent anew and the answer in a local: the compiler then keeps
 // the rest out of line, and what it needs in memory too.
-fn try_recv_inner(t: &mut [u64], r: &[u64]) -> Answer
+fn try_recv_output(t: &mut [u64], r: &[u64]) -> Answer
     requires { ⌜ StoreInOrder (now t) (now r) ⌝ }
     ensures { λ a. ⌜ (a, now (t .exit)) ≡ answerOne (channel (now (t .entry))) (takeOne (now (t .entry)) (now (r .entry))) ⌝ }
 {
@@ -225,7 +225,7 @@ pub fn try_recv(t: &mut [u64], r: &[u64]) -> Answer
 {
     match refusal::receiver_verdict(t) {
         Verdict::Refuse { why } => Answer::Refused { why: why },
-        Verdict::Pass => try_recv_inner(t, r),
+        Verdict::Pass => try_recv_output(t, r),
     }
 }
 

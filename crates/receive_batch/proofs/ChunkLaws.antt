@@ -13,11 +13,11 @@ use Rattle.lane.specs.declared.lane.Reloaded.{Reloaded}
 use Rattle.yring.specs.Ring.{newRing, Within}
 use Rattle.lane.specs.Order.{Counts, InOrder, Filled}
 use Rattle.lane.specs.Lane.{reloadIsEmpty, advance, charge, addBurst, endFullBurst, chunkLimit, moveChunk}
-use Rattle.lane.specs.Table.{laneAt, putLane, setHead}
+use Rattle.lane.specs.Table.{laneAt, putLane}
 use Rattle.lane.proofs.OrderLaws.{cond-holds, refill-fills, move-chunk-keeps}
 use Rattle.lane.proofs.HeldLaws.{refill-is}
 use Rattle.lane.proofs.TableLaws.{frames, slot-of-lane}
-use Rattle.queues.specs.Header.{slots, budget, capacity}
+use Rattle.queues.specs.Header.{slots, budget, capacity, setBudget}
 use Rattle.queues.specs.Queue.{frontSlot}
 use Rattle.turns.specs.Turn.{Turning, Ringed, frontLane, lessOne, rotateIf, gaveFront}
 use Rattle.receive_batch.specs.Batch.{Fronts, fullBudget, chunkSize, gaveChunk, chunkGiven}
@@ -107,7 +107,7 @@ module _ (t : List ℕ) (l : Lane) (f : Fronts t l) where
     lane-slot = ap (λ (z : Flagged). z .0 .slot) lane-flags ∙ slot-of-lane t (frontSlot t)
 
     -- the table after it is that after one item, with another budget
-    given-is : setHead (gaveFront t (chunkEnd C n l .ended) (chunkEnd C n l .lane)) 5 (fullBudget (budget t) - n) ≡ chunkGiven t n l
+    given-is : setBudget (gaveFront t (chunkEnd C n l .ended) (chunkEnd C n l .lane)) (fullBudget (budget t) - n) ≡ chunkGiven t n l
     unfolding chunkGiven gaveChunk gaveFront
     given-is = set-again (rotateIf (chunkEnd C n l .ended) (putLane t (chunkEnd C n l .lane))) 5 (lessOne (budget t)) (fullBudget (budget t) - n)
 

@@ -14,8 +14,8 @@ use Rattle.lane.specs.declared.lane.Lane.{Lane}
 use Rattle.yring.specs.Ring.{newRing}
 use Rattle.lane.specs.Lane.{heldItems}
 use Rattle.lane.specs.Order.{InOrder}
-use Rattle.lane.specs.Table.{head, laneAt, putLane, setHead}
-use Rattle.queues.specs.Header.{budget, capacity, fastSlot, laneCount, livingCount}
+use Rattle.lane.specs.Table.{head, laneAt, putLane}
+use Rattle.queues.specs.Header.{budget, capacity, fastSlot, laneCount, livingCount, setBudget}
 use Rattle.queues.specs.Queue.{queueOf, rotateLeft}
 use Rattle.queues.proofs.QueueLaws.{queue-putLane, shaped-putLane}
 use Rattle.store.specs.View.{view}
@@ -78,7 +78,7 @@ module _ (t r : List ℕ) (o : StoreInOrder t r) (x : ℕ) (q : List ℕ) (e : q
       go false s = subst (λ (w : List ℕ). Step t (putLane t m) x m w (head t)) e s
 
   -- with b as the budget
-  pub back-view : view (setHead (rotateIf rotate (putLane t m)) 5 b) r ≡ withBudget b (withQueue (if rotate (q ++ (x ∷ [])) (x ∷ q)) stored)
+  pub back-view : view (setBudget (rotateIf rotate (putLane t m)) b) r ≡ withBudget b (withQueue (if rotate (q ++ (x ∷ [])) (x ∷ q)) stored)
   unfolding rotateIf
   back-view =
       view-budget _ r (step-turned rotate .shaped) b ∙ ap (withBudget b) (view-turned rotate) ∙ ap (λ (s : State). withBudget b (withQueue (queueAfter rotate) s)) view-stored
@@ -107,6 +107,6 @@ module _ (t r : List ℕ) (o : StoreInOrder t r) (x : ℕ) (q : List ℕ) (e : q
         living-count = ap (λ (z : Flagged). livingCount t + z .3) (sym (k .same-flags));
       }
 
-  pub back-stores : Stores (setHead (rotateIf rotate (putLane t m)) 5 b) r
+  pub back-stores : Stores (setBudget (rotateIf rotate (putLane t m)) b) r
   unfolding rotateIf
   back-stores = stores-after t r _ r (o .stores) x (front .is-issued) m _ _ (step-budget (step-turned rotate) b) owes-back (o .stores .rings-room)

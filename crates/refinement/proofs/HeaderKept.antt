@@ -103,19 +103,19 @@ module _ {c : KeptWord} where
   at-else (Took.Item item k, t) more h f = h
   at-else (Took.Nothing, t) more h f = f t h
 
-  at-window-took : (t : List ℕ) → At c t → (item : ℕ) (l : Lane) → At c ((takeFromWindow t item l) .1)
+  at-from-window : (t : List ℕ) → At c t → (item : ℕ) (l : Lane) → At c ((takeFromWindow t item l) .1)
   unfolding takeFromWindow
-  at-window-took t h item l = at-head (putLane t l) (at-put t h l) (placeOf budget) (budget t - 1) refl
+  at-from-window t h item l = at-head (putLane t l) (at-put t h l) (placeOf budget) (budget t - 1) refl
 
   at-fast-took : (t : List ℕ) → At c t → (p : Popped) → At c ((fastTook t p) .1)
   unfolding fastTook
-  at-fast-took t h (Popped.Item item l) = at-window-took t h item l
+  at-fast-took t h (Popped.Item item l) = at-from-window t h item l
   at-fast-took t h (Popped.Nothing l) = h
 
-  at-open-took : (t : List ℕ) → At c t → (p : Popped) → At c ((takeIfPopped t p) .1)
+  at-if-popped : (t : List ℕ) → At c t → (p : Popped) → At c ((takeIfPopped t p) .1)
   unfolding takeIfPopped
-  at-open-took t h (Popped.Item item l) = at-window-took (setFastSlot t (l .key .slot)) (at-head t h (placeOf fastSlot) (l .key .slot) refl) item l
-  at-open-took t h (Popped.Nothing l) = h
+  at-if-popped t h (Popped.Item item l) = at-from-window (setFastSlot t (l .key .slot)) (at-head t h (placeOf fastSlot) (l .key .slot) refl) item l
+  at-if-popped t h (Popped.Nothing l) = h
 
   at-fast : (t r : List ℕ) → At c t → At c ((takeFast t r) .1)
   unfolding takeFast
@@ -126,7 +126,7 @@ module _ {c : KeptWord} where
   at-window : (t r : List ℕ) → At c t → At c ((takeFrontWindow t r) .1)
   unfolding takeFrontWindow
   at-window t r h =
-      cond-holds (TableAt c) (eqb (queueCount t) 0) (Took.Nothing, t) _ (λ e. h) (λ e. at-open-took t h _)
+      cond-holds (TableAt c) (eqb (queueCount t) 0) (Took.Nothing, t) _ (λ e. h) (λ e. at-if-popped t h _)
 
   at-due : (t : List ℕ) → At c t → At c (collectIfDue t)
   unfolding collectIfDue
@@ -147,7 +147,7 @@ module _ {c : KeptWord} where
   at-lone : (t r : List ℕ) → At c t → At c ((takeLone t r) .1)
   unfolding takeLone
   at-lone t r h =
-      cond-holds (TableAt c) (eqb (queueCount t) 1) _ (Took.Nothing, t) (λ e. at-open-took t h _) (λ e. h)
+      cond-holds (TableAt c) (eqb (queueCount t) 1) _ (Took.Nothing, t) (λ e. at-if-popped t h _) (λ e. h)
 
   at-fair : (t r : List ℕ) → At c t → At c ((takeFair t r) .1)
   unfolding takeFair
@@ -283,10 +283,10 @@ module _ {c : KeptWord} where
 -- ---- the same, without the value
 
 -- what a table holds at such a word
-abbrev now : {j : ℕ} → Unwritten j → List ℕ → KeptWord
-now {j = j} n t = record { word = j; value = head t j; unwritten = n }
+abbrev keptNow : {j : ℕ} → Unwritten j → List ℕ → KeptWord
+keptNow {j = j} n t = record { word = j; value = head t j; unwritten = n }
 
-holds-now : {j : ℕ} (n : Unwritten j) (t : List ℕ) → At (now n t) t
+holds-now : {j : ℕ} (n : Unwritten j) (t : List ℕ) → At (keptNow n t) t
 holds-now n t = record { holds = refl }
 
 module _ {j : ℕ} (n : Unwritten j) (t r : List ℕ) where

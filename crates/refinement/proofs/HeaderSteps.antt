@@ -41,14 +41,14 @@ use Rattle.control.specs.Control.{withTurn, pausedLane, pauseLane, pause, resum
 use Rattle.control.specs.Calls.{controlWords}
 
 -- the header words that some call writes
-abbrev pub written : ℕ → Bool
-written j =
+abbrev pub callsWrite : ℕ → Bool
+callsWrite j =
     either (eqb (placeOf issued) j) (either (eqb (placeOf queueFront) j) (either (eqb (placeOf queueCount) j) (either (eqb (placeOf freeCount) j)
     (either (eqb (placeOf budget) j) (either (eqb (placeOf groupCursor) j) (either (eqb (placeOf alive) j) (either (eqb (placeOf fastSlot) j)
     (either (eqb (placeOf laneCount) j) (eqb (placeOf livingCount) j)))))))))
 
 abbrev pub Unwritten : ℕ → Type 0
-Unwritten j = Beside written j
+Unwritten j = Beside callsWrite j
 
 -- a header word that no call writes, and a value
 pub record KeptWord : Type 0 where
@@ -69,7 +69,7 @@ module _ {c : KeptWord} (t : List ℕ) (h : At c t) where
   pub at-put : (l : Lane) → At c (putLane t l)
   at-put l = at-by (putLane t l) (head-putLane t l (c .word) (c .unwritten .in-header))
 
-  pub at-head : (k v : ℕ) → written k ≡ true → At c (setHead t k v)
+  pub at-head : (k v : ℕ) → callsWrite k ≡ true → At c (setHead t k v)
   at-head k v e = at-by (setHead t k v) (other-head-kept t k v (c .word) (apart (c .unwritten) k e))
 
   pub at-cell : (column row v : ℕ) → At c (setCell t column row v)

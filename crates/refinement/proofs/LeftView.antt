@@ -14,9 +14,9 @@ use Rattle.model.specs.Changes.{withQueue, withBudget, put, settledEmpty}
 use Rattle.model.specs.Turn as rules
 use Rattle.demands.proofs.OrderKept as kept
 use Rattle.lane.specs.declared.lane.EmptyLane.{EmptyLane}
-use Rattle.lane.specs.Table.{head, putLane, setHead}
+use Rattle.lane.specs.Table.{head, putLane}
 use Rattle.lane.proofs.TableLaws.{frames}
-use Rattle.queues.specs.Header.{slots, queueCount, freeCount, budget, fastSlot}
+use Rattle.queues.specs.Header.{slots, queueCount, freeCount, budget, fastSlot, setBudget}
 use Rattle.queues.specs.Queue.{queueOf, popFront}
 use Rattle.queues.proofs.QueueLaws.{queue-frames, length-queue, queue-putLane, shaped-putLane}
 use Rattle.store.specs.View.{view}
@@ -79,7 +79,7 @@ refill-some zero h = absurd (omega arith)
 refill-some (suc n) h = refl
 
 module _ (t r : List ℕ) (o : StoreInOrder t r) where
-  met : (b : Bool) → eqb (budget t) 0 ≡ b → view (cond b (setHead t 5 64) t) r ≡ withBudget (rules.refill (budget t)) (view t r)
+  met : (b : Bool) → eqb (budget t) 0 ≡ b → view (cond b (setBudget t 64) t) r ≡ withBudget (rules.refill (budget t)) (view t r)
   unfolding view rules.refill
   met true e = view-budget t r (o .stores .shaped) 64 ∙ ap (λ (n : ℕ). withBudget (rules.refill n) (view t r)) (sym (eqb-true (budget t) 0 e))
   met false e = ap (λ (n : ℕ). withBudget n (view t r)) (sym (refill-some (budget t) (pos-of-ne-zero (eqb-false (budget t) 0 e))))
@@ -93,7 +93,7 @@ module _ (t r : List ℕ) (o : StoreInOrder t r) where
   unfolding meetBudget
   met-in-order = go (eqb (queueCount t) 0) (eqb (budget t) 0)
     where
-      go : (a b : Bool) → StoreInOrder (cond a t (cond b (setHead t 5 64) t)) r
+      go : (a b : Bool) → StoreInOrder (cond a t (cond b (setBudget t 64) t)) r
       go true b = o
       go false true = full-budget-in-order t r o
       go false false = o

@@ -198,9 +198,9 @@ some-counted : (n : ℕ) → leb 1 n ≡ not (eqb n 0)
 some-counted zero = refl
 some-counted (suc n) = rw (ne-eqb (suc n) 0 (λ e. omega arith), le-leb 1 (suc n) (omega arith))
 
-drained-alike : (t r : List ℕ) → Stores t r → seen (withRings r (emptyOrDrained t)) ≡ (rules.emptyOrDrained (view t r)) .1
+empty-or-drained-alike : (t r : List ℕ) → Stores t r → seen (withRings r (emptyOrDrained t)) ≡ (rules.emptyOrDrained (view t r)) .1
 unfolding emptyOrDrained rules.emptyOrDrained
-drained-alike t r o =
+empty-or-drained-alike t r o =
     ap (λ (a : Answer). (a, view t r))
     (go (eqb (laneCount t) 0) ∙ ap (λ (b : Bool). if b Empty Disconnected) (sym (some-counted (laneCount t)) ∙ ap (leb 1) (o .lanes-counted)))
   where
@@ -220,7 +220,7 @@ module _ (t r : List ℕ) (o : StoreInOrder t r) where
       go : (b : Bool) → seen (withRings r (cond b (emptyOrDrained (retireEmptyPausedLanes t)) (Empty, t)))
           ≡ (if (not b) (says Empty (view t r)) (rules.emptyOrDrained (rules.retireEmptyPausedLanes (from 0 (view t r .issued)) (view t r)))) .1
       go true =
-          drained-alike (retireEmptyPausedLanes t) r (all-in-order t r o .stores)
+          empty-or-drained-alike (retireEmptyPausedLanes t) r (all-in-order t r o .stores)
           ∙ ap (λ (s : State). (rules.emptyOrDrained s) .1) (view-all t r o)
       go false = refl
 

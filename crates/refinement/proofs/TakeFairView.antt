@@ -19,11 +19,11 @@ use Rattle.lane.specs.declared.lane.Popped.the-variants as Popped
 use Rattle.yring.specs.Ring.{newRing}
 use Rattle.lane.specs.Lane.{heldItems, popLone}
 use Rattle.lane.specs.Order.{Counts, InOrder, poppedLane}
-use Rattle.lane.specs.Table.{laneAt, setHead}
+use Rattle.lane.specs.Table.{laneAt}
 use Rattle.lane.proofs.OrderLaws.{cond-holds, pop-fair-keeps}
 use Rattle.lane.proofs.HeldLaws.{pop-fair-takes-first}
 use Rattle.lane.proofs.TableLaws.{frames}
-use Rattle.queues.specs.Header.{issued, queueCount, budget, capacity}
+use Rattle.queues.specs.Header.{issued, queueCount, budget, capacity, setBudget, setFastSlot}
 use Rattle.queues.specs.Queue.{queueOf, frontSlot, popFront}
 use Rattle.ready.specs.Ready.{collectReady}
 use Rattle.queues.proofs.QueueLaws.{header-in, length-queue, queue-front}
@@ -82,19 +82,19 @@ module _ (t r : List ℕ) (o : StoreInOrder t r) (b : budget t ≡ 64) where
     front = front-lane t r o x [] queue-is
 
     lone-taken : (item : ℕ) (m : Lane) → popLone (newRing x (capacity t)) r (budget t) (frontLane t) ≡ Popped.Item item m
-        → TookAs r (takeFromWindow (setHead t 12 (m .key .slot)) item m) (turnsFrom true (view t r .queue) (view t r))
+        → TookAs r (takeFromWindow (setFastSlot t (m .key .slot)) item m) (turnsFrom true (view t r .queue) (view t r))
     unfolding view
     lone-taken item m e =
         let k = pops-fair t r (o .stores) x (front .is-issued) (front .registered) b item m e in
         let s = step-fast-moved t r (o .stores) x in
-        let same : view (setHead t 12 x) r ≡ view t r = view-fast-slot t r (o .stores .shaped) x in
+        let same : view (setFastSlot t x) r ≡ view t r = view-fast-slot t r (o .stores .shaped) x in
         let left : List ℕ = heldItems (newRing x (capacity t)) r m in
         let given : turnsFrom true (queueOf t) (view t r) ≡ ((keyOf (view t r) x, item) ∷ [], rules.giveItem (view t r) x [] left true) =
         ap (λ (q : List ℕ). turnsFrom true q (view t r)) queue-is
-        ∙ turns-from-front true (view t r) x item [] left queue-is (window-first t r o x [] queue-is item 0 m k (setHead t 12 x) s same) in
-        subst (λ (z : ℕ). TookAs r (takeFromWindow (setHead t 12 z) item m) (turnsFrom true (queueOf t) (view t r))) (sym (slot-by t x m (k .same-flags)))
-        (subst (TookAs r (takeFromWindow (setHead t 12 x) item m)) (sym given)
-        (window-took t r o x [] queue-is item 0 m k (setHead t 12 x) s same true refl refl (λ z. absurd (no refl z))))
+        ∙ turns-from-front true (view t r) x item [] left queue-is (window-first t r o x [] queue-is item 0 m k (setFastSlot t x) s same) in
+        subst (λ (z : ℕ). TookAs r (takeFromWindow (setFastSlot t z) item m) (turnsFrom true (queueOf t) (view t r))) (sym (slot-by t x m (k .same-flags)))
+        (subst (TookAs r (takeFromWindow (setFastSlot t x) item m)) (sym given)
+        (window-took t r o x [] queue-is item 0 m k (setFastSlot t x) s same true refl refl (λ z. absurd (no refl z))))
 
   -- "A lone lane takes `pop_fair`."
   take-lone-takes : TakesAs r (takeLone t r) (turnsFrom true (view t r .queue) (view t r))
@@ -112,7 +112,7 @@ module _ (t r : List ℕ) (o : StoreInOrder t r) (b : budget t ≡ 64) where
 module _ (t r : List ℕ) (o : StoreInOrder t r) where
   -- "collect all groups if any is ready, budget 64"
   abbrev u : List ℕ
-  u = setHead (collectReady true t) 5 64
+  u = setBudget (collectReady true t) 64
 
   all : StoreInOrder (collectReady true t) r
   all = collected-in-order t r o true

@@ -13,8 +13,7 @@ use Rattle.model.specs.State.{State}
 use Rattle.model.specs.Changes.{withBudget}
 use Rattle.model.specs.Ready as marks
 use Rattle.model.specs.Turn as rules
-use Rattle.lane.specs.Table.{setHead}
-use Rattle.queues.specs.Header.{queueCount, budget}
+use Rattle.queues.specs.Header.{queueCount, budget, setBudget}
 use Rattle.queues.specs.Queue.{queueOf}
 use Rattle.ready.specs.Ready.{collectReady}
 use Rattle.queues.proofs.QueueLaws.{length-queue}
@@ -102,7 +101,7 @@ module _ (t r : List ℕ) (o : StoreInOrder t r) where
 
 module _ (t r : List ℕ) (o : StoreInOrder t r) where
   abbrev looked : List ℕ
-  looked = setHead (collectReady false t) 5 64
+  looked = setBudget (collectReady false t) 64
 
   pub due-in-order : StoreInOrder (collectIfDue t) r
   unfolding collectIfDue

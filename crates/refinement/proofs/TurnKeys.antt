@@ -18,10 +18,10 @@ use Rattle.lane.specs.declared.lane.Refill.{Refill}
 use Rattle.lane.specs.declared.lane.Refill.the-variants as Refill
 use Rattle.yring.specs.Ring.{newRing}
 use Rattle.lane.specs.Lane.{refill}
-use Rattle.lane.specs.Table.{HasRow, setHead, laneAt, putLane}
+use Rattle.lane.specs.Table.{HasRow, laneAt, putLane}
 use Rattle.lane.proofs.OrderLaws.{cond-holds}
 use Rattle.lane.proofs.TableLaws.{frames, slot-of-lane, lane-own, other-lane-kept, has-row}
-use Rattle.queues.specs.Header.{queueCount, budget, capacity, laneCount}
+use Rattle.queues.specs.Header.{queueCount, budget, capacity, laneCount, setBudget, setLaneCount}
 use Rattle.queues.specs.Queue.{frontSlot, popFront, rotateLeft}
 use Rattle.queues.proofs.QueueLaws.{queue-frames}
 use Rattle.queues.proofs.RegistryLaws.{registry-frames}
@@ -70,13 +70,13 @@ keys-met : (t : List ℕ) → SameKeys t (meetBudget t)
 unfolding meetBudget
 keys-met t =
     cond-holds (SameKeys t) (eqb (queueCount t) 0) t _ (λ e. keys-self t)
-    (λ e. cond-holds (SameKeys t) (eqb (budget t) 0) (setHead t 5 64) t (λ f. record { keys = λ y. simp frames; long = simp frames }) (λ f. keys-self t))
+    (λ e. cond-holds (SameKeys t) (eqb (budget t) 0) (setBudget t 64) t (λ f. record { keys = λ y. simp frames; long = simp frames }) (λ f. keys-self t))
 
 keys-retired : (t : List ℕ) (l : Lane) (x : ℕ) → HasRow x (length t) → l .key ≡ laneAt t x .key → SameKeys t (retireLane t l)
 unfolding retireLane
 keys-retired t l x h e =
     let p = keys-put t (retired l) x h e in
-    let lowered = setHead (putLane t (retired l)) 13 (laneCount t - 1) in
+    let lowered = setLaneCount (putLane t (retired l)) (laneCount t - 1) in
     keys-then p
     (freed-unless-last-is lowered l (SameKeys (putLane t (retired l))) (record { keys = λ y. simp frames; long = simp frames })
     (record { keys = λ y. simp (registry-frames, frames); long = simp (registry-frames, frames) }))

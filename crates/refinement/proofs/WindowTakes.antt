@@ -18,10 +18,10 @@ use Rattle.lane.specs.declared.lane.Popped.the-variants as Popped
 use Rattle.yring.specs.Ring.{newRing, itemAt}
 use Rattle.lane.specs.Lane.{heldItems, windowPop, popFast, grantFast}
 use Rattle.lane.specs.Order.{InOrder, poppedLane}
-use Rattle.lane.specs.Table.{head, laneAt, setHead}
+use Rattle.lane.specs.Table.{head, laneAt}
 use Rattle.lane.proofs.OrderLaws.{cond-holds, pop-fast-keeps, grant-fast-keeps}
 use Rattle.lane.proofs.HeldLaws.{pop-fast-takes-first}
-use Rattle.queues.specs.Header.{issued, queueCount, budget, capacity, fastSlot}
+use Rattle.queues.specs.Header.{issued, queueCount, budget, capacity, fastSlot, setFastSlot}
 use Rattle.queues.specs.Queue.{queueOf, frontSlot, popFront}
 use Rattle.queues.proofs.QueueLaws.{queue-front}
 use Rattle.turns.specs.declared.turn.Took.{Took}
@@ -160,7 +160,7 @@ module _ (t r : List ℕ) (o : StoreInOrder t r) where
     h = front-lane t r o y (queueOf (popFront t)) queue-is
 
     opened-taken : (item : ℕ) (m : Lane) → popFast (newRing y (capacity t)) r granted ≡ Popped.Item item m
-        → TookAs r (takeFromWindow (setHead t 12 (m .key .slot)) item m) (rules.takeOne (view t r))
+        → TookAs r (takeFromWindow (setFastSlot t (m .key .slot)) item m) (rules.takeOne (view t r))
     opened-taken item m e =
         let small = o .stores .power .most in
         let i = o .stores .lanes y (h .is-issued) (h .registered) in
@@ -170,8 +170,8 @@ module _ (t r : List ℕ) (o : StoreInOrder t r) where
         pops-shown t r (o .stores) y (h .is-issued) (h .registered) granted (grant-fast-keeps (capacity t) small (frontLane t) i (budget t))
         (grant-holds (newRing y (capacity t)) r (capacity t) (budget t) (frontLane t)) f (seen .0) (seen .1)
         (granted-within (capacity t) (budget t) (frontLane t) small i) item m e in
-        subst (λ (z : ℕ). TookAs r (takeFromWindow (setHead t 12 z) item m) (rules.takeOne (view t r))) (sym (slot-by t y m (k .0 .same-flags)))
-        (window-taken t r o y (queueOf (popFront t)) queue-is item m (k .0) (k .1) (setHead t 12 y) (step-fast-moved t r (o .stores) y)
+        subst (λ (z : ℕ). TookAs r (takeFromWindow (setFastSlot t z) item m) (rules.takeOne (view t r))) (sym (slot-by t y m (k .0 .same-flags)))
+        (window-taken t r o y (queueOf (popFront t)) queue-is item m (k .0) (k .1) (setFastSlot t y) (step-fast-moved t r (o .stores) y)
         (view-fast-slot t r (o .stores .shaped) y))
 
   pub take-window-takes : TakesAs r (takeFrontWindow t r) (rules.takeOne (view t r))

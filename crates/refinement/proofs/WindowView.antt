@@ -19,8 +19,8 @@ use Rattle.lane.specs.declared.lane.Lane.{Lane}
 use Rattle.yring.specs.Ring.{newRing}
 use Rattle.lane.specs.Lane.{heldItems}
 use Rattle.lane.specs.Order.{InOrder}
-use Rattle.lane.specs.Table.{head, laneAt, putLane, setHead}
-use Rattle.queues.specs.Header.{budget, capacity, fastSlot, laneCount, livingCount, setFastSlot}
+use Rattle.lane.specs.Table.{head, laneAt, putLane}
+use Rattle.queues.specs.Header.{budget, capacity, fastSlot, laneCount, livingCount, setFastSlot, setBudget}
 use Rattle.queues.specs.Queue.{queueOf}
 use Rattle.queues.proofs.QueueLaws.{shaped-putLane}
 use Rattle.store.specs.View.{slotAt, view}
@@ -59,7 +59,7 @@ module _ (t r : List ℕ) (o : StoreInOrder t r) (x : ℕ) (q : List ℕ) (e : q
 
   -- the table after
   abbrev taken : List ℕ
-  taken = setHead (putLane u m) 5 (budget u - 1)
+  taken = setBudget (putLane u m) (budget u - 1)
 
   front : FrontLane t x q
   front = front-lane t r o x q e

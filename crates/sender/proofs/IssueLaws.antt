@@ -21,9 +21,9 @@ use Rattle.lane.specs.declared.lane.Lane.{Lane}
 use Rattle.yring.specs.Ring.{newRing}
 use Rattle.lane.specs.Lane.{heldItems}
 use Rattle.lane.specs.Order.{InOrder}
-use Rattle.lane.specs.Table.{HasRow, headerWords, head, setHead, setCell, laneAt, putLane}
+use Rattle.lane.specs.Table.{HasRow, headerWords, head, setCell, laneAt, putLane}
 use Rattle.lane.proofs.TableLaws.{frames, has-row, lane-own, other-lane-kept}
-use Rattle.queues.specs.Header.{Shaped, issued, slots, budget, capacity, fastSlot, laneCount, livingCount}
+use Rattle.queues.specs.Header.{Shaped, issued, slots, budget, capacity, fastSlot, laneCount, livingCount, setIssued, setLaneCount, setLivingCount}
 use Rattle.queues.specs.Queue.{queueOf}
 use Rattle.queues.specs.Registry.{freeOf}
 use Rattle.ready.specs.Bits.{bit}
@@ -100,7 +100,7 @@ no-bit b z e = let o : _≡_ {A = ℕ} 1 0 = sym e ∙ ap (λ (x : ℕ). bit x b
 
 -- the next slot issued, its page and group opened
 abbrev pub issuedNext : List ℕ → List ℕ
-issuedNext t = setHead (openPage t (issued t)) 0 (issued t + 1)
+issuedNext t = setIssued (openPage t (issued t)) (issued t + 1)
 
 module _ (t : List ℕ) (s : Shaped t) (k : Linked t) (below : issued t < slots t) where
   abbrev n : ℕ
@@ -289,7 +289,7 @@ record IssuedOne (t u : List ℕ) : Type 0 where
 -- a lane newly registered in it, with the two counts one more
 module _ (t r u : List ℕ) (o : Stores t r) (d : IssuedOne t u) (l : Lane) (e : l .key .slot ≡ issued t) where
   abbrev v : List ℕ
-  v = setHead (setHead (putLane u l) 13 (laneCount t + 1)) 14 (livingCount t + 1)
+  v = setLivingCount (setLaneCount (putLane u l) (laneCount t + 1)) (livingCount t + 1)
 
   at-end : leb headerWords (length u) ≡ true
   at-end = header-in u (d .shaped)
@@ -378,5 +378,5 @@ module _ (t r : List ℕ) (o : Stores t r) (below : issued t < slots t) where
 
   -- a lane newly registered in the next slot, with the two counts one more, leaves a store in order
   pub stores-registered-next : (l : Lane) → l .key .slot ≡ issued t → Flags l → InOrder (capacity t) l → l .registered ≡ 1 → l .living ≡ 1 → l .queued ≡ 0 → l .window ≡ 0
-      → Stores (setHead (setHead (putLane (issuedNext t) l) 13 (laneCount t + 1)) 14 (livingCount t + 1)) r
+      → Stores (setLivingCount (setLaneCount (putLane (issuedNext t) l) (laneCount t + 1)) (livingCount t + 1)) r
   stores-registered-next l e = stores-now t r (issuedNext t) o issued-one l e

@@ -29,11 +29,11 @@ use Rattle.lane.specs.declared.lane.Lane.{Lane}
 use Rattle.yring.specs.declared.ring.Ring.{Ring}
 use Rattle.yring.specs.Ring.{newRing, items}
 use Rattle.lane.specs.Lane.{newLane, heldItems}
-use Rattle.lane.specs.Table.{head, setHead, laneAt, putLane}
+use Rattle.lane.specs.Table.{head, laneAt, putLane}
 use Rattle.lane.proofs.TableLaws.{frames}
 use Rattle.yring.proofs.CursorLaws.{distance-self}
 use Rattle.lane.proofs.OrderLaws.{new-lane-in-order}
-use Rattle.queues.specs.Header.{Shaped, issued, slots, budget, capacity, firstCursor, firstGeneration, freeCount, laneCount, livingCount}
+use Rattle.queues.specs.Header.{Shaped, issued, slots, budget, capacity, firstCursor, firstGeneration, freeCount, laneCount, livingCount, setLaneCount, setLivingCount}
 use Rattle.queues.specs.Queue.{queueOf}
 use Rattle.queues.specs.Registry.{freeOf, lastFreed, reissue}
 use Rattle.ready.specs.Ready.{pageBit}
@@ -132,8 +132,8 @@ module _ (t r : List ℕ) (o : StoreInOrder t r) where
   c = firstCursor t
 
   -- the two counts are not seen
-  view-counted : (u : List ℕ) (a b : ℕ) → Shaped u → view (setHead (setHead u 13 a) 14 b) r ≡ view u r
-  view-counted u a b h = view-living-count (setHead u 13 a) r (simp frames h) b ∙ view-lane-count u r h a
+  view-counted : (u : List ℕ) (a b : ℕ) → Shaped u → view (setLivingCount (setLaneCount u a) b) r ≡ view u r
+  view-counted u a b h = view-living-count (setLaneCount u a) r (simp frames h) b ∙ view-lane-count u r h a
 
   module _ (e : freeCount t ≡ 0) (l : freeOf t ≡ []) (below : issued t < slots t) where
     abbrev next : LaneKey

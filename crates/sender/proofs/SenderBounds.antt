@@ -13,10 +13,9 @@ use Rattle.model.specs.declared.LaneKey.{LaneKey}
 use Rattle.model.specs.declared.Refusal.{Refusal}
 use Rattle.model.specs.Lists.{if, keep, from}
 use Rattle.model.specs.State.{registeredLanes, livingSenders}
-use Rattle.lane.specs.Table.{setHead}
 use Rattle.lane.proofs.OrderLaws.{cond-holds}
 use Rattle.lane.proofs.TableLaws.{frames}
-use Rattle.queues.specs.Header.{Shaped, issued, slots, freeCount, laneCount, livingCount}
+use Rattle.queues.specs.Header.{Shaped, issued, slots, freeCount, laneCount, livingCount, setIssued}
 use Rattle.queues.specs.Registry.{lastFreed, reissue}
 use Rattle.ready.specs.Ready.{openPage}
 use Rattle.store.specs.declared.refusal.Verdict.{Verdict}
@@ -110,5 +109,5 @@ due-in t s f d = go (eqb (freeCount t) 0) refl _ _
 pub length-taken : (t : List ℕ) → length (takeSlot t) ≡ length t
 unfolding takeSlot reissue
 length-taken t =
-    cond-holds (λ u. length u ≡ length t) (eqb (freeCount t) 0) (setHead (openPage t (issued t)) 0 (issued t + 1)) (reissue t)
+    cond-holds (λ u. length u ≡ length t) (eqb (freeCount t) 0) (setIssued (openPage t (issued t)) (issued t + 1)) (reissue t)
     (λ e. simp (frames, length-opened-page)) (λ e. simp frames)

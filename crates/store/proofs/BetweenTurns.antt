@@ -11,9 +11,9 @@ use Rattle.model.specs.State.{Slot, registeredLanes, livingSenders}
 use Rattle.model.specs.Order.{Ordered}
 use Rattle.model.specs.Ready.{groupsRound}
 use Rattle.demands.proofs.OrderKept.{first-own, front-registered, front-alone, budget-ordered, groups-round-exist, collect-each-ordered, collect-first-ordered}
-use Rattle.lane.specs.Table.{setHead, laneAt}
+use Rattle.lane.specs.Table.{laneAt}
 use Rattle.lane.proofs.TableLaws.{frames}
-use Rattle.queues.specs.Header.{issued}
+use Rattle.queues.specs.Header.{issued, setBudget}
 use Rattle.queues.specs.Queue.{queueOf}
 use Rattle.ready.specs.Ready.{collectReady}
 use Rattle.queues.proofs.QueueLaws.{queue-frames, header-in}
@@ -54,7 +54,7 @@ front-lane t r o x q e =
 
 -- with every window within it
 pub stores-budget : (t r : List ℕ) → Stores t r → (b : ℕ)
-    → ((x : ℕ) → x < issued t → laneAt t x .registered ≡ 1 → 0 < laneAt t x .window → laneAt t x .window ≤ b) → Stores (setHead t 5 b) r
+    → ((x : ℕ) → x < issued t → laneAt t x .registered ≡ 1 → 0 < laneAt t x .window → laneAt t x .window ≤ b) → Stores (setBudget t b) r
 unfolding registeredLanes livingSenders
 stores-budget t r o b k =
     record {
@@ -72,8 +72,8 @@ stores-budget t r o b k =
             issued-only = simp (frames, queue-frames) (o .named .issued-only);
             flagged = simp (frames, queue-frames) (o .named .flagged);
           };
-      linked = linked-by t (setHead t 5 b) (simp frames) (λ p. simp frames) (λ g. simp frames) (o .linked);
-      mark-words = mark-words-by t (setHead t 5 b) (simp frames) (λ p. simp frames) (λ g. simp frames) (o .mark-words);
+      linked = linked-by t (setBudget t b) (simp frames) (λ p. simp frames) (λ g. simp frames) (o .linked);
+      mark-words = mark-words-by t (setBudget t b) (simp frames) (λ p. simp frames) (λ g. simp frames) (o .mark-words);
       windows = simp (frames, queue-frames, header-in t (o .shaped))
           (λ x h e w. let f = o .windows x h e w in record { at-fast = f .at-fast; in-front = f .in-front; within = k x h e w });
       lanes-counted = simp frames (o .lanes-counted ∙ sym (ap registeredLanes (view-budget t r (o .shaped) b)));
@@ -81,7 +81,7 @@ stores-budget t r o b k =
     }
 
 -- a budget of 64, which no window passes
-pub full-budget-in-order : (t r : List ℕ) → StoreInOrder t r → StoreInOrder (setHead t 5 64) r
+pub full-budget-in-order : (t r : List ℕ) → StoreInOrder t r → StoreInOrder (setBudget t 64) r
 unfolding view
 full-budget-in-order t r o =
     record {

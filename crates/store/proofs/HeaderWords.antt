@@ -3,7 +3,7 @@
 use mathlib.Core.Path.{_≡_, refl, ap, _∙_}
 use mathlib.Core.Bool.{Bool, true, false}
 use mathlib.Core.List.{List}
-use Prim.Native.Nat.{ℕ}
+use Prim.Native.Nat.{ℕ, zero, suc}
 use borrow.Author.Tests.{eqb-true}
 use lib.Dec.{eqb, ltb}
 use Rattle.model.specs.Lists.{if}
@@ -11,9 +11,14 @@ use Rattle.demands.proofs.Counting.{no}
 use Rattle.yring.specs.Lists.{tab}
 use Rattle.lane.specs.Table.{headerWords}
 
--- the place of a header word, by what reads it: each word of this table is its own place
+-- The place by what was read in the table of `placeOf`. Beyond the table's end 0 is read: then it is no place of the header, and laws that ask for one refuse it.
+abbrev placeBy : ℕ → ℕ
+placeBy zero = headerWords
+placeBy (suc k) = k
+
+-- the place of a header word, by what reads it: each word of this table is its place and one. It ends before the header does: one as long slows the check
 abbrev pub placeOf : (List ℕ → ℕ) → ℕ
-placeOf word = word (tab 32 (λ i. i))
+placeOf word = placeBy (word (tab 32 (λ i. suc i)))
 
 -- a word of the header that is none of a set
 pub record Beside (set : ℕ → Bool) (j : ℕ) : Type 0 where

@@ -6,10 +6,10 @@ use Prim.Native.Nat.{ℕ, _-_, _<_}
 use lib.Dec.{eqb}
 use lib.ListN.{length}
 use Rattle.lane.specs.declared.lane.Lane.{Lane}
-use Rattle.lane.specs.Table.{putLane, setHead}
+use Rattle.lane.specs.Table.{putLane}
 use Rattle.lane.proofs.OrderLaws.{cond-holds}
 use Rattle.lane.proofs.TableLaws.{frames}
-use Rattle.queues.specs.Header.{Shaped, freeCount, slots, laneCount}
+use Rattle.queues.specs.Header.{Shaped, freeCount, slots, laneCount, setLaneCount}
 use Rattle.queues.specs.Registry.{free}
 use Rattle.queues.proofs.QueueLaws.{shaped-putLane, shaped-setHead}
 use Rattle.queues.proofs.RegistryLaws.{length-freed}
@@ -17,10 +17,10 @@ use Rattle.store.specs.Registry.{retired, freeUnlessLast, retireLane}
 
 module _ (t : List ℕ) (l : Lane) where
   -- the count of lanes is neither the shape's nor the free list's
-  pub shaped-lowered : (n : ℕ) → Shaped t → Shaped (setHead (putLane t l) 13 n)
+  pub shaped-lowered : (n : ℕ) → Shaped t → Shaped (setLaneCount (putLane t l) n)
   shaped-lowered n s = shaped-setHead (putLane t l) (shaped-putLane t s l) 13 n refl refl refl refl refl refl
 
-  pub room-lowered : (n : ℕ) → freeCount t < slots t → freeCount (setHead (putLane t l) 13 n) < slots (setHead (putLane t l) 13 n)
+  pub room-lowered : (n : ℕ) → freeCount t < slots t → freeCount (setLaneCount (putLane t l) n) < slots (setLaneCount (putLane t l) n)
   room-lowered n h = simp frames h
 
   pub freed-unless-last-is : (P : List ℕ → Type 0) → P t → P (free t (l .key .slot)) → P (freeUnlessLast t l)
@@ -33,4 +33,4 @@ module _ (t : List ℕ) (l : Lane) where
 
 pub length-retire-lane : (t : List ℕ) (l : Lane) → length (retireLane t l) ≡ length t
 unfolding retireLane
-length-retire-lane t l = length-freed-unless-last (setHead (putLane t (retired l)) 13 (laneCount t - 1)) l ∙ simp frames
+length-retire-lane t l = length-freed-unless-last (setLaneCount (putLane t (retired l)) (laneCount t - 1)) l ∙ simp frames

@@ -12,9 +12,9 @@ use Rattle.model.specs.Changes as changes
 use Rattle.model.specs.Changes.{put, withFree, withFlags, withSignal}
 use Rattle.model.specs.Turn as rules
 use Rattle.lane.specs.declared.lane.Lane.{Lane}
-use Rattle.lane.specs.Table.{laneAt, putLane, setHead}
+use Rattle.lane.specs.Table.{laneAt, putLane}
 use Rattle.lane.proofs.TableLaws.{slot-of-lane}
-use Rattle.queues.specs.Header.{Shaped, issued, slots, freeCount, laneCount}
+use Rattle.queues.specs.Header.{Shaped, issued, slots, freeCount, laneCount, setLaneCount}
 use Rattle.queues.specs.Registry.{free}
 use Rattle.queues.proofs.QueueLaws.{shaped-putLane}
 use Rattle.store.specs.View.{flag, slotAt, view}
@@ -33,7 +33,7 @@ module _ (t r : List ℕ) (s : Shaped t) (x : ℕ) (h : x < issued t) (l : Lane)
 
   -- the lane stored as unregistered, and counted no more
   abbrev lowered : List ℕ
-  lowered = setHead (putLane t (retired l)) 13 (laneCount t - 1)
+  lowered = setLaneCount (putLane t (retired l)) (laneCount t - 1)
 
   slot-retired : withFlags false (flag (l .living)) false (withSignal (flag (l .pending)) (slot .marked) slot) ≡ changes.retired slot
   unfolding slotAt
@@ -77,7 +77,7 @@ unfolding retireLane freeUnlessLast
 step-retire-lane {t = t} {u = u} {x = x} {l = l} {w = w} {g = g} k o e h room = go (eqb (o .key .generation) 18446744073709551615)
   where
     low : List ℕ
-    low = setHead (putLane u (retired o)) 13 (laneCount u - 1)
+    low = setLaneCount (putLane u (retired o)) (laneCount u - 1)
 
     step : Step t low x (retired o) w (withWord laneCount (laneCount u - 1) g)
     step = step-lane-count (step-put-lane k (retired o) e h) (laneCount u - 1)

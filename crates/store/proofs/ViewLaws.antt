@@ -25,7 +25,7 @@ use Rattle.lane.specs.Table.{HasRow, head, setHead, headerWords, laneAt, putLan
 use Rattle.lane.proofs.TableLaws.{frames, lane-own, other-lane-kept, slot-of-lane, has-row}
 use Rattle.yring.proofs.RingLaws.{other-ring-kept}
 use Rattle.lane.proofs.HeldLaws.{held-by-ends, push-and-flush-appends}
-use Rattle.queues.specs.Header.{Shaped, issued, slots, budget, groupCursor, alive, capacity, channel, firstGeneration, freeCount, queueCount}
+use Rattle.queues.specs.Header.{Shaped, issued, slots, budget, groupCursor, alive, capacity, channel, firstGeneration, freeCount, queueCount, setBudget, setGroupCursor, setAlive, setFastSlot, setLaneCount, setLivingCount}
 use Rattle.queues.specs.Queue as words
 use Rattle.queues.specs.Queue.{queueOf, pushBack, popFront, rotateLeft, remove}
 use Rattle.queues.specs.Registry.{freeOf, free, lastFreed, reissue}
@@ -372,15 +372,15 @@ module _ (t r : List ℕ) (s : Shaped t) where
 -- ---- header words
 
 module _ (t r : List ℕ) (s : Shaped t) where
-  pub view-budget : (b : ℕ) → view (setHead t 5 b) r ≡ withBudget b (view t r)
+  pub view-budget : (b : ℕ) → view (setBudget t b) r ≡ withBudget b (view t r)
   unfolding view slotAt
   view-budget b = state-path _ _ (λ y. simp frames) (simp queue-frames) (simp registry-frames) (simp frames) (simp (frames, header-in t s)) (simp frames) (simp frames) (simp frames) (simp frames) (simp frames) (simp frames)
 
-  pub view-cursor : (c : ℕ) → view (setHead t 6 c) r ≡ withCursor c (view t r)
+  pub view-cursor : (c : ℕ) → view (setGroupCursor t c) r ≡ withCursor c (view t r)
   unfolding view slotAt
   view-cursor c = state-path _ _ (λ y. simp frames) (simp queue-frames) (simp registry-frames) (simp frames) (simp frames) (simp (frames, header-in t s)) (simp frames) (simp frames) (simp frames) (simp frames) (simp frames)
 
-  pub view-alive : (a : ℕ) → view (setHead t 7 a) r ≡ withOpen (flag a) (view t r)
+  pub view-alive : (a : ℕ) → view (setAlive t a) r ≡ withOpen (flag a) (view t r)
   unfolding view slotAt
   view-alive a = state-path _ _ (λ y. simp frames) (simp queue-frames) (simp registry-frames) (simp frames) (simp frames) (simp frames) (simp (frames, header-in t s)) (simp frames) (simp frames) (simp frames) (simp frames)
 
@@ -391,11 +391,11 @@ module _ (t r : List ℕ) (s : Shaped t) where
       let n : (j : ℕ) → ltb j 12 ≡ true → eqb k j ≡ false = λ j m. ne-eqb k j (λ e. omega (arith, ltb-true j 12 m, ltb-true 11 k g)) in
       state-path _ _ (λ y. simp (frames, p, n)) (simp (queue-frames, p, n)) (simp (registry-frames, p, n)) (simp (frames, n)) (simp (frames, n)) (simp (frames, n)) (simp (frames, n)) (simp (frames, n)) (simp (frames, n)) (simp (frames, n)) (simp (frames, n))
 
-  pub view-fast-slot : (x : ℕ) → view (setHead t 12 x) r ≡ view t r
+  pub view-fast-slot : (x : ℕ) → view (setFastSlot t x) r ≡ view t r
   view-fast-slot x = unseen 12 x refl refl
 
-  pub view-lane-count : (n : ℕ) → view (setHead t 13 n) r ≡ view t r
+  pub view-lane-count : (n : ℕ) → view (setLaneCount t n) r ≡ view t r
   view-lane-count n = unseen 13 n refl refl
 
-  pub view-living-count : (n : ℕ) → view (setHead t 14 n) r ≡ view t r
+  pub view-living-count : (n : ℕ) → view (setLivingCount t n) r ≡ view t r
   view-living-count n = unseen 14 n refl refl

@@ -8,10 +8,10 @@ use native.Mathlib.Omega.{arith}
 use borrow.Author.Tests.{eqb-true}
 use lib.Dec.{eqb}
 use Rattle.model.specs.State.{registeredLanes}
-use Rattle.lane.specs.Table.{laneAt, setHead}
+use Rattle.lane.specs.Table.{laneAt}
 use Rattle.lane.proofs.OrderLaws.{cond-holds}
 use Rattle.lane.proofs.TableLaws.{frames}
-use Rattle.queues.specs.Header.{issued, queueCount, budget}
+use Rattle.queues.specs.Header.{issued, queueCount, budget, setBudget}
 use Rattle.ready.specs.Ready.{collectReady}
 use Rattle.store.specs.View.{flag, slotAt, view}
 use Rattle.store.specs.Order.{StoreInOrder}
@@ -60,5 +60,5 @@ due-keeps t k =
     (λ e. cond-holds (Keeps t) (eqb (queueCount t) 0) t _ (λ f. keeps-self t k) (λ f. keeps-then (collect-keeps false t k) (budget-keeps (collectReady false t) (collect-keeps false t k .turning) 64)))
     (λ e. keeps-self t k)
   where
-    budget-keeps : (u : List ℕ) → Turning u → (v : ℕ) → Keeps u (setHead u 5 v)
+    budget-keeps : (u : List ℕ) → Turning u → (v : ℕ) → Keeps u (setBudget u v)
     budget-keeps u k v = record { turning = turning-budget u k v; long = simp frames; same-slots = simp frames; same-capacity = simp frames }

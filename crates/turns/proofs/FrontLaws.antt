@@ -20,10 +20,10 @@ use Rattle.yring.specs.Ring.{newRing}
 use Rattle.lane.specs.Order.{InOrder, polledLane}
 use Rattle.lane.specs.Lane.{poll}
 use Rattle.yring.specs.declared.ring.Ring.{Ring}
-use Rattle.lane.specs.Table.{headerWords, head, setHead, laneAt, putLane}
+use Rattle.lane.specs.Table.{headerWords, head, laneAt, putLane}
 use Rattle.lane.proofs.OrderLaws.{cond-holds, poll-keeps}
 use Rattle.lane.proofs.TableLaws.{frames, slot-of-lane}
-use Rattle.queues.specs.Header.{Shaped, issued, slots, queueCount, freeCount, budget, capacity, laneCount}
+use Rattle.queues.specs.Header.{Shaped, issued, slots, queueCount, freeCount, budget, capacity, laneCount, setBudget, setLaneCount}
 use Rattle.queues.specs.Queue.{queueOf, frontSlot, popFront, rotateLeft}
 use Rattle.queues.specs.Registry.{freeOf, free}
 use Rattle.queues.proofs.QueueLaws.{queue-frames, header-in}
@@ -47,7 +47,7 @@ use Rattle.turns.proofs.TurnLaws.{slot-below, some-lane, not-free, free
 module _ {t u : List ℕ} {x : ℕ} {l : Lane} {w : List ℕ} {hd : ℕ → ℕ} (k : Turning t) (s : Step t u x l w hd) (h : x < issued t) (e : laneAt t x .registered ≡ 1)
     (g : Lane) (at : g .key .slot ≡ x) (others : (y : ℕ) → x ≢ y → count y w ≡ count y (queueOf t)) (gone : count x w ≡ 0) (kept : freeOf u ≡ freeOf t) (lanes : hd (placeOf laneCount) ≡ laneCount t) where
   abbrev lowered : List ℕ
-  lowered = setHead (putLane u (retired g)) 13 (laneCount u - 1)
+  lowered = setLaneCount (putLane u (retired g)) (laneCount u - 1)
 
   step-lowered : Step t lowered x (retired g) w (withWord laneCount (laneCount u - 1) hd)
   step-lowered = step-lane-count (step-put-lane s (retired g) at h) (laneCount u - 1)
@@ -154,7 +154,7 @@ module _ (t : List ℕ) (k : Turning t) (some : queueCount t ≡ 0 → ⊥) wher
     unfolding gaveFront rotateIf
     turning-gave = go rotate
       where
-        go : (r : Bool) → Turning (setHead (cond r (rotateLeft (putLane t l)) (putLane t l)) 5 (lessOne (budget t)))
+        go : (r : Bool) → Turning (setBudget (cond r (rotateLeft (putLane t l)) (putLane t l)) (lessOne (budget t)))
         go true =
             given-by _ (rest ++ (x ∷ [])) (lessOne (budget t)) (step-budget (step-rotated step-given x rest (queue-is t k some)) (lessOne (budget t))) counts-turned (simp registry-frames)
         go false = given-by _ (queueOf t) (lessOne (budget t)) (step-budget step-given (lessOne (budget t))) (λ y. refl) (simp registry-frames)
@@ -185,7 +185,7 @@ keeps-ringed a r g = rw (a .same-slots, a .same-capacity) g
 pub head-retired : (t : List ℕ) (l : Lane) (j : ℕ) → ltb j headerWords ≡ true → eqb 3 j ≡ false → eqb 13 j ≡ false → head (retireLane t l) j ≡ head t j
 unfolding retireLane
 head-retired t l j a b c =
-    freed-unless-last-is (setHead (putLane t (retired l)) 13 (laneCount t - 1)) l (λ u. head u j ≡ head t j) (simp (frames, a, c)) (simp (registry-frames, frames, a, b, c))
+    freed-unless-last-is (setLaneCount (putLane t (retired l)) (laneCount t - 1)) l (λ u. head u j ≡ head t j) (simp (frames, a, c)) (simp (registry-frames, frames, a, b, c))
 
 module _ (t : List ℕ) (found : EmptyLane) where
   abbrev settled : List ℕ
@@ -213,24 +213,24 @@ module _ (t : List ℕ) (found : EmptyLane) where
 pub head-met : (t : List ℕ) (j : ℕ) → eqb 5 j ≡ false → head (meetBudget t) j ≡ head t j
 unfolding meetBudget
 head-met t j e =
-    cond-holds (λ (u : List ℕ). head u j ≡ head t j) (eqb (queueCount t) 0) t (cond (eqb (budget t) 0) (setHead t 5 64) t) (λ i. refl)
-    (λ i. cond-holds (λ (u : List ℕ). head u j ≡ head t j) (eqb (budget t) 0) (setHead t 5 64) t (λ f. simp (frames, e)) (λ f. refl))
+    cond-holds (λ (u : List ℕ). head u j ≡ head t j) (eqb (queueCount t) 0) t (cond (eqb (budget t) 0) (setBudget t 64) t) (λ i. refl)
+    (λ i. cond-holds (λ (u : List ℕ). head u j ≡ head t j) (eqb (budget t) 0) (setBudget t 64) t (λ f. simp (frames, e)) (λ f. refl))
 
 pub length-met : (t : List ℕ) → length (meetBudget t) ≡ length t
 unfolding meetBudget
 length-met t =
-    cond-holds (λ (u : List ℕ). length u ≡ length t) (eqb (queueCount t) 0) t (cond (eqb (budget t) 0) (setHead t 5 64) t) (λ i. refl)
-    (λ i. cond-holds (λ (u : List ℕ). length u ≡ length t) (eqb (budget t) 0) (setHead t 5 64) t (λ f. simp frames) (λ f. refl))
+    cond-holds (λ (u : List ℕ). length u ≡ length t) (eqb (queueCount t) 0) t (cond (eqb (budget t) 0) (setBudget t 64) t) (λ i. refl)
+    (λ i. cond-holds (λ (u : List ℕ). length u ≡ length t) (eqb (budget t) 0) (setBudget t 64) t (λ f. simp frames) (λ f. refl))
 
 module _ (t : List ℕ) (rotate : Bool) (l : Lane) where
   abbrev given : List ℕ
-  given = setHead (rotateIf rotate (putLane t l)) 5 (lessOne (budget t))
+  given = setBudget (rotateIf rotate (putLane t l)) (lessOne (budget t))
 
-  given-is : (P : List ℕ → Type 0) → P (setHead (rotateLeft (putLane t l)) 5 (lessOne (budget t))) → P (setHead (putLane t l) 5 (lessOne (budget t))) → P (gaveFront t rotate l)
+  given-is : (P : List ℕ → Type 0) → P (setBudget (rotateLeft (putLane t l)) (lessOne (budget t))) → P (setBudget (putLane t l) (lessOne (budget t))) → P (gaveFront t rotate l)
   unfolding gaveFront rotateIf
   given-is P p q = go rotate
     where
-      go : (r : Bool) → P (setHead (cond r (rotateLeft (putLane t l)) (putLane t l)) 5 (lessOne (budget t)))
+      go : (r : Bool) → P (setBudget (cond r (rotateLeft (putLane t l)) (putLane t l)) (lessOne (budget t)))
       go true = p
       go false = q
 

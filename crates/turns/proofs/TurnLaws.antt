@@ -15,10 +15,10 @@ use Rattle.demands.proofs.Counting.{equal, other, same?, same-self}
 use Rattle.lane.specs.declared.lane.Lane.{Lane}
 use Rattle.yring.specs.Ring.{newRing, Within}
 use Rattle.lane.specs.Order.{InOrder}
-use Rattle.lane.specs.Table.{setHead, laneAt}
+use Rattle.lane.specs.Table.{laneAt}
 use Rattle.lane.proofs.OrderLaws.{cond-holds}
 use Rattle.lane.proofs.TableLaws.{frames}
-use Rattle.queues.specs.Header.{Shaped, issued, slots, queueCount, freeCount, budget, capacity, laneCount}
+use Rattle.queues.specs.Header.{Shaped, issued, slots, queueCount, freeCount, budget, capacity, laneCount, setBudget, setFastSlot}
 use Rattle.queues.specs.Queue.{QueueNames, queueOf, frontSlot, popFront}
 use Rattle.queues.specs.Registry.{freeOf}
 use Rattle.ready.specs.Ready.{Linked}
@@ -186,22 +186,22 @@ module _ (t u : List ℕ) (k : Turning t) (i : issued u ≡ issued t) (r : (y : 
 
 -- the budget and `fast_slot` are no matter of it
 module _ (t : List ℕ) (k : Turning t) (v : ℕ) where
-  pub turning-budget : Turning (setHead t 5 v)
+  pub turning-budget : Turning (setBudget t v)
   turning-budget =
-      turning-by t (setHead t 5 v) k (simp frames) (λ y. simp frames) (shaped-setHead t (k .shaped) 5 v refl refl refl refl refl refl)
-      (names-same t (setHead t 5 v) (k .names) (simp frames) (λ y. simp frames) (λ y. simp queue-frames))
-      (linked-by t (setHead t 5 v) (simp frames) (λ y. simp frames) (λ y. simp frames) (k .linked)) (simp frames) (simp registry-frames) (simp frames)
+      turning-by t (setBudget t v) k (simp frames) (λ y. simp frames) (shaped-setHead t (k .shaped) 5 v refl refl refl refl refl refl)
+      (names-same t (setBudget t v) (k .names) (simp frames) (λ y. simp frames) (λ y. simp queue-frames))
+      (linked-by t (setBudget t v) (simp frames) (λ y. simp frames) (λ y. simp frames) (k .linked)) (simp frames) (simp registry-frames) (simp frames)
       (λ y e o. simp frames o) (simp (frames, queue-frames) (k .queued-registered))
 
-  pub turning-fast : Turning (setHead t 12 v)
+  pub turning-fast : Turning (setFastSlot t v)
   turning-fast =
-      turning-by t (setHead t 12 v) k (simp frames) (λ y. simp frames) (shaped-setHead t (k .shaped) 12 v refl refl refl refl refl refl)
-      (names-same t (setHead t 12 v) (k .names) (simp frames) (λ y. simp frames) (λ y. simp queue-frames))
-      (linked-by t (setHead t 12 v) (simp frames) (λ y. simp frames) (λ y. simp frames) (k .linked)) (simp frames) (simp registry-frames) (simp frames)
+      turning-by t (setFastSlot t v) k (simp frames) (λ y. simp frames) (shaped-setHead t (k .shaped) 12 v refl refl refl refl refl refl)
+      (names-same t (setFastSlot t v) (k .names) (simp frames) (λ y. simp frames) (λ y. simp queue-frames))
+      (linked-by t (setFastSlot t v) (simp frames) (λ y. simp frames) (λ y. simp frames) (k .linked)) (simp frames) (simp registry-frames) (simp frames)
       (λ y e o. simp frames o) (simp (frames, queue-frames) (k .queued-registered))
 
 pub turning-met : (t : List ℕ) → Turning t → Turning (meetBudget t)
 unfolding meetBudget
 turning-met t k =
-    cond-holds Turning (eqb (queueCount t) 0) t (cond (eqb (budget t) 0) (setHead t 5 64) t) (λ e. k)
-    (λ e. cond-holds Turning (eqb (budget t) 0) (setHead t 5 64) t (λ f. turning-budget t k 64) (λ f. k))
+    cond-holds Turning (eqb (queueCount t) 0) t (cond (eqb (budget t) 0) (setBudget t 64) t) (λ e. k)
+    (λ e. cond-holds Turning (eqb (budget t) 0) (setBudget t 64) t (λ f. turning-budget t k 64) (λ f. k))

@@ -5,14 +5,14 @@ use Prim.Native.Nat.{ℕ, _-_, _≤_}
 use native.Mathlib.Omega.{arith}
 use borrow.Author.Needs.{needs}
 use Rattle.queues.specs.Header.{issued}
-use Rattle.ready.specs.Ready.{groupCount, anyReady}
+use Rattle.ready.specs.Ready.{groupCount, hasReady}
 use Rattle.ready.specs.declared.ready.Group.{Group}
 use Rattle.ready.proofs.NoneReady.{any-here, any-below, none-left, groups-fit}
 use Rattle.ready.proofs.ready.has_ready.Statement.{statement}
 use Rattle.ready.proofs.ready.has_ready.Tie as tie
 
 abbrev Inv-loop : tie.InvT-loop
-Inv-loop t left₀ left = (left ≤ groupCount (issued t)) × (anyReady (groupCount (issued t)) t ≡ anyReady left t)
+Inv-loop t left₀ left = (left ≤ groupCount (issued t)) × (hasReady (groupCount (issued t)) t ≡ hasReady left t)
 
 abbrev μ-loop : tie.MeasureT-loop
 μ-loop t left₀ left = left

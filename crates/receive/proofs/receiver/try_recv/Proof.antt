@@ -18,7 +18,7 @@ returns-2 : tie.Need-returns-2
 unfolding tryRecv unlessRefused
 returns-2 c =
     rw (sym (c .before .before .before .before .before .before .receiver-verdict .ensures) ∙ c .before .before .before .before .enum-told .given .1)
-    (ap (λ (o : Answer × List ℕ). withRings (c .before .before .before .before .before .before .before .before .before .before .args .r .now) o) (c .before .before .try-recv-inner .ensures))
+    (ap (λ (o : Answer × List ℕ). withRings (c .before .before .before .before .before .before .before .before .before .before .args .r .now) o) (c .before .before .try-recv-output .ensures))
 
 pub try-recv-spec : {M : Type 1} → statement M
 try-recv-spec =

@@ -1,11 +1,11 @@
--- `receive::receiver::try_recv_inner` meets its contract.
+-- `receive::receiver::try_recv_output` meets its contract.
 -- Assumes nothing.
 use mathlib.Core.Path.{ap, _∙_}
 use Rattle.receive.specs.Receive.{answerOne}
 use Rattle.receive.proofs.FastLaws.{unissued-refill, unregistered-refill, closed-refill}
 use borrow.Author.Needs.{needs}
-use Rattle.receive.proofs.receiver.try_recv_inner.Statement.{statement}
-use Rattle.receive.proofs.receiver.try_recv_inner.Tie as tie
+use Rattle.receive.proofs.receiver.try_recv_output.Statement.{statement}
+use Rattle.receive.proofs.receiver.try_recv_output.Tie as tie
 
 returns : tie.Need-returns
 returns c = c .before .before .answer-refill .ensures ∙ ap (answerOne _) (unissued-refill _ (c .before .before .before .before .before .before .before .before .before .args .r .now) (c .before .before .before .before .if1 .taken))
@@ -23,8 +23,8 @@ answer-window-requires c κs =
 returns-4 : tie.Need-returns-4
 returns-4 c = c .before .before .answer-window .ensures
 
-pub try-recv-inner-spec : {M : Type 1} → statement M
-try-recv-inner-spec =
+pub try-recv-output-spec : {M : Type 1} → statement M
+try-recv-output-spec =
     tie.close
     (tie.spec
     (λ c. search needs)
