@@ -10,7 +10,7 @@ use lib.ListN.{length}
 use Rattle.model.specs.declared.LaneKey.{LaneKey}
 use Rattle.model.specs.declared.Opening.{Opening}
 -- not used here: so the computed run that meets the bound is checked first
-use Rattle.model.specs.BoundMet.{bound-met}
+use Rattle.model.specs.Examples.BoundMet.{bound-met}
 use Rattle.model.specs.Lists.{if}
 use Rattle.model.specs.State.{State, vacant, keyOf}
 use Rattle.model.specs.Ready.{groupsIn}

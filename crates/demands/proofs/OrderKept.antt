@@ -9,7 +9,7 @@ use native.Mathlib.Omega.{arith}
 use lib.Dec.{eqb, leb, ltb}
 use borrow.Author.Tests.{eqb-false, leb-false, ltb-true}
 -- not used here: so the computed examples are checked before any proof about the rules, and a changed rule is refused there first
-use Rattle.model.specs.Examples.{table-computed}
+use Rattle.model.specs.Examples.Calls.{table-computed}
 use Rattle.model.specs.Lists.{if, both, either, count, keep, from, nonEmpty}
 use Rattle.model.specs.State.{Slot, State, queued, mayQueue}
 use Rattle.model.specs.Changes.{withQueue, withBudget, put, signalled, popped, settledEmpty, retired, unmarked}

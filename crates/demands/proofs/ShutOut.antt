@@ -28,7 +28,7 @@ use Rattle.model.specs.Demand2.{Demand2, Demand2In, outOf, into, shuts, values,
 use Rattle.model.specs.Demand3.{Demand3, Demand3In}
 use Rattle.model.specs.Held.{HeldAsCounted, HeldAsCountedIn, heldBy, heldByLanes}
 use Rattle.model.specs.Simulation.{Fits, numbersOfOpening, numbersOfCall, OpeningFits, CallFits, Simulation}
-use Rattle.model.specs.Examples.{compute}
+use Rattle.model.specs.Examples.Calls.{compute}
 use Rattle.model.specs.ShutOut.{callBy, outputBy, receiveBeforeLooking, emptyBeforeLooking, receiveOfFront, fairServesFrontOnly, sendRefused, sendFullAlways, sendUnstored, sendStoresNothing, batchBy, firstMoved, batchMovesFirstOnly, othersReported, batchReportsOthers, oneMoreCounted, batchCountsOneMore, receiveLeavesItem, itemForEver, countsNone, heldZero}
 use Rattle.demands.proofs.Simulation.{opened-trace}
 

@@ -17,7 +17,7 @@ use Rattle.model.specs.Events.{Event, anyMarked, runEvents, collects, fi
 
 -- "while a page bit is set no more than 64 go out between two collections, however plain receives and batches mix"
 -- `part` is any part of a run's events without a collection, and in which no look for one finds that no page bit is set.
--- Without that it is false: see `nothing-to-collect` in EventExamples, where 65 items go out after the only collection.
+-- Without that it is false: see `nothing-to-collect` in Examples/Events.antt, where 65 items go out after the only collection.
 unfoldable pub AtMost64BetweenCollections : Type 0
 AtMost64BetweenCollections =
     (o : Opening) (lent : Lent) → (openingOutcome o lent) .1 .0 ≡ Done

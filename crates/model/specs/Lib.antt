@@ -1,5 +1,4 @@
 pub mod Answers
-pub mod AnswerExamples
 pub mod Lists
 pub mod State
 pub mod Changes
@@ -13,6 +12,7 @@ pub mod Control
 pub mod Opening
 pub mod Rules
 pub mod Order
+pub mod Viewed
 pub mod Ledger
 pub mod Stretch
 pub mod Demand1
@@ -26,12 +26,7 @@ pub mod Budget
 pub mod OneTurn
 pub mod Collections
 pub mod Disconnected
-pub mod Examples
-pub mod ReadyExamples
-pub mod EventExamples
-pub mod HeldExamples
-pub mod BoundMet
-pub mod StretchExamples
 pub mod ShutOut
 pub mod PollLoop
 pub mod Signals
+pub mod Examples

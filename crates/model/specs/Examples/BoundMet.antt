@@ -21,7 +21,7 @@ use Rattle.model.specs.Rules.{theRules}
 use Rattle.model.specs.Ledger.{Ledger, atOpening, changeLane, addItem, removeOldest, setPaused, setClosed, setDropped, addRegistered, applyCall, note, ledgerAfter, waits, waitsIn, anyOrdinary, isLive, liveLanes}
 use Rattle.model.specs.Stretch.{endsWait, endsStretch, stretch, looks, findsNothing, looksInVain, untargeted, otherReceive, notFair, afterCalls, mostLive, groupsAt}
 use Rattle.model.specs.Demand3.{bound, Promise}
-use Rattle.model.specs.Examples.{compute}
+use Rattle.model.specs.Examples.Calls.{compute}
 
 opening : Opening
 opening = record { capacity = 128; slots = 2; channel = 7; cursor = 0; generation = 0 }

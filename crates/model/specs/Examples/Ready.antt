@@ -18,7 +18,7 @@ use Rattle.model.specs.Runs.{afterList}
 use Rattle.model.specs.Collections.{groupsBefore}
 use Rattle.model.specs.Opening.{openedState}
 use Rattle.model.specs.Rules.{theRules}
-use Rattle.model.specs.Examples.{compute}
+use Rattle.model.specs.Examples.Calls.{compute}
 
 -- ---- signals
 

@@ -16,7 +16,7 @@ use Rattle.model.specs.Runs.{Lent, accepted, afterList, sameKey}
 use Rattle.model.specs.Events.{Event, budgetSet, collected, noneMarked, foundEmpty, itemTaken, wentToBack, anyMarked, collectEvent, refillEvents, beforeNextTurnEvents, runDownFromEvents, runDownEvents, backEvents, giveOldestEvents, giveFrontEvents, collectIfDueEvents, collectIfNoneQueuedEvents, polledEvents, takeOneEvents, takeFairEvents, andMoreEvents, takeUpToEvents, takeFromEvents, receiveEvents, callEvents, eventsFrom, runEvents, collects, findsNoneMarked, takesItem, takesItemOf, findsEmpty, countEvents}
 use Rattle.model.specs.OneTurn.{endsTurnOf}
 use Rattle.model.specs.Budget.{itemsCountedFrom, itemsSinceSet}
-use Rattle.model.specs.Examples.{compute}
+use Rattle.model.specs.Examples.Calls.{compute}
 
 -- two slots of capacity 128
 twoSlots : Opening

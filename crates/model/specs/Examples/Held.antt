@@ -13,7 +13,7 @@ use Rattle.model.specs.declared.Answer.the-variants.{Done, Taken, Refuse
 use Rattle.model.specs.Runs.{accepted, Tick, gives, ends, sameKey}
 use Rattle.model.specs.Ledger.{atOpening, changeLane, addItem, removeOldest, setPaused, setClosed, addRegistered, applyCall, note, ledgerAfter}
 use Rattle.model.specs.Held.{heldBy, heldByLanes}
-use Rattle.model.specs.StretchExamples.{lane, laneId, registered}
+use Rattle.model.specs.Examples.Stretch.{lane, laneId, registered}
 
 sent : ℕ → Tick
 sent x = ends (Sender (TrySend (lane x) 5)) (Taken true)
