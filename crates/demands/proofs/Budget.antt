@@ -8,7 +8,9 @@ use native.Mathlib.Omega.{arith}
 use lib.ListN.{length, length-map}
 use lib.Dec.{leb}
 use Rattle.model.specs.declared.LaneKey.{LaneKey}
+use Rattle.model.specs.declared.ReceiveCall.{ReceiveCall}
 use Rattle.model.specs.declared.ReceiveCall.the-variants.{TryRecv, TryRecvFair, TryRecvFrom, TryRecvBatchInto}
+use Rattle.model.specs.declared.Call.the-variants.{Receive}
 use Rattle.model.specs.declared.Refusal.{Refusal}
 use Rattle.model.specs.declared.Answer.the-variants.{Refused}
 use Rattle.model.specs.Lists.{if, either, nonEmpty}
@@ -21,7 +23,8 @@ use Rattle.model.specs.Runs.{accepted}
 use Rattle.model.specs.Receive.{answerOne, andMore, takeUpTo, releaseAll, answerItems, tryRecv, tryRecvFair, tryRecvFrom, tryRecvBatchInto, receiveOutcome}
 use Rattle.model.specs.Rules.{outcome}
 use Rattle.model.specs.Events.{Event, budgetSet, collected, noneMarked, foundEmpty, itemTaken, wentToBack, anyMarked, collectEvent, refillEvents, beforeNextTurnEvents, runDownFromEvents, runDownEvents, backEvents, giveOldestEvents, giveFrontEvents, collectIfDueEvents, collectIfNoneQueuedEvents, polledEvents, takeOneEvents, takeFairEvents, andMoreEvents, takeUpToEvents, takeFromEvents, receiveEvents, callEvents, runEvents, takesItem, countEvents, lanesOfItems}
-use Rattle.model.specs.Budget.{itemsCountedFrom, itemsSinceSet, BudgetCountsItems, isTargeted, ItemsAsHanded, AsManyAsHanded}
+use Rattle.model.specs.Budget.{itemsCountedFrom, itemsSinceSet, BudgetCountsItems, isTargeted, EventsTell}
+use Rattle.model.specs.Viewed.{rulesViewed, rulesOnAnyState}
 use Rattle.demands.proofs.Moves.{unless-law, nothing-taken-gives-none}
 use Rattle.demands.proofs.Events.{Tally, next, tally}
 use Rattle.demands.proofs.EventsOfRuns.{zeros, run-pass, answer-one-answered, answer-items-answered}
@@ -36,12 +39,12 @@ counted-from k T (foundEmpty j ∷ es) = counted-from k (next k T (foundEmpty j)
 counted-from k T (itemTaken j ∷ es) = counted-from k (next k T (itemTaken j)) es
 counted-from k T (wentToBack j ∷ es) = counted-from k (next k T (wentToBack j)) es
 
-pub budget-counts-items : BudgetCountsItems
+pub budget-counts-items : BudgetCountsItems rulesViewed
 unfolding BudgetCountsItems itemsSinceSet
-budget-counts-items o lent a calls =
+budget-counts-items o lent a calls any =
     let k : LaneKey = record { slot = 0; generation = 0 } in
     let b = run-pass k o lent a calls .at-end .by-budget in
-    let e = counted-from k zeros (runEvents o lent calls) in
+    let e = counted-from k zeros (runEvents rulesViewed o lent calls) in
     (omega (arith, b, e), omega (arith, b, e))
 
 -- the lanes of the items in a list of events
@@ -180,8 +183,8 @@ take-from-none s l x false = refl
 take-from-none s [] x true = refl
 take-from-none s (v ∷ vs) x true = refl
 
-pub items-as-handed : ItemsAsHanded
-unfolding ItemsAsHanded Handed isTargeted callEvents receiveEvents outcome receiveOutcome tryRecv tryRecvFair tryRecvBatchInto
+items-as-handed : (s : State) (r : ReceiveCall) → lanesOfItems (callEvents s (Receive r)) ≡ if (isTargeted r) [] (map (λ g. g .0) ((receiveOutcome s r) .0))
+unfolding Handed isTargeted callEvents receiveEvents outcome receiveOutcome tryRecv tryRecvFair tryRecvBatchInto
 items-as-handed s TryRecv = unless-law (Handed (takeOneEvents s)) _ s _ (refused-handed _ s) (λ p. answer-one-handed _ _ _ (take-one-lanes s))
 items-as-handed s TryRecvFair = unless-law (Handed (takeFairEvents s)) _ s _ (refused-handed _ s) (λ p. answer-one-handed _ _ _ (take-fair-lanes s))
 items-as-handed s (TryRecvBatchInto m n) = unless-law (Handed (takeUpToEvents m s)) _ s _ (refused-handed _ s) (λ p. answer-items-handed _ m _ _ (take-up-to-lanes m s))
@@ -197,10 +200,12 @@ count-lanes (foundEmpty k ∷ es) = omega (arith, count-lanes es)
 count-lanes (itemTaken k ∷ es) = omega (arith, count-lanes es)
 count-lanes (wentToBack k ∷ es) = omega (arith, count-lanes es)
 
-pub as-many-as-handed : AsManyAsHanded
-unfolding AsManyAsHanded ItemsAsHanded
+as-many-as-handed : (s : State) (r : ReceiveCall) → countEvents takesItem (callEvents s (Receive r)) ≡ if (isTargeted r) 0 (length ((receiveOutcome s r) .0))
 as-many-as-handed s r = count-lanes _ ∙ ap length (items-as-handed s r) ∙ go (isTargeted r) ((receiveOutcome s r) .0)
   where
     go : (b : Bool) (l : List (LaneKey × ℕ)) → length (if b [] (map (λ g. g .0) l)) ≡ if b 0 (length l)
     go true l = refl
     go false l = length-map l _
+
+pub events-tell : EventsTell rulesOnAnyState
+events-tell = record { lanes-handed = λ s any r. items-as-handed s r; as-many = λ s any r. as-many-as-handed s r }

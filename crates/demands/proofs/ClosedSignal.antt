@@ -31,6 +31,7 @@ use Rattle.model.specs.Receive.{retireEmptyPausedLanes, emptyOrDrained, nothing
 use Rattle.model.specs.Control.{pause, resumeIf, resume, closeLane, releaseConsumed, pollAllLanes, closeReceiver, countHeld, controlOutcome}
 use Rattle.model.specs.Rules.{outcome}
 use Rattle.model.specs.Order.{InOrder}
+use Rattle.model.specs.Viewed.{rulesViewed, rulesOnAnyState}
 use Rattle.model.specs.Signals.{dropsSender, ClosedAfter, ClosedSignalKept, OlderSenderRefused}
 use Rattle.demands.proofs.Counting.{equal, other, same?, self, no, both-true, not-false, count-append, keep-out}
 use Rattle.demands.proofs.LedgerLaws.{alike, unlike, keys?}
@@ -327,7 +328,7 @@ away-of s x i r = record { unregistered = r; unqueued = go (count x (s .queue)) 
     go (suc n) e = absurd (no (i .ordered .each-slot x .queued-registered (omega arith)) r)
 
 -- a call that is no drop of this sender, and keeps the slot
-kept-after : (s : State) (c : Call) (x : ℕ) → s .slotOf x .living ≡ true → dropsSender (keyOf s x) c ≡ false → Kept x s ((outcome s c) .1 .1) → ClosedAfter s c x
+kept-after : (s : State) (c : Call) (x : ℕ) → s .slotOf x .living ≡ true → dropsSender (keyOf s x) c ≡ false → Kept x s ((outcome s c) .1 .1) → ClosedAfter rulesViewed s c x
 kept-after s c x l e k = record {
   signal-kept = λ f. k .signal;
   drop-marks = λ f. absurd (no f e);
@@ -370,10 +371,10 @@ put-own : (s : State) (x : ℕ) (l : Slot) → (put x l s) .slotOf x ≡ l
 put-own s x l = rw (self x)
 
 -- a drop of this sender, and of another
-drop-after : (s : State) (x : ℕ) (k : LaneKey) → s .slotOf x .living ≡ true → Away x s → ClosedAfter s (Sender (DropSender k)) x
+drop-after : (s : State) (x : ℕ) (k : LaneKey) → s .slotOf x .living ≡ true → Away x s → ClosedAfter rulesViewed s (Sender (DropSender k)) x
 unfolding outcome senderOutcome dropSender dropsSender unless senderLives
 drop-after s x k l a = elim (keys? k (keyOf s x)) [
-  | alike p e ↦ subst (λ (j : LaneKey). ClosedAfter s (Sender (DropSender j)) x) (sym p) own
+  | alike p e ↦ subst (λ (j : LaneKey). ClosedAfter rulesViewed s (Sender (DropSender j)) x) (sym p) own
   | unlike d e ↦ kept-after s (Sender (DropSender k)) x l e (drop-other-keeps s x k d a)
 ]
   where
@@ -389,7 +390,7 @@ drop-after s x k l a = elim (keys? k (keyOf s x)) [
     itself : sameKey (keyOf s x) (keyOf s x) ≡ true
     itself = elim (keys? (keyOf s x) (keyOf s x)) [ alike p e ↦ e | unlike d e ↦ absurd (d refl) ]
 
-    own : ClosedAfter s (Sender (DropSender (keyOf s x))) x
+    own : ClosedAfter rulesViewed s (Sender (DropSender (keyOf s x))) x
     own = record {
       signal-kept = λ f. absurd (no itself f);
       drop-marks = λ f. ap (λ (l : Slot). l .pending) slot-after;
@@ -398,14 +399,14 @@ drop-after s x k l a = elim (keys? k (keyOf s x)) [
       same-key = ap (λ (l : Slot). record { slot = x; generation = l .generation }) slot-after;
     }
 
-pub closed-signal-kept : ClosedSignalKept
+pub closed-signal-kept : ClosedSignalKept rulesViewed
 unfolding ClosedSignalKept outcome dropsSender senderOutcome
 closed-signal-kept s c x i r l = go c
   where
     a : Away x s
     a = away-of s x i r
 
-    go : (c : Call) → ClosedAfter s c x
+    go : (c : Call) → ClosedAfter rulesViewed s c x
     go (Sender (RegisterSender m)) = kept-after s (Sender (RegisterSender m)) x l refl (register-keeps s x m i l a)
     go (Sender (TrySend k v)) = kept-after s (Sender (TrySend k v)) x l refl (send-keeps s x k v a)
     go (Sender (TrySendUnsignaled k v)) = kept-after s (Sender (TrySendUnsignaled k v)) x l refl (send-unsignaled-keeps s x k v a)
@@ -419,12 +420,15 @@ only-fourth : (a b c d : Bool) (s : State) (r : Outcome) → a ≡ false → b �
 unfolding unless
 only-fourth a b c d s r e f g h = rw (e, f, g, h)
 
-pub older-sender-refused : OlderSenderRefused
+pub older-sender-refused : OlderSenderRefused rulesOnAnyState
 unfolding OlderSenderRefused outcome senderOutcome registerSender olderLives
-older-sender-refused s x f m e l o n =
-    only-fourth (not (s .isOpen)) (leb m (registeredLanes s)) (both (not (nonEmpty (s .free))) (leb (s .slots) (s .issued))) (olderLives (s .free) s) s (issueSlot (s .free) s)
-    (ap not o) (few (leb m (registeredLanes s)) refl) (ap (λ (q : List ℕ). both (not (nonEmpty q)) (leb (s .slots) (s .issued))) e) (ap (λ (q : List ℕ). olderLives q s) e ∙ l)
+older-sender-refused s any x f m e l o n =
+    both-parts (only-fourth (not (s .isOpen)) (leb m (registeredLanes s)) (both (not (nonEmpty (s .free))) (leb (s .slots) (s .issued))) (olderLives (s .free) s) s (issueSlot (s .free) s)
+    (ap not o) (few (leb m (registeredLanes s)) refl) (ap (λ (q : List ℕ). both (not (nonEmpty q)) (leb (s .slots) (s .issued))) e) (ap (λ (q : List ℕ). olderLives q s) e ∙ l))
   where
     few : (b : Bool) → leb m (registeredLanes s) ≡ b → b ≡ false
     few true q = absurd (omega (arith, leb-true m (registeredLanes s) q))
     few false q = refl
+
+    both-parts : {w : Outcome} → w ≡ says (Refused OlderSenderLives) s → (w .1 .0 ≡ Refused OlderSenderLives) × (w .1 .1 ≡ s)
+    both-parts q = (ap (λ (w : Outcome). w .1 .0) q, ap (λ (w : Outcome). w .1 .1) q)

@@ -14,6 +14,7 @@ use Rattle.model.specs.Ready.{groupOf, groupsIn, marks, collectGroup, groupsRou
 use Rattle.model.specs.Events.{Event, anyMarked, budgetSet, collected, noneMarked, foundEmpty, itemTaken, wentToBack, collects, findsNoneMarked, takesItem, countEvents}
 use Rattle.model.specs.Order.{InOrder}
 use Rattle.model.specs.Collections.{AtMost64BetweenCollections, TakesOneGroup, TakesAllGroups, StandsAfterLast, NothingToCollect}
+use Rattle.model.specs.Viewed.{rulesViewed, rulesOnAnyState}
 use Rattle.demands.proofs.Counting.{same-self, self, no, both-true, both-intro, keep-in}
 use Rattle.demands.proofs.WaitInReceive.{group-low, collect-group-cursor}
 use Rattle.demands.proofs.Round.{collect-group-none, takes-first, leaves-last}
@@ -42,9 +43,9 @@ neither (e ∷ es) a b = go (collects e) (findsNoneMarked e) a b (neither es)
     go false true a b ih = absurd (omega arith)
     go false false a b ih = omega (arith, ih (omega arith) (omega arith))
 
-pub at-most-64-between-collections : AtMost64BetweenCollections
+pub at-most-64-between-collections : AtMost64BetweenCollections rulesViewed
 unfolding AtMost64BetweenCollections
-at-most-64-between-collections o lent a calls before part rest e z n =
+at-most-64-between-collections o lent a calls any before part rest e z n =
     let k : LaneKey = record { slot = 0; generation = 0 } in
     part-most k takesItem (λ e. either (collects e) (findsNoneMarked e)) (λ T. T .sinceCollected) (reads k) (λ T s. s .collected-small) zeros before part rest
     (rw e at (run-pass k o lent a calls .below)) (neither part z n)
@@ -89,14 +90,14 @@ some-group s i e =
     let r = kept-one (λ x. s .slotOf x .marked) (from 0 (s .issued)) e in
     (groupOf (r .0), group-low s (r .0) (i .ordered .each-slot (r .0) .marked-issued (r .2)), marks-of s (r .0) (r .1) (r .2))
 
-pub takes-one-group : TakesOneGroup
+pub takes-one-group : TakesOneGroup rulesViewed collectReadyGroup
 unfolding TakesOneGroup
 takes-one-group s i e =
     let g = some-group s i e in
     let f = takes-first s (i .ordered) (g .0) (g .1) (g .2) in
     (f .group, f .has-bits, f .is-taken, ap (λ (u : State). u .cursor) (f .is-taken) ∙ collect-group-cursor s (f .group) (f .has-bits), f .none-before)
 
-pub stands-after-last : StandsAfterLast
+pub stands-after-last : StandsAfterLast rulesViewed collectReady
 unfolding StandsAfterLast
 stands-after-last s i e =
     let g = some-group s i e in
@@ -112,12 +113,13 @@ none-marked s h = go (nonEmpty (keep (λ x. s .slotOf x .marked) (from 0 (s .iss
     go true e = let r = kept-one (λ x. s .slotOf x .marked) (from 0 (s .issued)) e in absurd (no (r .2) (h (r .0)))
     go false e = refl
 
-pub takes-all-groups : TakesAllGroups
+pub takes-all-groups : TakesAllGroups rulesViewed collectReady
 unfolding TakesAllGroups
 takes-all-groups s i = none-marked (collectReady s) (collect-ready-unmarked s (i .ordered))
 
-pub nothing-to-collect : NothingToCollect
-unfolding NothingToCollect collectReadyGroup collectReady collectFirst collectEach
+-- with no page bit set neither collection changes anything
+pub nothing-to-collect : (s : State) → anyMarked s ≡ false → (collectReadyGroup s ≡ s) × (collectReady s ≡ s)
+unfolding collectReadyGroup collectReady collectFirst collectEach
 nothing-to-collect s n = (first-none (groupsRound s), each-none (groupsRound s))
   where
     first-none : (gs : List ℕ) → collectFirst gs s ≡ s
@@ -127,3 +129,11 @@ nothing-to-collect s n = (first-none (groupsRound s), each-none (groupsRound s))
     each-none : (gs : List ℕ) → collectEach gs s ≡ s
     each-none [] = refl
     each-none (g ∷ gs) = ap (collectEach gs) (collect-group-none s g (no-marks s n g)) ∙ each-none gs
+
+pub one-of-none : NothingToCollect rulesOnAnyState collectReadyGroup
+unfolding NothingToCollect
+one-of-none s any n = nothing-to-collect s n .0
+
+pub all-of-none : NothingToCollect rulesOnAnyState collectReady
+unfolding NothingToCollect
+all-of-none s any n = nothing-to-collect s n .1

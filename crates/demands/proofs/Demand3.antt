@@ -11,7 +11,7 @@ use Rattle.model.specs.declared.LaneKey.{LaneKey}
 use Rattle.model.specs.declared.Opening.{Opening}
 -- not used here: so the computed run that meets the bound is checked first
 use Rattle.model.specs.Examples.BoundMet.{bound-met}
-use Rattle.model.specs.Lists.{if}
+use Rattle.model.specs.Lists.{if, both}
 use Rattle.model.specs.State.{State, vacant, keyOf}
 use Rattle.model.specs.Ready.{groupsIn}
 use Rattle.model.specs.Runs.{Tick, ofLane, countTicks}
@@ -19,7 +19,7 @@ use Rattle.model.specs.Opening.{openedState, openingOutcome}
 use Rattle.model.specs.Rules.{theRules}
 use Rattle.model.specs.Order.{Ordered}
 use Rattle.model.specs.Ledger.{Lane, Ledger, atOpening, note, ledgerAfter, anyOrdinary, waitsIn, waits}
-use Rattle.model.specs.Stretch.{endsStretch, stretch, looks, looksInVain, untargeted, notFair, mostLive, groupsAt}
+use Rattle.model.specs.Stretch.{endsStretch, stretch, looks, looksInVain, untargeted, ofOtherLane, untargetedOfOther, notFair, mostLive, groupsAt}
 use Rattle.model.specs.Demand3.{bound, Promise, Demand3In, Demand3}
 use Rattle.demands.proofs.Counting.{no, both-true, both-3, not-true}
 use Rattle.demands.proofs.Quiet.{Hold, poll}
@@ -172,10 +172,21 @@ start-within-bound : (G R : ℕ) → 64 * (G + R - 1) ≤ bound G R
 unfolding bound
 start-within-bound G R = omega arith
 
+-- of the items of untargeted receives, those of other lanes
+fewer-of-others : (K : LaneKey) (ts : List Tick) → countTicks (untargetedOfOther K) ts ≤ countTicks untargeted ts
+unfolding countTicks untargetedOfOther
+fewer-of-others K [] = omega arith
+fewer-of-others K (t ∷ ts) = go (untargeted t) (ofOtherLane K t) (fewer-of-others K ts)
+  where
+    go : (b c : Bool) {m n : ℕ} → m ≤ n → if (both b c) 1 0 + m ≤ if b 1 0 + n
+    go true true h = omega arith
+    go true false h = omega arith
+    go false c h = omega arith
+
 le-zero : {a : ℕ} → a ≤ 0 → a ≡ 0
 le-zero h = omega arith
 
-promise : (L : Ledger) (s e : State) (rest : List Tick) (K : LaneKey) → Ordered s → Agrees L s → Chain s rest e → waits K L ≡ true → Promise L (stretch K rest)
+promise : (L : Ledger) (s e : State) (rest : List Tick) (K : LaneKey) → Ordered s → Agrees L s → Chain s rest e → waits K L ≡ true → Promise K L (stretch K rest)
 promise L s e rest K o a c w =
     let st = stretch K rest in
     let E = groupsAt (ledgerAfter L st) in
@@ -192,8 +203,8 @@ promise L s e rest K o a c w =
       sees = le-zero (bounded-by K looksInVain (Bounds E R) (λ k M u. (i : ℕ) × Waits E R K i M u) (passes-on E R)
           (λ k M u v t ts q m f z. let r = falls-waits E R K (q .0) M u v t ts (q .1) m f z in (k, seen-none (move-sees {K = K} (on (t ∷ ts) z (q .1)) m), (r .0, r .2)))
           0 L s e rest (64 * (E + R - 1), x) c b);
-      bounded = omega (arith, bounded-by K untargeted (Bounds E R) (Waits E R K) (passes-on E R) (falls-waits E R K) (64 * (E + R - 1)) L s e rest x c b, start-within-bound E R);
-      fair-once = λ z j. bounded-by K (ofLane j) (Fairly E R) (Single E R K j) (λ M t ts g. record { bounds = passes-on E R M t ts (g .bounds); all-fair = first-fair t ts (g .all-fair) .1 }) (falls-single E R K j)
+      bounded = omega (arith, fewer-of-others K st, bounded-by K untargeted (Bounds E R) (Waits E R K) (passes-on E R) (falls-waits E R K) (64 * (E + R - 1)) L s e rest x c b, start-within-bound E R);
+      fair-once = λ z j other. bounded-by K (ofLane j) (Fairly E R) (Single E R K j) (λ M t ts g. record { bounds = passes-on E R M t ts (g .bounds); all-fair = first-fair t ts (g .all-fair) .1 }) (falls-single E R K j)
           1 L s e rest (record { most = 64 * (E + R - 1); waits-so = x; once-so = fresh (omega arith) }) c (record { bounds = b; all-fair = z });
     }
   where

@@ -26,7 +26,9 @@ use Rattle.model.specs.Turn.{retireLane, retireLaneIf, settleEmpty, beforeNextT
 use Rattle.model.specs.Outcome.{Outcome, says, unless}
 use Rattle.model.specs.Runs.{accepted}
 use Rattle.model.specs.Receive.{retireEmptyPausedLanes, emptyOrDrained, nothingTaken, answerOne, takeFrom, andMore, takeUpTo, releaseAll, answerItems, tryRecv, tryRecvFair, tryRecvFrom, tryRecvBatchInto, receiveOutcome}
+use Rattle.model.specs.Rules.{outcome}
 use Rattle.model.specs.Order.{Ordered}
+use Rattle.model.specs.Viewed.{rulesViewed, rulesOnAnyState}
 use Rattle.model.specs.Stretch.{looks}
 use Rattle.model.specs.Disconnected.{NoSenderLives, NoLaneRegistered, DisconnectedExactly, EmptyOnesRetired, RetiresEmptyPaused, SameLane, EmptyWithPausedItems, PausedWithItems, OnlyPausedItemsLeft, LaneDrained, TargetedDisconnectedExactly}
 use Rattle.demands.proofs.Counting.{Same, equal, other, same?, no, not-true, not-false, keep-in, from-in}
@@ -341,8 +343,8 @@ only-then (found-nothing k (sender-lives z)) a d = absurd (omega (arith, senders
 only-then (found-nothing k (lane-left z l)) a d = absurd (omega (arith, lanes-zero _ (d .no-lane)))
 only-then (found-nothing k (none-left z l)) a d = refl
 
-pub disconnected-exactly : DisconnectedExactly
-unfolding DisconnectedExactly
+pub disconnected-exactly : DisconnectedExactly rulesViewed
+unfolding DisconnectedExactly outcome
 disconnected-exactly s r h = (
   λ e. let d = disconnected-then (h .in-order .ordered) (looked s r (h .untargeted)) e in record { no-item = d .no-item; no-sender = d .no-sender; no-lane = d .no-lane },
   λ d. only-then (looked s r (h .untargeted)) (h .not-refused) record { no-item = d .no-item; no-sender = d .no-sender; no-lane = d .no-lane },
@@ -383,8 +385,8 @@ retires o (found-nothing k (sender-lives z)) a e l = absurd (omega (arith, sende
 retires o (found-nothing {p} k (lane-left z r)) a e l = empty-ones-retired _ p (k .quiet) (k .only-dropped) (k .ordered o) (no-sender-of p (k .ordered o) z)
 retires o (found-nothing {p} k (none-left z r)) a e l = empty-ones-retired _ p (k .quiet) (k .only-dropped) (k .ordered o) (no-sender-of p (k .ordered o) z)
 
-pub retires-empty-paused : RetiresEmptyPaused
-unfolding RetiresEmptyPaused
+pub retires-empty-paused : RetiresEmptyPaused rulesViewed
+unfolding RetiresEmptyPaused outcome
 retires-empty-paused s r h e l = retires (h .in-order .ordered) (looked s r (h .untargeted)) (h .not-refused) e l
 
 -- a lane that holds an item stays
@@ -403,8 +405,8 @@ keeps-paused o (found-nothing {p} k (none-left z m)) a e l x r h i =
     let j = same-lane (left-quiet _ p (k .quiet) (k .only-dropped) (k .ordered o) (no-sender-of p (k .ordered o) z) .each x) r h i in
     absurd (no (j .still-registered) (no-lane-of _ (retire-empty-paused-ordered (from 0 (p .issued)) p (k .ordered o)) m x))
 
-pub empty-with-paused-items : EmptyWithPausedItems
-unfolding EmptyWithPausedItems
+pub empty-with-paused-items : EmptyWithPausedItems rulesViewed
+unfolding EmptyWithPausedItems outcome
 empty-with-paused-items s r h e l x g p i = keeps-paused (h .in-order .ordered) (looked s r (h .untargeted)) (h .not-refused) e l x g p i
 
 left-paused : (s p : State) → Ordered s → ((y : ℕ) → Signal (s .slotOf y)) → Polled s p → livingSenders p ≡ 0
@@ -439,9 +441,9 @@ paused-left o g (found-nothing k (sender-lives z)) a e l x r = absurd (omega (ar
 paused-left {s} o g (found-nothing {p} k (lane-left z m)) a e l x r = left-paused s p o g k z x r
 paused-left {s} o g (found-nothing {p} k (none-left z m)) a e l x r = left-paused s p o g k z x r
 
-pub only-paused-items-left : OnlyPausedItemsLeft
-unfolding OnlyPausedItemsLeft
-only-paused-items-left o lent a calls s at r h e l x g =
+pub only-paused-items-left : OnlyPausedItemsLeft rulesViewed
+unfolding OnlyPausedItemsLeft outcome
+only-paused-items-left o lent a calls any s at r h e l x g =
     paused-left (h .in-order .ordered) (λ y. rw (← at) (run-signals o lent calls y)) (looked s r (h .untargeted)) (h .not-refused) e l x g
 
 -- targeted
@@ -482,6 +484,6 @@ targeted-only-then s i d =
     dropped-so : (s : State) (x : ℕ) → s .slotOf x .living ≡ false → (takeFrom [] x s) .1 .0 ≡ Disconnected
     dropped-so s x e = ap (λ (b : Bool). if b Empty Disconnected) e
 
-pub targeted-disconnected-exactly : TargetedDisconnectedExactly
-unfolding TargetedDisconnectedExactly receiveOutcome
-targeted-disconnected-exactly s i = (targeted-then s i, targeted-only-then s i)
+pub targeted-disconnected-exactly : TargetedDisconnectedExactly rulesOnAnyState
+unfolding TargetedDisconnectedExactly outcome receiveOutcome
+targeted-disconnected-exactly s any i = (targeted-then s i, targeted-only-then s i)

@@ -26,6 +26,7 @@ use Rattle.model.specs.Receive.{retireEmptyPausedLanes, emptyOrDrained, nothing
 use Rattle.model.specs.Opening.{openedState, openingOutcome}
 use Rattle.model.specs.Rules.{outcome, theRules}
 use Rattle.model.specs.Order.{Ordered, InOrder}
+use Rattle.model.specs.Viewed.{rulesViewed}
 use Rattle.model.specs.Events.{Event, takeFromEvents, receiveEvents, callEvents, eventsFrom, runEvents, countEvents}
 use Rattle.demands.proofs.Counting.{equal, other, same?}
 use Rattle.demands.proofs.Moves.{Moves, stays-put, credits, registers-new, registers-old, sends, posts, drops-it, pauses-it, resumes, resumes-not, closes-it, polls-all, shuts-it, unless-law, sender-move, control-move}
@@ -176,7 +177,7 @@ module _ (k : LaneKey) (T : Tally) where
   call-pass s (Control c) o d = no-event (control-counted k T (control-move s c) d)
   call-pass s (Receive r) o d = receive-pass s r o d
 
-calls-pass : (k : LaneKey) (T : Tally) (s : State) (calls : List Call) → InOrder s → Counted k T s → Pass k (Counted k) T (eventsFrom s calls) (afterList theRules s calls)
+calls-pass : (k : LaneKey) (T : Tally) (s : State) (calls : List Call) → InOrder s → Counted k T s → Pass k (Counted k) T (eventsFrom rulesViewed s calls) (afterList theRules s calls)
 unfolding eventsFrom afterList
 calls-pass k T s [] i d = no-event d
 calls-pass k T s (c ∷ cs) i d = bind (call-pass k T s c (i .ordered) d) (λ U e. calls-pass k U ((outcome s c) .1 .1) cs (call-keeps-order s c i) e)
@@ -190,7 +191,7 @@ unfolding openedState vacant
 opened-counted k o = record { by-budget = refl; fewer = omega arith; turn-most = omega arith; by-burst = λ h. omega arith; known = λ h. absurd (omega arith) }
 
 pub run-pass : (k : LaneKey) (o : Opening) (lent : Lent) → (openingOutcome o lent) .1 .0 ≡ Done → (calls : List Call)
-    → Pass k (Counted k) zeros (runEvents o lent calls) (afterList theRules ((openingOutcome o lent) .1 .1) calls)
+    → Pass k (Counted k) zeros (runEvents rulesViewed o lent calls) (afterList theRules ((openingOutcome o lent) .1 .1) calls)
 unfolding runEvents tally next
 run-pass k o lent a calls =
     let c : Counted k zeros ((openingOutcome o lent) .1 .1) = rw (opens-as o lent) (opened-counted k o) in

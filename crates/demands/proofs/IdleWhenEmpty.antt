@@ -22,6 +22,7 @@ use Rattle.model.specs.Receive.{queueLaneIf, releaseAll, receiveOutcome}
 use Rattle.model.specs.Rules.{outcome, theRules}
 use Rattle.model.specs.Order.{Ordered}
 use Rattle.model.specs.Events.{findsEmpty, countEvents, callEvents}
+use Rattle.model.specs.Viewed.{rulesViewed}
 use Rattle.model.specs.Signals.{IdleOnlyWhenEmpty}
 use Rattle.demands.proofs.Counting.{equal, other, same?, no}
 use Rattle.demands.proofs.OrderKept.{first-own}
@@ -139,7 +140,7 @@ control-pending (shuts-it s) y r p = p
 
 -- ---- every call
 
-pub idle-only-when-empty : IdleOnlyWhenEmpty
+pub idle-only-when-empty : IdleOnlyWhenEmpty rulesViewed
 unfolding IdleOnlyWhenEmpty outcome
 idle-only-when-empty s (Sender c) x i r p z = absurd (no (sender-pending (i .ordered) (sender-move s c) x r p) z)
 idle-only-when-empty s (Control c) x i r p z = absurd (no (control-pending (control-move s c) x r p) z)

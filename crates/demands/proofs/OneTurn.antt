@@ -5,6 +5,7 @@ use Prim.Native.Nat.{_+_}
 use Rattle.model.specs.declared.LaneKey.{LaneKey}
 use Rattle.model.specs.Lists.{if}
 use Rattle.model.specs.Events.{Event, budgetSet, collected, noneMarked, foundEmpty, itemTaken, wentToBack, takesItemOf}
+use Rattle.model.specs.Viewed.{rulesViewed}
 use Rattle.model.specs.OneTurn.{endsTurnOf, AtMost64InOneTurn}
 use Rattle.demands.proofs.Events.{Tally, next}
 use Rattle.demands.proofs.EventsOfRuns.{zeros, run-pass, part-most}
@@ -18,8 +19,8 @@ reads k T (foundEmpty j) = refl
 reads k T (itemTaken j) = refl
 reads k T (wentToBack j) = refl
 
-pub at-most-64-in-one-turn : AtMost64InOneTurn
+pub at-most-64-in-one-turn : AtMost64InOneTurn rulesViewed
 unfolding AtMost64InOneTurn
-at-most-64-in-one-turn o lent a calls before part rest e k z =
+at-most-64-in-one-turn o lent a calls any before part rest e k z =
     part-most k (takesItemOf k) (endsTurnOf k) (λ T. T .inTurn) (reads k) (λ T s. s .turn-small) zeros before part rest
     (rw e at (run-pass k o lent a calls .below)) z

@@ -13,7 +13,6 @@ use Rattle.model.specs.Changes.{withQueue, withBudget, put, settledEmpty}
 use Rattle.model.specs.Ready.{marks, isReady, collectMarks, collectGroup, groupsRound, collectFirst, collectReadyGroup, collectReady}
 use Rattle.model.specs.Turn.{Took, retireLane, retireLaneIf, settleEmpty, refill, beforeNextTurn, runDownFrom, runDown, collectIfDue, collectIfNoneQueued, polled, takeOne, takeFair}
 use Rattle.model.specs.Receive.{andMore, takeUpTo}
-use Rattle.model.specs.Collections.{NothingToCollect}
 use Rattle.model.specs.Order.{Ordered}
 use Rattle.model.specs.PollLoop.{NothingReady, TakesUnlessNothingLeft, PlainUnlessNothingLeft, FairUnlessNothingLeft, BatchUnlessNothingLeft, refreshed, refreshActive, Turns, nothing-queued, has-item, found-empty, PolledAsLoop, FairAsLoop, NothingReadyAtZero}
 use Rattle.demands.proofs.OrderKept.{refill-pos, settle-empty-queue, before-next-turn-queue, collect-if-due-ordered, run-down-from-ordered, run-down-ordered, take-one-ordered}
@@ -54,7 +53,7 @@ batch-unless-nothing-left limit s i = up-to-unless limit s (i .ordered)
 
 -- where nothing is ready, `refresh_active` does what the rules do before the next turn
 refresh-unready : (q : List ℕ) (b : ℕ) (s : State) → s .budget ≡ b → NothingReady s → refreshed q b s ≡ beforeNextTurn q s
-unfolding refreshed beforeNextTurn refill NothingToCollect
+unfolding refreshed beforeNextTurn refill
 refresh-unready [] b s e n = nothing-to-collect s (none-marked s n) .1
 refresh-unready (y ∷ q) zero s e n = ap (withBudget 64) (nothing-to-collect s (none-marked s n) .0) ∙ ap (λ (c : ℕ). withBudget (refill c) s) (sym e)
 refresh-unready (y ∷ q) (suc b) s e n = ap (λ (c : ℕ). withBudget c s) e ∙ ap (λ (c : ℕ). withBudget (refill c) s) (sym e)

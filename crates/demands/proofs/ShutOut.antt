@@ -17,7 +17,7 @@ use Rattle.model.specs.declared.Answer.{Answer}
 use Rattle.model.specs.declared.Answer.the-variants.{Done, Registered, Taken, Item, Items, Empty, Disconnected, Held, Refused}
 use Rattle.model.specs.Lists.{Each}
 use Rattle.model.specs.State.{State, ringOf}
-use Rattle.model.specs.Runs.{Lent, accepted, Tick, handed, ticks, trace, afterList, sameKey, countTicks, ofLane}
+use Rattle.model.specs.Runs.{Lent, allRuns, accepted, Tick, handed, ticks, trace, afterList, sameKey, countTicks, ofLane}
 use Rattle.model.specs.Sender.{senderOutcome}
 use Rattle.model.specs.Receive.{receiveOutcome, outputAfter}
 use Rattle.model.specs.Control.{controlOutcome}
@@ -27,7 +27,7 @@ use Rattle.model.specs.Stretch.{endsWait, endsStretch, stretch, looks, findsNot
 use Rattle.model.specs.Demand2.{Demand2, Demand2In, outOf, into, shuts, values, Tells, HasRoom, HandsAsAnswered}
 use Rattle.model.specs.Demand3.{Demand3, Demand3In}
 use Rattle.model.specs.Held.{HeldAsCounted, HeldAsCountedIn, heldBy, heldByLanes}
-use Rattle.model.specs.Simulation.{Fits, numbersOfOpening, numbersOfCall, OpeningFits, CallFits, Simulation}
+use Rattle.model.specs.Simulation.{Simulation}
 use Rattle.model.specs.Examples.Calls.{compute}
 use Rattle.model.specs.ShutOut.{callBy, outputBy, receiveBeforeLooking, emptyBeforeLooking, receiveOfFront, fairServesFrontOnly, sendRefused, sendFullAlways, sendUnstored, sendStoresNothing, batchBy, firstMoved, batchMovesFirstOnly, othersReported, batchReportsOthers, oneMoreCounted, batchCountsOneMore, receiveLeavesItem, itemForEver, countsNone, heldZero}
 use Rattle.demands.proofs.Simulation.{opened-trace}
@@ -92,7 +92,7 @@ empty-before-looking-shut-out demand =
 pub fair-of-front-shut-out : Demand3 fairServesFrontOnly → ⊥
 unfolding computeWrong Demand3 Demand3In
 fair-of-front-shut-out demand =
-    let twice : 2 ≤ 1 = (demand opening lent refl calls tt (take 5 run) (drop 5 run) refl (lane 1) refl) .fair-once refl (lane 0) in omega (arith, twice)
+    let twice : 2 ≤ 1 = (demand opening lent refl calls tt (take 5 run) (drop 5 run) refl (lane 1) refl) .fair-once refl (lane 0) refl in omega (arith, twice)
   where
     calls : List Call
     calls = registers ∷ registers ∷ sends 0 5 ∷ sends 0 5 ∷ sends 1 6 ∷ fair ∷ fair ∷ []
@@ -105,24 +105,17 @@ acceptedSends : List Tick → ℕ
 acceptedSends ts = length (values (into (lane 0)) ts)
 
 -- "Demand 2 shuts out a send refusing every item as full": such rules do not simulate document 01's, "each call is proved to do what document 01's rules say"
-pub full-always-shut-out : Simulation sendFullAlways theRules → ⊥
-unfolding computeWrong acceptedSends Fits Each numbersOfOpening numbersOfCall
-full-always-shut-out sim = omega (arith, none)
+-- whatever their states are said to stand for, and whichever are said to be in order
+pub full-always-shut-out : (view : State → State) (Ok : State → Type 0)
+    → Simulation record { rules = sendFullAlways; runs = allRuns sendFullAlways; view = view; Ok = Ok } → ⊥
+unfolding computeWrong acceptedSends
+full-always-shut-out view Ok sim = omega (arith, none)
   where
     calls : List Call
     calls = registers ∷ sends 0 5 ∷ []
 
-    fits : OpeningFits opening lent
-    fits = (omega arith, (omega arith, (omega arith, (omega arith, (omega arith, (omega arith, (omega arith, tt)))))))
-
-    each-fits : Each CallFits calls
-    each-fits = ((omega arith, tt), ((omega arith, (omega arith, (omega arith, tt))), tt))
-
-    same-lengths : sim .lent lent ≡ lent
-    same-lengths = sim .lengths-alike lent
-
     same-run : trace sendFullAlways ((sendFullAlways .opens opening lent) .1) calls ≡ trace theRules ((theRules .opens opening lent) .1) calls
-    same-run = opened-trace sendFullAlways theRules sim opening lent fits refl calls each-fits ∙ ap (λ (w : Lent). trace theRules ((theRules .opens opening w) .1) calls) same-lengths
+    same-run = opened-trace _ sim opening lent refl calls tt
 
     none : _≡_ {A = ℕ} 0 1
     none = ap acceptedSends same-run

@@ -1,5 +1,5 @@
--- Demands 2 and 3, what is handed out and written as answered, the held count, and that a closed lane gives nothing more,
--- hold of any words that simulate the rules, in runs whose numbers are u64.
+-- Calls W that simulate the rules have the rules' runs: the same ticks, events and states. So demands 2 and 3, what is handed out and written as answered, the held
+-- count, and that a closed lane gives nothing more, hold of them; what else does is in Carried.antt.
 -- Assumes nothing.
 use mathlib.Core.Path.{_≡_, refl, ap, sym, _∙_, subst}
 use mathlib.Core.List.{List, [], _∷_, _++_}
@@ -15,14 +15,15 @@ use Rattle.model.specs.declared.Answer.{Answer}
 use Rattle.model.specs.declared.Answer.the-variants.{Done}
 use Rattle.model.specs.Lists.{Each}
 use Rattle.model.specs.State.{State, ringOf}
-use Rattle.model.specs.Runs.{Lent, Tick, ends, Rules, handed, ticks, trace, countTicks, afterList}
+use Rattle.model.specs.Runs.{Tick, ends, Rules, handed, ticks, trace, countTicks, afterList}
 use Rattle.model.specs.Rules.{theRules}
-use Rattle.model.specs.Order.{InOrder}
+use Rattle.model.specs.Viewed.{Viewed, rulesViewed}
+use Rattle.model.specs.Events.{Event, budgetSet, callEvents, eventsFrom, runEvents}
 use Rattle.model.specs.Demand2.{Demand2In, Demand2, shuts, values, outOf, into, HandsAsAnswered, HandsAsAnsweredIn}
 use Rattle.model.specs.Demand3.{Demand3In, Demand3}
 use Rattle.model.specs.Closed.{NoneAfterCloseIn, NoneAfterClose}
 use Rattle.model.specs.Held.{HeldAsCountedIn, HeldAsCounted}
-use Rattle.model.specs.Simulation.{numbersOfOpening, numbersOfCall, Fits, OpeningFits, CallFits, runsThatFit, Simulation}
+use Rattle.model.specs.Simulation.{runsThatFit, Simulation, numbersOfCall, Fits, CallFits}
 use Rattle.demands.proofs.Demand2.{demand2}
 use Rattle.demands.proofs.Demand3.{demand3}
 use Rattle.demands.proofs.Closed.{none-after-close}
@@ -36,124 +37,139 @@ pub state-path : (s u : State) → ((y : ℕ) → s .slotOf y ≡ u .slotOf y) �
 state-path s u l q f i b c o k n h g =
     λ t. record { slotOf = λ y. l y t; queue = q t; free = f t; issued = i t; budget = b t; cursor = c t; isOpen = o t; capacity = k t; slots = n t; channel = h t; firstGeneration = g t }
 
--- every element of a list is one of what comes before the end, or is the last
-each-first : {A : Type 0} (P : A → Type 0) (l : List A) (x : A) → Each P (l ++ (x ∷ [])) → Each P l
-unfolding Each
-each-first P [] x h = tt
-each-first P (y ∷ l) x h = (h .0, each-first P l x (h .1))
+module _ (W : Viewed) (sim : Simulation W) where
+  abbrev R : Rules
+  R = W .rules
 
-each-last : {A : Type 0} (P : A → Type 0) (l : List A) (x : A) → Each P (l ++ (x ∷ [])) → P x
-unfolding Each
-each-last P [] x h = h .0
-each-last P (y ∷ l) x h = each-last P l x (h .1)
-
-module _ (R S : Rules) (sim : Simulation R S) where
-  same-ticks : (w : R .State) (c : Call) → CallFits c → sim .Ok w → ticks R w c ≡ ticks S (sim .view w) c
+  same-ticks : (s : R .State) (c : Call) → W .Ok s → ticks R s c ≡ ticks theRules (W .view s) c
   unfolding ticks handed
-  same-ticks w (Sender c) f o = ap (λ (a : Answer). ends (Sender c) a ∷ []) (sim .answers-alike w (Sender c) f o)
-  same-ticks w (Control c) f o = ap (λ (a : Answer). ends (Control c) a ∷ []) (sim .answers-alike w (Control c) f o)
-  same-ticks w (Receive r) f o = rw (sim .hands-alike w r f o, sim .answers-alike w (Receive r) f o)
+  same-ticks s (Sender c) o = ap (λ (a : Answer). ends (Sender c) a ∷ []) (sim .answers-alike s (Sender c) o)
+  same-ticks s (Control c) o = ap (λ (a : Answer). ends (Control c) a ∷ []) (sim .answers-alike s (Control c) o)
+  same-ticks s (Receive r) o = rw (sim .hands-alike s r o, sim .answers-alike s (Receive r) o)
 
-  same-trace : (w : R .State) (cs : List Call) → Each CallFits cs → sim .Ok w → trace R w cs ≡ trace S (sim .view w) cs
-  unfolding trace Each
-  same-trace w [] f o = refl
-  same-trace w (c ∷ cs) f o = rw (same-ticks w c (f .0) o, same-trace ((R .step w c) .1) cs (f .1) (sim .keeps-ok w c (f .0) o), sim .leaves-alike w c (f .0) o)
+  pub same-trace : (s : R .State) (cs : List Call) → W .Ok s → trace R s cs ≡ trace theRules (W .view s) cs
+  unfolding trace
+  same-trace s [] o = refl
+  same-trace s (c ∷ cs) o = rw (same-ticks s c o, same-trace ((R .step s c) .1) cs (sim .keeps-ok s c o), sim .leaves-alike s c o)
 
-  same-after : (w : R .State) (cs : List Call) → Each CallFits cs → sim .Ok w → sim .view (afterList R w cs) ≡ afterList S (sim .view w) cs
-  unfolding afterList Each
-  same-after w [] f o = refl
-  same-after w (c ∷ cs) f o = same-after ((R .step w c) .1) cs (f .1) (sim .keeps-ok w c (f .0) o) ∙ ap (λ (x : S .State). afterList S x cs) (sim .leaves-alike w c (f .0) o)
+  pub same-after : (s : R .State) (cs : List Call) → W .Ok s → W .view (afterList R s cs) ≡ afterList theRules (W .view s) cs
+  unfolding afterList
+  same-after s [] o = refl
+  same-after s (c ∷ cs) o = same-after ((R .step s c) .1) cs (sim .keeps-ok s c o) ∙ ap (λ (x : State). afterList theRules x cs) (sim .leaves-alike s c o)
 
-  ok-after : (w : R .State) (cs : List Call) → Each CallFits cs → sim .Ok w → sim .Ok (afterList R w cs)
-  unfolding afterList Each
-  ok-after w [] f o = o
-  ok-after w (c ∷ cs) f o = ok-after ((R .step w c) .1) cs (f .1) (sim .keeps-ok w c (f .0) o)
+  pub same-events : (s : R .State) (cs : List Call) → W .Ok s → eventsFrom W s cs ≡ eventsFrom rulesViewed (W .view s) cs
+  unfolding eventsFrom
+  same-events s [] o = refl
+  same-events s (c ∷ cs) o =
+      ap (λ (es : List Event). callEvents (W .view s) c ++ es)
+      (same-events ((R .step s c) .1) cs (sim .keeps-ok s c o) ∙ ap (λ (x : State). eventsFrom rulesViewed x cs) (sim .leaves-alike s c o))
 
-  -- a run of code, from an accepted opening whose numbers fit
-  module _ (o : Opening) (w : R .Stores) (fo : OpeningFits o (R .lengths w)) (d : (R .opens o w) .0 ≡ Done) where
-    accepted-too : (S .opens o (sim .lent w)) .0 ≡ Done
-    accepted-too = sym (sim .opens-alike o w fo) ∙ d
+  pub ok-after : (s : R .State) (cs : List Call) → W .Ok s → W .Ok (afterList R s cs)
+  unfolding afterList
+  ok-after s [] o = o
+  ok-after s (c ∷ cs) o = ok-after ((R .step s c) .1) cs (sim .keeps-ok s c o)
 
-    pub opened-trace : (cs : List Call) → Each CallFits cs → trace R ((R .opens o w) .1) cs ≡ trace S ((S .opens o (sim .lent w)) .1) cs
-    opened-trace cs f = same-trace ((R .opens o w) .1) cs f (sim .opens-ok o w fo d) ∙ ap (λ (x : S .State). trace S x cs) (sim .opens-view o w fo d)
+  -- a run that is spoken of, from an accepted opening
+  module _ (o : Opening) (lent : R .Stores) (d : (R .opens o lent) .0 ≡ Done) where
+    pub accepted-too : (theRules .opens o (R .lengths lent)) .0 ≡ Done
+    accepted-too = sym (sim .opens-alike o lent) ∙ d
 
-    opened-after : (cs : List Call) → Each CallFits cs → sim .view (afterList R ((R .opens o w) .1) cs) ≡ afterList S ((S .opens o (sim .lent w)) .1) cs
-    opened-after cs f = same-after ((R .opens o w) .1) cs f (sim .opens-ok o w fo d) ∙ ap (λ (x : S .State). afterList S x cs) (sim .opens-view o w fo d)
+    module _ (calls : List Call) (f : W .runs o lent calls) where
+      opened-ok : W .Ok ((R .opens o lent) .1)
+      opened-ok = sim .opens-ok o lent calls f d
 
-  transfer3 : Demand3 S → Demand3In R (runsThatFit R)
-  unfolding Demand3 Demand3In runsThatFit
-  transfer3 h o w d calls f before rest e = h o (sim .lent w) (accepted-too o w (f .0) d) calls tt before rest (sym (opened-trace o w (f .0) d calls (f .1)) ∙ e)
+      pub opened-trace : trace R ((R .opens o lent) .1) calls ≡ trace theRules ((theRules .opens o (R .lengths lent)) .1) calls
+      opened-trace = same-trace ((R .opens o lent) .1) calls opened-ok ∙ ap (λ (x : State). trace theRules x calls) (sim .opens-view o lent d)
 
-  transfer-closed : NoneAfterClose S → NoneAfterCloseIn R (runsThatFit R)
-  unfolding NoneAfterClose NoneAfterCloseIn runsThatFit
-  transfer-closed h o w d calls f before rest i e = h o (sim .lent w) (accepted-too o w (f .0) d) calls tt before rest i (sym (opened-trace o w (f .0) d calls (f .1)) ∙ e)
+      pub opened-after : W .view (afterList R ((R .opens o lent) .1) calls) ≡ afterList theRules ((theRules .opens o (R .lengths lent)) .1) calls
+      opened-after = same-after ((R .opens o lent) .1) calls opened-ok ∙ ap (λ (x : State). afterList theRules x calls) (sim .opens-view o lent d)
 
-  transfer-held : HeldAsCounted S → HeldAsCountedIn R (runsThatFit R)
-  unfolding HeldAsCounted HeldAsCountedIn runsThatFit
-  transfer-held h o w d calls f before rest a e = h o (sim .lent w) (accepted-too o w (f .0) d) calls tt before rest a (sym (opened-trace o w (f .0) d calls (f .1)) ∙ e)
+      pub opened-events : runEvents W o lent calls ≡ runEvents rulesViewed o (R .lengths lent) calls
+      unfolding runEvents
+      opened-events =
+          ap (λ (es : List Event). budgetSet ∷ es)
+          (same-events ((R .opens o lent) .1) calls opened-ok ∙ ap (λ (x : State). eventsFrom rulesViewed x calls) (sim .opens-view o lent d))
 
-  transfer-hands : HandsAsAnswered S → HandsAsAnsweredIn R (runsThatFit R)
-  unfolding HandsAsAnswered HandsAsAnsweredIn runsThatFit
-  transfer-hands h o w d calls r f s e out room =
-      let fr = each-last CallFits calls (Receive r) (f .1) in
-      let k = subst (sim .Ok) e (ok-after ((R .opens o w) .1) calls (each-first CallFits calls (Receive r) (f .1)) (sim .opens-ok o w (f .0) d)) in
-      rw (sim .answers-alike s (Receive r) fr k, sim .hands-alike s r fr k, sim .output-alike s r out fr room k) (h (sim .view s) r out room)
+      pub stays-ok : W .Ok (afterList R ((R .opens o lent) .1) calls)
+      stays-ok = ok-after ((R .opens o lent) .1) calls opened-ok
 
-  transfer2 : (ring : S .State → LaneKey → List ℕ) → Demand2 S ring → Demand2In R (runsThatFit R) (λ x. ring (sim .view x))
-  unfolding Demand2 Demand2In runsThatFit
-  transfer2 ring h o w d calls f k z =
-      let t = opened-trace o w (f .0) d calls (f .1) in
-      let end = opened-after o w (f .0) d calls (f .1) in
-      let g = h o (sim .lent w) (accepted-too o w (f .0) d) calls tt k (ap (countTicks (shuts k)) (sym t) ∙ z) in
-      ap (λ (l : List Tick). values (outOf k) l ++ ring (sim .view (afterList R ((R .opens o w) .1) calls)) k) t ∙ ap (λ (x : S .State). values (outOf k) (trace S ((S .opens o (sim .lent w)) .1) calls) ++ ring x k) end ∙ g ∙ ap (values (into k)) (sym t)
+  transfer3 : Demand3 theRules → Demand3In R (W .runs)
+  unfolding Demand3 Demand3In
+  transfer3 h o lent d calls f before rest e = h o (R .lengths lent) (accepted-too o lent d) calls tt before rest (sym (opened-trace o lent d calls f) ∙ e)
 
-pub words-none-after-close : (R : Rules) → Simulation R theRules → NoneAfterCloseIn R (runsThatFit R)
-words-none-after-close R sim = transfer-closed R theRules sim none-after-close
+  transfer-closed : NoneAfterClose theRules → NoneAfterCloseIn R (W .runs)
+  unfolding NoneAfterClose NoneAfterCloseIn
+  transfer-closed h o lent d calls f before rest i e = h o (R .lengths lent) (accepted-too o lent d) calls tt before rest i (sym (opened-trace o lent d calls f) ∙ e)
 
-pub words-held-as-counted : (R : Rules) → Simulation R theRules → HeldAsCountedIn R (runsThatFit R)
-words-held-as-counted R sim = transfer-held R theRules sim held-as-counted
+  transfer-held : HeldAsCounted theRules → HeldAsCountedIn R (W .runs)
+  unfolding HeldAsCounted HeldAsCountedIn
+  transfer-held h o lent d calls f before rest a e = h o (R .lengths lent) (accepted-too o lent d) calls tt before rest a (sym (opened-trace o lent d calls f) ∙ e)
 
-pub words-hands-as-answered : (R : Rules) → Simulation R theRules → HandsAsAnsweredIn R (runsThatFit R)
-words-hands-as-answered R sim = transfer-hands R theRules sim hands-as-answered
+  transfer-hands : HandsAsAnswered theRules → HandsAsAnsweredIn R (W .runs)
+  unfolding HandsAsAnswered HandsAsAnsweredIn
+  transfer-hands h o lent d calls r f s e out room =
+      let k = subst (W .Ok) e (ok-after ((R .opens o lent) .1) calls (sim .opens-ok o lent (calls ++ (Receive r ∷ [])) f d)) in
+      rw (sim .answers-alike s (Receive r) k, sim .hands-alike s r k, sim .output-alike s r out room k) (h (W .view s) r out room)
 
-pub words-demand3 : (R : Rules) → Simulation R theRules → Demand3In R (runsThatFit R)
-words-demand3 R sim = transfer3 R theRules sim demand3
+  transfer2 : (ring : State → LaneKey → List ℕ) → Demand2 theRules ring → Demand2In R (W .runs) (λ s. ring (W .view s))
+  unfolding Demand2 Demand2In
+  transfer2 ring h o lent d calls f k z =
+      let t = opened-trace o lent d calls f in
+      let end = opened-after o lent d calls f in
+      let g = h o (R .lengths lent) (accepted-too o lent d) calls tt k (ap (countTicks (shuts k)) (sym t) ∙ z) in
+      ap (λ (l : List Tick). values (outOf k) l ++ ring (W .view (afterList R ((R .opens o lent) .1) calls)) k) t ∙ ap (λ (x : State). values (outOf k) (trace theRules ((theRules .opens o (R .lengths lent)) .1) calls) ++ ring x k) end ∙ g ∙ ap (values (into k)) (sym t)
 
-pub words-demand2 : (R : Rules) (sim : Simulation R theRules) → Demand2In R (runsThatFit R) (λ w. ringOf (sim .view w))
-words-demand2 R sim = transfer2 R theRules sim ringOf demand2
+pub words-none-after-close : (W : Viewed) → Simulation W → NoneAfterCloseIn (W .rules) (W .runs)
+words-none-after-close W sim = transfer-closed W sim none-after-close
 
--- A simulation, so that none of its fields stand in each other's way: the rules beside the lengths of what was lent.
-rulesAndLengths : Rules
-rulesAndLengths = record {
-  State = State × Lent;
-  Stores = Lent;
-  lengths = λ w. w;
-  opens = λ o w. let r = theRules .opens o w in (r .0, (r .1, w));
-  step = λ s c. let r = theRules .step (s .0) c in (r .0, (r .1, s .1));
-  hands = λ s r. theRules .hands (s .0) r;
-  output = λ s r out. theRules .output (s .0) r out;
+pub words-held-as-counted : (W : Viewed) → Simulation W → HeldAsCountedIn (W .rules) (W .runs)
+words-held-as-counted W sim = transfer-held W sim held-as-counted
+
+pub words-hands-as-answered : (W : Viewed) → Simulation W → HandsAsAnsweredIn (W .rules) (W .runs)
+words-hands-as-answered W sim = transfer-hands W sim hands-as-answered
+
+pub words-demand3 : (W : Viewed) → Simulation W → Demand3In (W .rules) (W .runs)
+words-demand3 W sim = transfer3 W sim demand3
+
+pub words-demand2 : (W : Viewed) → Simulation W → Demand2In (W .rules) (W .runs) (λ s. ringOf (W .view s))
+words-demand2 W sim = transfer2 W sim ringOf demand2
+
+-- The rules simulate themselves: none of the fields stands in another's way.
+rules-simulate : Simulation rulesViewed
+rules-simulate = record {
+  opens-alike = λ o lent. refl;
+  opens-view = λ o lent d. refl;
+  opens-ok = λ o lent calls f d. opening-in-order o lent d;
+  shows-in-order = λ s k. k;
+  answers-alike = λ s c k. refl;
+  leaves-alike = λ s c k. refl;
+  hands-alike = λ s r k. refl;
+  output-alike = λ s r out room k. refl;
+  keeps-ok = λ s c k. call-keeps-order s c k;
 }
 
-a-simulation : Simulation rulesAndLengths theRules
-unfolding rulesAndLengths
-a-simulation = record {
-  view = λ s. s .0;
-  Ok = λ s. InOrder (s .0);
-  lent = λ w. w;
-  lengths-alike = λ w. refl;
-  stores = λ s. s .1;
-  opens-alike = λ o w f. refl;
-  opens-view = λ o w f d. refl;
-  opens-ok = λ o w f d. opening-in-order o w d;
-  opens-refused = λ o w n f d. refl;
-  answers-alike = λ s c f k. refl;
-  leaves-alike = λ s c f k. refl;
-  hands-alike = λ s r f k. refl;
-  output-alike = λ s r out f room k. refl;
-  keeps-ok = λ s c f k. call-keeps-order (s .0) c k;
-}
+-- ---- which numbers fit
 
--- Numbers to 2^64 - 1 fit, and 2^64 does not; the run of "Input 0 (4, 2, 7, 0, 0); 1 (2); 2 (0, 0, 11); 5; 5; 4 (0, 0); 5" is one whose numbers fit.
+openingAt : ℕ → Opening
+openingAt cursor = record { capacity = 4; slots = 2; channel = 7; cursor = cursor; generation = 0 }
+
+replayed : List Call
+replayed = Sender (RegisterSender 2) ∷ Sender (TrySend record { slot = 0; generation = 0 } 11) ∷ Receive TryRecv ∷ Receive TryRecv ∷ Sender (DropSender record { slot = 0; generation = 0 }) ∷ Receive TryRecv ∷ []
+
+-- The run of "Input 0 (4, 2, 7, 0, 0); 1 (2); 2 (0, 0, 11); 5; 5; 4 (0, 0); 5" fits, and with the last first cursor, 2^64 - 1, too; with 2^64 it does not.
+replayed-run-fits : runsThatFit theRules (openingAt 0) record { rings = 2048; table = 4096 } replayed
+unfolding runsThatFit openingAt
+replayed-run-fits = omega arith
+
+last-cursor-fits : runsThatFit theRules (openingAt 18446744073709551615) record { rings = 2048; table = 4096 } replayed
+unfolding runsThatFit openingAt
+last-cursor-fits = omega arith
+
+past-last-cursor-not : runsThatFit theRules (openingAt 18446744073709551616) record { rings = 2048; table = 4096 } replayed → ⊥
+unfolding runsThatFit openingAt
+past-last-cursor-not h = omega (arith, h)
+
+-- numbers of a call to 2^64 - 1 fit, and 2^64 does not
 top-fits : CallFits (Sender (RegisterSender 18446744073709551615))
 unfolding Fits Each numbersOfCall
 top-fits = (omega arith, tt)
@@ -161,12 +177,3 @@ top-fits = (omega arith, tt)
 past-top-not : CallFits (Sender (RegisterSender 18446744073709551616)) → ⊥
 unfolding Fits Each numbersOfCall
 past-top-not h = omega (arith, h .0)
-
-replayed-run-fits :
-    runsThatFit theRules record { capacity = 4; slots = 2; channel = 7; cursor = 0; generation = 0 } record { rings = 2048; table = 4096 }
-    (Sender (RegisterSender 2) ∷ Sender (TrySend record { slot = 0; generation = 0 } 11) ∷ Receive TryRecv ∷ Receive TryRecv ∷ Sender (DropSender record { slot = 0; generation = 0 }) ∷ Receive TryRecv ∷ [])
-unfolding runsThatFit Fits Each numbersOfOpening numbersOfCall
-replayed-run-fits = (
-  (omega arith, (omega arith, (omega arith, (omega arith, (omega arith, (omega arith, (omega arith, tt))))))),
-  ((omega arith, tt), ((omega arith, (omega arith, (omega arith, tt))), (tt, (tt, ((omega arith, (omega arith, tt)), (tt, tt)))))),
-)

@@ -12,11 +12,7 @@ use Rattle.model.specs.declared.Call.{Call}
 use Rattle.model.specs.declared.Call.the-variants.{Receive}
 use Rattle.model.specs.declared.Answer.the-variants.{Done}
 use Rattle.model.specs.Lists.{if}
-use Rattle.model.specs.State.{State}
-use Rattle.model.specs.Runs.{Lent, afterList}
-use Rattle.model.specs.Opening.{openingOutcome}
-use Rattle.model.specs.Receive.{receiveOutcome}
-use Rattle.model.specs.Rules.{theRules}
+use Rattle.model.specs.Viewed.{Viewed, openingAnswer, stateAfterRun, itemsOf}
 use Rattle.model.specs.Events.{Event, budgetSet, collected, noneMarked, foundEmpty, itemTaken, wentToBack, callEvents, runEvents, takesItem, countEvents, lanesOfItems}
 
 -- Items counted on from n: each adds one, a setting of the budget starts again at 0.
@@ -35,12 +31,12 @@ itemsSinceSet es = itemsCountedFrom 0 es
 
 -- "the poll budget is a number in the next state, equal to 64 less the definition's items since its last setting"
 -- The number that is subtracted is at most 64.
-unfoldable pub BudgetCountsItems : Type 0
-BudgetCountsItems =
-    (o : Opening) (lent : Lent) → (openingOutcome o lent) .1 .0 ≡ Done
-    → (calls : List Call)
-    → ((afterList theRules ((openingOutcome o lent) .1 .1) calls) .budget ≡ 64 - itemsSinceSet (runEvents o lent calls))
-    × (itemsSinceSet (runEvents o lent calls) ≤ 64)
+unfoldable pub BudgetCountsItems : Viewed → Type 0
+BudgetCountsItems W =
+    (o : Opening) (lent : W .rules .Stores) → openingAnswer W o lent ≡ Done
+    → (calls : List Call) → W .runs o lent calls
+    → (W .view (stateAfterRun W o lent calls) .budget ≡ 64 - itemsSinceSet (runEvents W o lent calls))
+    × (itemsSinceSet (runEvents W o lent calls) ≤ 64)
 
 unfoldable pub isTargeted : ReceiveCall → Bool
 isTargeted (TryRecvFrom i) = true
@@ -50,12 +46,8 @@ isTargeted (TryRecvBatchInto limit room) = false
 
 -- The items of a call's events are the items that it hands out, lane by lane and in order, and so are as many.
 -- "Targeted: counts in neither burst nor budget": its events have no item.
-unfoldable pub ItemsAsHanded : Type 0
-ItemsAsHanded =
-    (s : State) (r : ReceiveCall)
-    → lanesOfItems (callEvents s (Receive r)) ≡ if (isTargeted r) [] (map (λ g. g .0) ((receiveOutcome s r) .0))
-
-unfoldable pub AsManyAsHanded : Type 0
-AsManyAsHanded =
-    (s : State) (r : ReceiveCall)
-    → countEvents takesItem (callEvents s (Receive r)) ≡ if (isTargeted r) 0 (length ((receiveOutcome s r) .0))
+pub record EventsTell (W : Viewed) : Type 0 where
+  pub lanes-handed : (s : W .rules .State) → W .Ok s → (r : ReceiveCall)
+      → lanesOfItems (callEvents (W .view s) (Receive r)) ≡ if (isTargeted r) [] (map (λ g. g .0) (itemsOf W s r))
+  pub as-many : (s : W .rules .State) → W .Ok s → (r : ReceiveCall)
+      → countEvents takesItem (callEvents (W .view s) (Receive r)) ≡ if (isTargeted r) 0 (length (itemsOf W s r))

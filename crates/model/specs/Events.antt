@@ -16,9 +16,9 @@ use Rattle.model.specs.State.{State, keyOf}
 use Rattle.model.specs.Changes.{withBudget}
 use Rattle.model.specs.Ready.{collectReady}
 use Rattle.model.specs.Turn.{settleEmpty, beforeNextTurn, runDown, collectIfDue, polled, takeOne}
-use Rattle.model.specs.Opening.{openingOutcome}
-use Rattle.model.specs.Runs.{Lent, accepted, sameKey}
+use Rattle.model.specs.Runs.{accepted, sameKey}
 use Rattle.model.specs.Rules.{outcome}
+use Rattle.model.specs.Viewed.{Viewed}
 
 pub data Event : Type 0 where
   -- the poll budget is set to 64
@@ -131,14 +131,15 @@ callEvents s (Receive r) = if (accepted ((outcome s (Receive r)) .1 .0)) (receiv
 callEvents s (Sender c) = []
 callEvents s (Control c) = []
 
--- The events of a list of calls, each on the state that the last one left.
-unfoldable pub eventsFrom : State → List Call → List Event
-eventsFrom s [] = []
-eventsFrom s (c ∷ cs) = callEvents s c ++ eventsFrom ((outcome s c) .1 .1) cs
+-- The events of a list of calls W, each on the state that the last one left: of each call those that the rules write down for it, in the rules' state that
+-- its state stands for.
+unfoldable pub eventsFrom : (W : Viewed) → W .rules .State → List Call → List Event
+eventsFrom W s [] = []
+eventsFrom W s (c ∷ cs) = callEvents (W .view s) c ++ eventsFrom W ((W .rules .step s c) .1) cs
 
 -- The events of a run from its opening, which sets the budget: "No sender yet; poll budget 64; group cursor 0."
-unfoldable pub runEvents : Opening → Lent → List Call → List Event
-runEvents o lent calls = budgetSet ∷ eventsFrom ((openingOutcome o lent) .1 .1) calls
+unfoldable pub runEvents : (W : Viewed) → Opening → W .rules .Stores → List Call → List Event
+runEvents W o lent calls = budgetSet ∷ eventsFrom W ((W .rules .opens o lent) .1) calls
 
 -- What an event is.
 unfoldable pub collects : Event → Bool

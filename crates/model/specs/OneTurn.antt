@@ -8,8 +8,8 @@ use Rattle.model.specs.declared.LaneKey.{LaneKey}
 use Rattle.model.specs.declared.Opening.{Opening}
 use Rattle.model.specs.declared.Call.{Call}
 use Rattle.model.specs.declared.Answer.the-variants.{Done}
-use Rattle.model.specs.Runs.{Lent, sameKey}
-use Rattle.model.specs.Opening.{openingOutcome}
+use Rattle.model.specs.Runs.{sameKey}
+use Rattle.model.specs.Viewed.{Viewed, openingAnswer}
 use Rattle.model.specs.Events.{Event, budgetSet, collected, noneMarked, foundEmpty, itemTaken, wentToBack, runEvents, takesItemOf, countEvents}
 
 -- The turn of lane k ends: it goes to the back, or it is found empty, by a targeted receive too.
@@ -24,8 +24,9 @@ endsTurnOf k (wentToBack j) = sameKey j k
 
 -- "Targeted receives aside, no lane gives more than 64 items in one turn at the front"
 -- `part` is any part of a run's events in which no turn of lane k ends.
-unfoldable pub AtMost64InOneTurn : Type 0
-AtMost64InOneTurn =
-    (o : Opening) (lent : Lent) → (openingOutcome o lent) .1 .0 ≡ Done
-    → (calls : List Call) (before part rest : List Event) → runEvents o lent calls ≡ before ++ (part ++ rest)
+unfoldable pub AtMost64InOneTurn : Viewed → Type 0
+AtMost64InOneTurn W =
+    (o : Opening) (lent : W .rules .Stores) → openingAnswer W o lent ≡ Done
+    → (calls : List Call) → W .runs o lent calls
+    → (before part rest : List Event) → runEvents W o lent calls ≡ before ++ (part ++ rest)
     → (k : LaneKey) → countEvents (endsTurnOf k) part ≡ 0 → countEvents (takesItemOf k) part ≤ 64

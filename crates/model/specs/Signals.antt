@@ -11,25 +11,10 @@ use Rattle.model.specs.declared.Call.{Call}
 use Rattle.model.specs.declared.Call.the-variants.{Sender, Receive, Control}
 use Rattle.model.specs.declared.Refusal.the-variants.{OlderSenderLives}
 use Rattle.model.specs.declared.Answer.the-variants.{Refused}
-use Rattle.model.specs.State.{State, registeredLanes, keyOf}
-use Rattle.model.specs.Outcome.{says}
+use Rattle.model.specs.State.{registeredLanes, keyOf}
 use Rattle.model.specs.Runs.{sameKey}
-use Rattle.model.specs.Rules.{outcome}
-use Rattle.model.specs.Order.{InOrder}
+use Rattle.model.specs.Viewed.{Viewed, answerOf, viewAfter}
 use Rattle.model.specs.Events.{findsEmpty, countEvents, callEvents}
-
--- Slot x's lane, as it was in state s, was found empty by call c.
-pub record FoundEmptyBy (s : State) (c : Call) (x : ℕ) : Type 0 where
-  -- among the events of the call, which only receives have, is one that finds this lane empty: taking its last item is none
-  pub found : 1 ≤ countEvents (findsEmpty (keyOf s x)) (callEvents s c)
-  -- and it is empty when the call ends
-  pub no-items : (outcome s c) .1 .1 .slotOf x .ring ≡ []
-
--- "its signal goes back to idle only when the lane is found empty": of a registered lane that is pending before a call and idle after it
-unfoldable pub IdleOnlyWhenEmpty : Type 0
-IdleOnlyWhenEmpty =
-    (s : State) (c : Call) (x : ℕ) → InOrder s → s .slotOf x .registered ≡ true → s .slotOf x .pending ≡ true
-    → (outcome s c) .1 .1 .slotOf x .pending ≡ false → FoundEmptyBy s c x
 
 -- Whether a call is a drop of the sender with key k.
 unfoldable pub dropsSender : LaneKey → Call → Bool
@@ -40,23 +25,41 @@ dropsSender k (Sender (TrySendUnsignaled j v)) = false
 dropsSender k (Receive r) = false
 dropsSender k (Control c) = false
 
--- Slot x, whose lane is closed and whose sender lives, after call c.
-pub record ClosedAfter (s : State) (c : Call) (x : ℕ) : Type 0 where
-  -- "a closed lane's signal is kept while its sender lives"
-  pub signal-kept : dropsSender (keyOf s x) c ≡ false → (outcome s c) .1 .1 .slotOf x .pending ≡ s .slotOf x .pending
-  -- until that sender is dropped: "Dropping a sender marks its lane"
-  pub drop-marks : dropsSender (keyOf s x) c ≡ true → (outcome s c) .1 .1 .slotOf x .pending ≡ true
-  -- Meanwhile no lane is registered in the slot, and its sender lives.
-  pub stays-closed : dropsSender (keyOf s x) c ≡ false → (outcome s c) .1 .1 .slotOf x .registered ≡ false
-  pub still-lives : dropsSender (keyOf s x) c ≡ false → (outcome s c) .1 .1 .slotOf x .living ≡ true
-  pub same-key : keyOf ((outcome s c) .1 .1) x ≡ keyOf s x
+-- Of any calls W: what is set in below takes W first, as in `IdleOnlyWhenEmpty rulesViewed`.
+module _ (W : Viewed) where
+  -- Slot x's lane, as it was in state s, was found empty by call c.
+  pub record FoundEmptyBy (s : W .rules .State) (c : Call) (x : ℕ) : Type 0 where
+    -- among the events of the call, which only receives have, is one that finds this lane empty: taking its last item is none
+    pub found : 1 ≤ countEvents (findsEmpty (keyOf (W .view s) x)) (callEvents (W .view s) c)
+    -- and it is empty when the call ends
+    pub no-items : viewAfter W s c .slotOf x .ring ≡ []
 
--- Of every call. That the lane is closed shows in that none is registered in the slot, though the sender lives.
-unfoldable pub ClosedSignalKept : Type 0
-ClosedSignalKept = (s : State) (c : Call) (x : ℕ) → InOrder s → s .slotOf x .registered ≡ false → s .slotOf x .living ≡ true → ClosedAfter s c x
+  -- "its signal goes back to idle only when the lane is found empty": of a registered lane that is pending before a call and idle after it
+  unfoldable pub IdleOnlyWhenEmpty : Type 0
+  IdleOnlyWhenEmpty =
+      (s : W .rules .State) (c : Call) (x : ℕ) → W .Ok s → W .view s .slotOf x .registered ≡ true → W .view s .slotOf x .pending ≡ true
+      → viewAfter W s c .slotOf x .pending ≡ false → FoundEmptyBy s c x
 
--- "the slot due still has a living older sender": a registration that refusals 6 and 7 let pass is then refused with 9.
-unfoldable pub OlderSenderRefused : Type 0
-OlderSenderRefused =
-    (s : State) (x : ℕ) (f : List ℕ) (most : ℕ) → s .free ≡ x ∷ f → s .slotOf x .living ≡ true → s .isOpen ≡ true → registeredLanes s < most
-    → outcome s (Sender (RegisterSender most)) ≡ says (Refused OlderSenderLives) s
+  -- Slot x, whose lane is closed and whose sender lives, after call c.
+  pub record ClosedAfter (s : W .rules .State) (c : Call) (x : ℕ) : Type 0 where
+    -- "a closed lane's signal is kept while its sender lives"
+    pub signal-kept : dropsSender (keyOf (W .view s) x) c ≡ false → viewAfter W s c .slotOf x .pending ≡ W .view s .slotOf x .pending
+    -- until that sender is dropped: "Dropping a sender marks its lane"
+    pub drop-marks : dropsSender (keyOf (W .view s) x) c ≡ true → viewAfter W s c .slotOf x .pending ≡ true
+    -- Meanwhile no lane is registered in the slot, and its sender lives.
+    pub stays-closed : dropsSender (keyOf (W .view s) x) c ≡ false → viewAfter W s c .slotOf x .registered ≡ false
+    pub still-lives : dropsSender (keyOf (W .view s) x) c ≡ false → viewAfter W s c .slotOf x .living ≡ true
+    pub same-key : keyOf (viewAfter W s c) x ≡ keyOf (W .view s) x
+
+  -- Of every call. That the lane is closed shows in that none is registered in the slot, though the sender lives.
+  unfoldable pub ClosedSignalKept : Type 0
+  ClosedSignalKept =
+      (s : W .rules .State) (c : Call) (x : ℕ) → W .Ok s → W .view s .slotOf x .registered ≡ false → W .view s .slotOf x .living ≡ true
+      → ClosedAfter s c x
+
+  -- "the slot due still has a living older sender": a registration that refusals 6 and 7 let pass is then refused with 9, and changes nothing.
+  unfoldable pub OlderSenderRefused : Type 0
+  OlderSenderRefused =
+      (s : W .rules .State) → W .Ok s → let t = W .view s in
+      (x : ℕ) (f : List ℕ) (most : ℕ) → t .free ≡ x ∷ f → t .slotOf x .living ≡ true → t .isOpen ≡ true → registeredLanes t < most
+      → let c = Sender (RegisterSender most) in (answerOf W s c ≡ Refused OlderSenderLives) × (viewAfter W s c ≡ t)

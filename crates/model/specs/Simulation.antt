@@ -1,4 +1,4 @@
--- What code on words has to show so that the demands hold of it too: a simulation.
+-- What calls on words have to show so that what is proved of the rules holds of them too: a simulation. And which numbers code takes.
 -- Assumes nothing.
 use mathlib.Core.Path.{_≡_}
 use mathlib.Core.List.{List, [], _∷_}
@@ -11,16 +11,38 @@ use Rattle.model.specs.declared.ReceiveCall.the-variants.{TryRecv, TryRe
 use Rattle.model.specs.declared.ControlCall.the-variants.{Pause, Resume, CloseLane, ReleaseConsumed, PollAllLanes, CloseReceiver, CountHeld}
 use Rattle.model.specs.declared.Call.{Call}
 use Rattle.model.specs.declared.Call.the-variants.{Sender, Receive, Control}
-use Rattle.model.specs.declared.Refusal.{Refusal}
-use Rattle.model.specs.declared.Answer.the-variants.{Done, Refused}
+use Rattle.model.specs.declared.Answer.the-variants.{Done}
 use Rattle.model.specs.Lists.{Each}
-use Rattle.model.specs.Runs.{Lent, Rules, RunsOf}
+use Rattle.model.specs.Order.{InOrder}
+use Rattle.model.specs.Runs.{Rules, RunsOf}
+use Rattle.model.specs.Rules.{theRules}
 use Rattle.model.specs.Demand2.{HasRoom}
+use Rattle.model.specs.Viewed.{Viewed, openingAnswer, itemsOf, answerOf, viewAfter}
 
--- The numbers that an opening and a call are given. Code has them as u64; the rules take any.
-unfoldable pub numbersOfOpening : Opening → Lent → List ℕ
-numbersOfOpening o lent = o .capacity ∷ o .slots ∷ o .channel ∷ o .cursor ∷ o .generation ∷ lent .rings ∷ lent .table ∷ []
+-- The runs of code. Of all numbers of a run one has to fit: the first cursor, "any u64", as cursors wrap. Code has it as a u64, and every other number
+-- too, so that no run of code is left out; of the other numbers nothing is asked.
+unfoldable pub runsThatFit : (R : Rules) → RunsOf R
+runsThatFit R o lent calls = o .cursor < 2 ^ 64
 
+-- The calls W do what document 01's rules do: their openings do, and on a state in order each call does.
+-- What the rules are lent has the lengths of what W's opening is lent.
+pub record Simulation (W : Viewed) : Type 0 where
+  pub opens-alike : (o : Opening) (lent : W .rules .Stores) → openingAnswer W o lent ≡ (theRules .opens o (W .rules .lengths lent)) .0
+  pub opens-view : (o : Opening) (lent : W .rules .Stores) → openingAnswer W o lent ≡ Done
+      → W .view ((W .rules .opens o lent) .1) ≡ (theRules .opens o (W .rules .lengths lent)) .1
+  -- "An accepted opening leaves a store in order, whatever the lent words held."
+  pub opens-ok : (o : Opening) (lent : W .rules .Stores) (calls : List Call) → W .runs o lent calls → openingAnswer W o lent ≡ Done → W .Ok ((W .rules .opens o lent) .1)
+  pub shows-in-order : (s : W .rules .State) → W .Ok s → InOrder (W .view s)
+  pub answers-alike : (s : W .rules .State) (c : Call) → W .Ok s → answerOf W s c ≡ (theRules .step (W .view s) c) .0
+  pub leaves-alike : (s : W .rules .State) (c : Call) → W .Ok s → viewAfter W s c ≡ (theRules .step (W .view s) c) .1
+  pub hands-alike : (s : W .rules .State) (r : ReceiveCall) → W .Ok s → itemsOf W s r ≡ theRules .hands (W .view s) r
+  -- the words that a call leaves in its output are those that the rules write
+  pub output-alike : (s : W .rules .State) (r : ReceiveCall) (out : List ℕ) → HasRoom r out → W .Ok s → W .rules .output s r out ≡ theRules .output (W .view s) r out
+  pub keeps-ok : (s : W .rules .State) (c : Call) → W .Ok s → W .Ok ((W .rules .step s c) .1)
+
+-- ---- numbers that code takes, as a record of the replay program has them
+
+-- The numbers that a call is given.
 unfoldable pub numbersOfId : LaneId → List ℕ
 numbersOfId i = i .channel ∷ i .key .slot ∷ i .key .generation ∷ []
 
@@ -45,35 +67,5 @@ numbersOfCall (Control CountHeld) = []
 unfoldable pub Fits : List ℕ → Type 0
 Fits numbers = Each (λ n. n < 2 ^ 64) numbers
 
-abbrev pub OpeningFits : Opening → Lent → Type 0
-OpeningFits o lent = Fits (numbersOfOpening o lent)
-
 abbrev pub CallFits : Call → Type 0
 CallFits c = Fits (numbersOfCall c)
-
--- The runs of code: those whose numbers are u64.
-unfoldable pub runsThatFit : (R : Rules) → RunsOf R
-runsThatFit R o lent calls = OpeningFits o (R .lengths lent) × Each CallFits calls
-
--- R: words, and what the contracts say of each call. S: the rules. `view` reads the rules' state off the words, `Ok` is 'in order'.
--- Numbers fit throughout: no code on u64 could meet an opening or a call whose numbers do not.
-pub record Simulation (R S : Rules) : Type 1 where
-  pub view : R .State → S .State
-  pub Ok : R .State → Type 0
-  -- what the rules' opening is lent, of the same lengths
-  pub lent : R .Stores → S .Stores
-  pub lengths-alike : (w : R .Stores) → S .lengths (lent w) ≡ R .lengths w
-  -- the two stores in a state, word by word
-  pub stores : R .State → R .Stores
-  pub opens-alike : (o : Opening) (w : R .Stores) → OpeningFits o (R .lengths w) → (R .opens o w) .0 ≡ (S .opens o (lent w)) .0
-  pub opens-view : (o : Opening) (w : R .Stores) → OpeningFits o (R .lengths w) → (R .opens o w) .0 ≡ Done → view ((R .opens o w) .1) ≡ (S .opens o (lent w)) .1
-  -- "An accepted opening leaves a store in order, whatever the lent words held."
-  pub opens-ok : (o : Opening) (w : R .Stores) → OpeningFits o (R .lengths w) → (R .opens o w) .0 ≡ Done → Ok ((R .opens o w) .1)
-  -- of an opening too: "a refusal leaves state, both stores and the output unchanged"
-  pub opens-refused : (o : Opening) (w : R .Stores) (n : Refusal) → OpeningFits o (R .lengths w) → (R .opens o w) .0 ≡ Refused n → stores ((R .opens o w) .1) ≡ w
-  pub answers-alike : (w : R .State) (c : Call) → CallFits c → Ok w → (R .step w c) .0 ≡ (S .step (view w) c) .0
-  pub leaves-alike : (w : R .State) (c : Call) → CallFits c → Ok w → view ((R .step w c) .1) ≡ (S .step (view w) c) .1
-  pub hands-alike : (w : R .State) (r : ReceiveCall) → CallFits (Receive r) → Ok w → R .hands w r ≡ S .hands (view w) r
-  -- the words that a call leaves in its output are those that the rules write
-  pub output-alike : (w : R .State) (r : ReceiveCall) (out : List ℕ) → CallFits (Receive r) → HasRoom r out → Ok w → R .output w r out ≡ S .output (view w) r out
-  pub keeps-ok : (w : R .State) (c : Call) → CallFits c → Ok w → Ok ((R .step w c) .1)

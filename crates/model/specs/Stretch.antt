@@ -1,6 +1,6 @@
 -- Demand 3's stretch, and what is counted in it.
 -- Assumes nothing.
-use mathlib.Core.Bool.{Bool, true, false}
+use mathlib.Core.Bool.{Bool, true, false, not}
 use mathlib.Core.List.{List, [], _∷_}
 use Prim.Native.Nat.{ℕ, zero, suc, max}
 use Rattle.model.specs.declared.LaneKey.{LaneKey}
@@ -71,6 +71,15 @@ untargeted (gives TryRecvFair j v) = true
 untargeted (gives (TryRecvBatchInto n room) j v) = true
 untargeted (gives (TryRecvFrom i) j v) = false
 untargeted (ends c a) = false
+
+-- An item of a lane that is not lane k.
+unfoldable pub ofOtherLane : LaneKey → Tick → Bool
+ofOtherLane k (gives r j v) = not (sameKey j k)
+ofOtherLane k (ends c a) = false
+
+-- "items of other lanes" that "untargeted receives hand out"
+unfoldable pub untargetedOfOther : LaneKey → Tick → Bool
+untargetedOfOther k t = both (untargeted t) (ofOtherLane k t)
 
 -- A receive that is not fair.
 unfoldable pub otherReceive : ReceiveCall → Bool

@@ -19,7 +19,7 @@ use Rattle.model.specs.Runs.{Lent, sameKey, accepted, Tick, gives, hande
 use Rattle.model.specs.Opening.{openingOutcome}
 use Rattle.model.specs.Rules.{theRules}
 use Rattle.model.specs.Ledger.{Ledger, atOpening, changeLane, addItem, removeOldest, setPaused, setClosed, setDropped, addRegistered, applyCall, note, ledgerAfter, waits, waitsIn, anyOrdinary, isLive, liveLanes}
-use Rattle.model.specs.Stretch.{endsWait, endsStretch, stretch, looks, findsNothing, looksInVain, untargeted, otherReceive, notFair, afterCalls, mostLive, groupsAt}
+use Rattle.model.specs.Stretch.{endsWait, endsStretch, stretch, looks, findsNothing, looksInVain, untargeted, ofOtherLane, untargetedOfOther, otherReceive, notFair, afterCalls, mostLive, groupsAt}
 use Rattle.model.specs.Demand3.{bound, Promise}
 use Rattle.model.specs.Examples.Calls.{compute}
 
@@ -33,7 +33,7 @@ accepted-opening : (openingOutcome opening lent) .1 .0 ≡ Done
 unfolding compute opening lent
 accepted-opening = refl
 
-lane : ℕ → LaneKey
+pub lane : ℕ → LaneKey
 lane x = record { slot = x; generation = 0 }
 
 laneId : ℕ → LaneId
@@ -59,7 +59,7 @@ stretchThere = stretch (lane 1) (drop 133 run)
 
 -- the definitions of the demand, for computing with them
 seen : Unit {0}
-unfolding compute opening lent lane laneId times calls run ledgerThere stretchThere handed ticks trace sameKey accepted atOpening changeLane addItem removeOldest setPaused setClosed setDropped addRegistered applyCall note ledgerAfter waits waitsIn anyOrdinary isLive liveLanes endsWait endsStretch stretch looks findsNothing looksInVain untargeted otherReceive notFair countTicks afterCalls mostLive groupsAt bound
+unfolding compute opening lent lane laneId times calls run ledgerThere stretchThere handed ticks trace sameKey accepted atOpening changeLane addItem removeOldest setPaused setClosed setDropped addRegistered applyCall note ledgerAfter waits waitsIn anyOrdinary isLive liveLanes endsWait endsStretch stretch looks findsNothing looksInVain untargeted ofOtherLane untargetedOfOther otherReceive notFair countTicks afterCalls mostLive groupsAt bound
 seen = tt
 
 it-waits : waits (lane 1) ledgerThere ≡ true
@@ -75,7 +75,7 @@ unfolding seen
 two-lanes = refl
 
 -- 128 items of lane 0 come first, and that is the bound
-items-given : countTicks untargeted stretchThere ≡ 128
+items-given : countTicks (untargetedOfOther (lane 1)) stretchThere ≡ 128
 unfolding seen
 items-given = refl
 
@@ -83,13 +83,13 @@ the-bound : bound (groupsAt (ledgerAfter ledgerThere stretchThere)) (mostLive le
 unfolding seen
 the-bound = refl
 
-pub bound-met : countTicks untargeted stretchThere ≡ bound (groupsAt (ledgerAfter ledgerThere stretchThere)) (mostLive ledgerThere stretchThere)
+pub bound-met : countTicks (untargetedOfOther (lane 1)) stretchThere ≡ bound (groupsAt (ledgerAfter ledgerThere stretchThere)) (mostLive ledgerThere stretchThere)
 bound-met = items-given ∙ sym the-bound
 
 -- what the demand promises of this stretch, by computing alone
-computed : Promise ledgerThere stretchThere
+computed : Promise (lane 1) ledgerThere stretchThere
 unfolding seen
-computed = record { sees = none-in-vain; bounded = omega (arith, bound-met); fair-once = λ z j. absurd (omega (arith, z, plain-only)) }
+computed = record { sees = none-in-vain; bounded = omega (arith, bound-met); fair-once = λ z j d. absurd (omega (arith, z, plain-only)) }
   where
     none-in-vain : countTicks looksInVain stretchThere ≡ 0
     none-in-vain = refl
@@ -99,6 +99,6 @@ computed = record { sees = none-in-vain; bounded = omega (arith, bound-met); fai
     plain-only = refl
 
 -- and with one item more of lane 0 it would be broken: "at most" is 128
-one-more-is-too-many : Promise ledgerThere (gives TryRecv (lane 0) 5 ∷ stretchThere) → ⊥
+one-more-is-too-many : Promise (lane 1) ledgerThere (gives TryRecv (lane 0) 5 ∷ stretchThere) → ⊥
 unfolding seen
 one-more-is-too-many p = absurd (omega (arith, p .bounded))

@@ -13,6 +13,7 @@ use Rattle.model.specs.declared.ControlCall.the-variants.{Pause}
 use Rattle.model.specs.declared.Call.{Call}
 use Rattle.model.specs.declared.Call.the-variants.{Sender, Receive, Control}
 use Rattle.model.specs.Runs.{Lent, accepted, afterList, sameKey}
+use Rattle.model.specs.Viewed.{rulesViewed}
 use Rattle.model.specs.Events.{Event, budgetSet, collected, noneMarked, foundEmpty, itemTaken, wentToBack, anyMarked, collectEvent, refillEvents, beforeNextTurnEvents, runDownFromEvents, runDownEvents, backEvents, giveOldestEvents, giveFrontEvents, collectIfDueEvents, collectIfNoneQueuedEvents, polledEvents, takeOneEvents, takeFairEvents, andMoreEvents, takeUpToEvents, takeFromEvents, receiveEvents, callEvents, eventsFrom, runEvents, collects, findsNoneMarked, takesItem, takesItemOf, findsEmpty, countEvents}
 use Rattle.model.specs.OneTurn.{endsTurnOf}
 use Rattle.model.specs.Budget.{itemsCountedFrom, itemsSinceSet}
@@ -47,27 +48,27 @@ computeEvents = tt
 
 -- lane 0 has 65 items, and lane 1 gets one after the first of them is taken: lane 0 gives 64 in one turn, all between two collections
 limits-met :
-    runEvents twoSlots lent (registers ∷ registers ∷ repeat 65 (sends 0) ++ (plain ∷ sends 1 ∷ repeat 64 plain))
+    runEvents rulesViewed twoSlots lent (registers ∷ registers ∷ repeat 65 (sends 0) ++ (plain ∷ sends 1 ∷ repeat 64 plain))
     ≡ budgetSet ∷ collected ∷ repeat 64 (itemTaken (lane 0)) ++ (wentToBack (lane 0) ∷ collected ∷ budgetSet ∷ itemTaken (lane 0) ∷ [])
 unfolding computeEvents
 limits-met = refl
 
 -- with nothing sent to lane 1 no page bit is set when a collection is due, and the items go on
 nothing-to-collect :
-    runEvents twoSlots lent (registers ∷ repeat 65 (sends 0) ++ repeat 65 plain)
+    runEvents rulesViewed twoSlots lent (registers ∷ repeat 65 (sends 0) ++ repeat 65 plain)
     ≡ budgetSet ∷ collected ∷ repeat 64 (itemTaken (lane 0)) ++ (wentToBack (lane 0) ∷ noneMarked ∷ budgetSet ∷ itemTaken (lane 0) ∷ [])
 unfolding computeEvents
 nothing-to-collect = refl
 
 -- the budget is then 64 less one item
-budget-then : itemsSinceSet (runEvents twoSlots lent (registers ∷ repeat 65 (sends 0) ++ repeat 65 plain)) ≡ 1
+budget-then : itemsSinceSet (runEvents rulesViewed twoSlots lent (registers ∷ repeat 65 (sends 0) ++ repeat 65 plain)) ≡ 1
 unfolding computeEvents itemsSinceSet itemsCountedFrom
 budget-then = refl
 
 -- every kind of event: 64 items of lane 0 in a batch, "pause it, send one to lane 1": nothing is queued and the budget is 0, so it is set when the item is
 -- taken; then a fair receive, which finds lane 1 empty, a batch of the two items sent next, and a targeted receive of nothing
 each-event :
-    runEvents twoSlots lent
+    runEvents rulesViewed twoSlots lent
     (registers ∷ registers ∷ repeat 64 (sends 0) ++ (Receive (TryRecvBatchInto 64 64) ∷ Control (Pause record { channel = 7; key = lane 0 }) ∷ sends 1 ∷ plain ∷ Receive TryRecvFair ∷ sends 1 ∷ sends 1
     ∷ Receive (TryRecvBatchInto 3 3) ∷ Receive (TryRecvFrom record { channel = 7; key = lane 0 }) ∷ []))
     ≡ budgetSet ∷ collected ∷ repeat 64 (itemTaken (lane 0)) ++ (wentToBack (lane 0) ∷ collected ∷ budgetSet ∷ itemTaken (lane 1) ∷ noneMarked ∷ budgetSet ∷ foundEmpty (lane 1)
@@ -77,7 +78,7 @@ each-event = refl
 
 -- "one item of the front lane, which goes to the back": two fair receives; "Targeted: counts in neither burst nor budget": then one that takes lane 0's second item
 fair-and-targeted :
-    runEvents twoSlots lent (registers ∷ registers ∷ sends 0 ∷ sends 0 ∷ sends 1 ∷ Receive TryRecvFair ∷ Receive TryRecvFair ∷ Receive (TryRecvFrom record { channel = 7; key = lane 0 }) ∷ [])
+    runEvents rulesViewed twoSlots lent (registers ∷ registers ∷ sends 0 ∷ sends 0 ∷ sends 1 ∷ Receive TryRecvFair ∷ Receive TryRecvFair ∷ Receive (TryRecvFrom record { channel = 7; key = lane 0 }) ∷ [])
     ≡ budgetSet ∷ collected ∷ budgetSet ∷ itemTaken (lane 0) ∷ wentToBack (lane 0) ∷ noneMarked ∷ budgetSet ∷ itemTaken (lane 1) ∷ wentToBack (lane 1) ∷ []
 unfolding computeEvents
 fair-and-targeted = refl
