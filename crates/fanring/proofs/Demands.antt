@@ -7,7 +7,6 @@ use Rattle.model.specs.declared.Call.{Call}
 use Rattle.model.specs.declared.Refusal.{Refusal}
 use Rattle.model.specs.declared.Refusal.the-variants.{StoreNotInOrder}
 use Rattle.model.specs.declared.Answer.the-variants.{Refused}
-use Rattle.model.specs.Rules.{theRules}
 use Rattle.model.specs.Simulation.{Simulation}
 use Rattle.model.specs.Demand2.{Demand2In}
 use Rattle.demands.proofs.Simulation.{words-demand2, words-demand3, words-none-after-close, words-held-as-counted, words-hands-as-answered}
@@ -16,6 +15,7 @@ use Rattle.store.specs.Words.{Words}
 use Rattle.opening.specs.Opening.{openStore}
 use Rattle.opening.proofs.OpeningLaws.{open-in-order}
 use Rattle.refinement.proofs.RefusedUnmoved.{Unmoved, open-unmoved}
+use Rattle.refinement.specs.Runs.{viewedOf}
 use Rattle.refinement.specs.RulesOnWords.{StaysInOrder}
 use Rattle.refinement.proofs.AsInner.{words-alike, words-keep}
 use Rattle.refinement.proofs.Demands.{ring-seen}
@@ -68,21 +68,20 @@ pub never-refused-five : NeverFive
 unfolding StaysInOrder
 never-refused-five x c e = only-not-in-order _ _ c e (rules-kept .stays-in-order x)
 
-unfoldable pub calls-simulate : Simulation theCalls theRules
+pub calls-simulate : Simulation (viewedOf checkedCalls)
 calls-simulate = simulates checkedCalls checked-as-inner
 
 pub items-in-order : ItemsInOrder
-unfolding calls-simulate simulates
-items-in-order = subst (Demand2In theCalls runs) (λ i w k. ring-seen (w .0) (w .1) k i) (words-demand2 theCalls calls-simulate)
+items-in-order = subst (Demand2In theCalls runs) (λ i w k. ring-seen (w .0) (w .1) k i) (words-demand2 (viewedOf checkedCalls) calls-simulate)
 
 pub answers-tell : AnswersTell
-answers-tell = words-hands-as-answered theCalls calls-simulate
+answers-tell = words-hands-as-answered (viewedOf checkedCalls) calls-simulate
 
 pub lanes-wait-bounded : LanesWaitBounded
-lanes-wait-bounded = words-demand3 theCalls calls-simulate
+lanes-wait-bounded = words-demand3 (viewedOf checkedCalls) calls-simulate
 
 pub none-after-close : NoneAfterClose
-none-after-close = words-none-after-close theCalls calls-simulate
+none-after-close = words-none-after-close (viewedOf checkedCalls) calls-simulate
 
 pub held-is-counted : HeldIsCounted
-held-is-counted = words-held-as-counted theCalls calls-simulate
+held-is-counted = words-held-as-counted (viewedOf checkedCalls) calls-simulate

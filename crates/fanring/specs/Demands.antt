@@ -1,5 +1,5 @@
 -- What is claimed of the checked calls: of each on any two stores, and of lists of them from an accepted opening on.
--- Most claims are crate `model`'s (its specs/Demand2.antt, Demand3.antt, Closed.antt, Held.antt), here of the words that the calls' contracts name; the last is crate `refinement`'s (its specs/RulesOnWords.antt, DisconnectedOnWords.antt).
+-- Most claims are crate `model`'s (its specs/Demand2.antt, Demand3.antt, Closed.antt, Held.antt), here of the words that the calls' contracts name; the last is crate `refinement`'s (its specs/RulesOnWords.antt).
 -- Assumes nothing.
 use mathlib.Core.Path.{_≡_}
 use mathlib.Core.List.{List}
@@ -57,7 +57,7 @@ OpensInOrder = (o : Opening) (t r : List ℕ) → o .cursor < 2 ^ 64 → let w =
 
 -- ---- lists of calls
 
--- All runs of code: an opening and calls whose numbers are u64, and whatever words the two stores hold before the opening.
+-- All runs of code: an opening and calls, and whatever words the two stores hold before the opening. The first cursor is a u64, as every number of code is.
 abbrev pub runs : RunsOf theCalls
 runs = runsThatFit theCalls
 
@@ -85,6 +85,7 @@ NoneAfterClose = NoneAfterCloseIn theCalls runs
 abbrev pub HeldIsCounted : Type 0
 HeldIsCounted = HeldAsCountedIn theCalls runs
 
--- document 01's sentences on order kept, the poll budget, turns of 64, collections, Disconnected and Empty, first cursors and queued keys, one field for each
+-- document 01's sentences on order kept, the poll budget, turns of 64, collections, where receives end, Disconnected and Empty, signals, first cursors and queued
+-- keys, one field for each
 abbrev pub RulesKept : Type 0
 RulesKept = KeepsRules checkedCalls

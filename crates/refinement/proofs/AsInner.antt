@@ -2,15 +2,13 @@
 -- Assumes nothing.
 use mathlib.Core.Path.{_≡_, refl, ap, _∙_}
 use mathlib.Core.List.{List, [], _∷_}
-use Prim.Native.Nat.{ℕ, _^_, _<_}
-use Rattle.model.specs.declared.Opening.{Opening}
+use Prim.Native.Nat.{ℕ}
 use Rattle.model.specs.declared.ReceiveCall.{ReceiveCall}
 use Rattle.model.specs.declared.Call.{Call}
-use Rattle.model.specs.Lists.{Each}
-use Rattle.model.specs.Runs.{Lent, afterList}
+use Rattle.model.specs.Runs.{afterList}
 use Rattle.model.specs.Receive.{receiveOutcome}
 use Rattle.model.specs.Rules.{outcome}
-use Rattle.model.specs.Simulation.{numbersOfOpening, Fits, OpeningFits, runsThatFit}
+use Rattle.model.specs.Simulation.{runsThatFit}
 use Rattle.lane.specs.Table.{head, laneAt}
 use Rattle.store.specs.View.{view}
 use Rattle.store.specs.Order.{StoreInOrder}
@@ -31,14 +29,9 @@ pub record AsInner (M : StoreCalls) : Type 0 where
 pub inner-as-inner : AsInner innerCalls
 inner-as-inner = record { same-words = λ t r o c. refl; same-hands = λ t r o c. refl; same-output = λ t r o c out. refl }
 
--- of an opening's numbers, the cursor's
-pub cursor-fits : (o : Opening) (lent : Lent) → OpeningFits o lent → o .cursor < 2 ^ 64
-unfolding Fits Each numbersOfOpening
-cursor-fits o lent f = f .1 .1 .1 .0
-
 pub opened-in-order : (x : Run) → StoreInOrder ((openedStores x) .0) ((openedStores x) .1)
 unfolding runsThatFit
-opened-in-order x = open-in-order (x .opening) (x .table) (x .rings) (cursor-fits (x .opening) _ (x .fits .0)) (x .accepted)
+opened-in-order x = open-in-order (x .opening) (x .table) (x .rings) (x .fits) (x .accepted)
 
 module _ (M : StoreCalls) (i : AsInner M) where
   module _ (t r : List ℕ) (o : StoreInOrder t r) where

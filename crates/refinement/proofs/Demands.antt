@@ -17,11 +17,11 @@ use Rattle.lane.specs.Lane.{heldItems}
 use Rattle.lane.specs.Table.{laneAt}
 use Rattle.queues.specs.Header.{issued, capacity}
 use Rattle.store.specs.View.{flag, slotAt, view}
-use Rattle.refinement.specs.Runs.{theStores}
+use Rattle.refinement.specs.Runs.{viewedOf, innerCalls, theStores}
 use Rattle.refinement.specs.Demands.{itemsIn, runs, RefusalsChangeNothing, ItemsInOrder, AnswersTell, LanesWaitBounded, NoneAfterClose, HeldIsCounted}
 use Rattle.refinement.proofs.RefusedUnmoved.{open-unmoved}
 use Rattle.refinement.proofs.CallLaws.{call-unmoved, output-unmoved}
-use Rattle.refinement.proofs.Simulation.{simulates, stores-simulate}
+use Rattle.refinement.proofs.Simulation.{stores-simulate}
 
 -- a lane's ring in the words is the ring that the rules see
 pub ring-seen : (t r : List ℕ) (k : LaneKey) → rules.ringOf (view t r) k ≡ itemsIn t r k
@@ -49,17 +49,16 @@ refusals-change-nothing = record {
 }
 
 pub items-in-order : ItemsInOrder
-unfolding stores-simulate simulates
-items-in-order = subst (Demand2In theStores runs) (λ i w k. ring-seen (w .0) (w .1) k i) (words-demand2 theStores stores-simulate)
+items-in-order = subst (Demand2In theStores runs) (λ i w k. ring-seen (w .0) (w .1) k i) (words-demand2 (viewedOf innerCalls) stores-simulate)
 
 pub answers-tell : AnswersTell
-answers-tell = words-hands-as-answered theStores stores-simulate
+answers-tell = words-hands-as-answered (viewedOf innerCalls) stores-simulate
 
 pub lanes-wait-bounded : LanesWaitBounded
-lanes-wait-bounded = words-demand3 theStores stores-simulate
+lanes-wait-bounded = words-demand3 (viewedOf innerCalls) stores-simulate
 
 pub none-after-close : NoneAfterClose
-none-after-close = words-none-after-close theStores stores-simulate
+none-after-close = words-none-after-close (viewedOf innerCalls) stores-simulate
 
 pub held-is-counted : HeldIsCounted
-held-is-counted = words-held-as-counted theStores stores-simulate
+held-is-counted = words-held-as-counted (viewedOf innerCalls) stores-simulate

@@ -30,8 +30,5 @@ pub mod MadeOfCalls
 pub mod AsInner
 pub mod Simulation
 pub mod Demands
-pub mod RulesOnWords
-pub mod SlotsSeen
-pub mod DisconnectedOnWords
 pub mod FirstCursorKept
 pub mod RulesKept

@@ -1,27 +1,41 @@
--- What specs/RulesOnWords.antt and DisconnectedOnWords.antt say, of the inner calls and of all that on stores in order are the inner calls.
+-- What specs/RulesOnWords.antt says, of the inner calls and of all that on stores in order are the inner calls: they simulate the rules.
 -- Assumes nothing.
-use Rattle.refinement.specs.Runs.{StoreCalls, innerCalls}
-use Rattle.refinement.specs.RulesOnWords.{KeepsRules}
+use mathlib.Core.Bool.{true, false}
+use Rattle.demands.proofs.Carried.{words-events-tell, words-budget-counts-items, words-at-most-64-in-one-turn, words-at-most-64-between-collections, words-ends-with-nothing-left, words-disconnected-exactly, words-retires-empty-paused, words-empty-with-paused-items, words-only-paused-items-left, words-targeted-disconnected-exactly, words-idle-only-when-empty, words-closed-signal-kept, words-older-sender-refused, words-collecting}
+use Rattle.store.proofs.CollectedView.{view-collect-all, view-collect-group}
+use Rattle.refinement.specs.Runs.{StoreCalls, viewedOf, innerCalls}
+use Rattle.refinement.specs.RulesOnWords.{KeepsRules, collects, WordsCollecting}
 use Rattle.refinement.proofs.AsInner.{AsInner, inner-as-inner, stays-in-order, queued-keys-kept}
-use Rattle.refinement.proofs.RulesOnWords.{events-tell, budget-is-count, at-most-64-in-turn, at-most-64-between}
-use Rattle.refinement.proofs.DisconnectedOnWords.{disconnected-exactly-on-words, retires-empty-paused-on-words, empty-with-paused-items-on-words, only-paused-items-left-on-words, targeted-disconnected-exactly-on-words}
+use Rattle.refinement.proofs.Simulation.{simulates, stores-simulate}
 use Rattle.refinement.proofs.FirstCursorKept.{rings-start-at-first-cursor}
 
 pub keeps-rules : (M : StoreCalls) → AsInner M → KeepsRules M
-keeps-rules M i = record {
-  stays-in-order = stays-in-order M i;
-  events-tell = events-tell M i;
-  budget-is-count = budget-is-count M i;
-  at-most-64-in-turn = at-most-64-in-turn M i;
-  at-most-64-between = at-most-64-between M i;
-  disconnected-exactly = disconnected-exactly-on-words M i;
-  retires-empty-paused = retires-empty-paused-on-words M i;
-  empty-with-paused-items = empty-with-paused-items-on-words M i;
-  only-paused-items-left = only-paused-items-left-on-words M i;
-  targeted-disconnected-exactly = targeted-disconnected-exactly-on-words M i;
-  rings-start-at-first-cursor = rings-start-at-first-cursor M i;
-  queued-keys-kept = queued-keys-kept M i;
-}
+keeps-rules M i =
+    let W = viewedOf M in
+    let sim = simulates M i in
+    record {
+      stays-in-order = stays-in-order M i;
+      events-tell = words-events-tell W sim;
+      budget-is-count = words-budget-counts-items W sim;
+      at-most-64-in-turn = words-at-most-64-in-one-turn W sim;
+      at-most-64-between = words-at-most-64-between-collections W sim;
+      ends-with-nothing-left = words-ends-with-nothing-left W sim;
+      disconnected-exactly = words-disconnected-exactly W sim;
+      retires-empty-paused = words-retires-empty-paused W sim;
+      empty-with-paused-items = words-empty-with-paused-items W sim;
+      only-paused-items-left = words-only-paused-items-left W sim;
+      targeted-disconnected-exactly = words-targeted-disconnected-exactly W sim;
+      idle-only-when-empty = words-idle-only-when-empty W sim;
+      closed-signal-kept = words-closed-signal-kept W sim;
+      older-sender-refused = words-older-sender-refused W sim;
+      rings-start-at-first-cursor = rings-start-at-first-cursor M i;
+      queued-keys-kept = queued-keys-kept M i;
+    }
 
 pub rules-kept : KeepsRules innerCalls
 rules-kept = keeps-rules innerCalls inner-as-inner
+
+pub words-collect : WordsCollecting
+words-collect =
+    words-collecting (viewedOf innerCalls) stores-simulate (collects false) (collects true)
+    (λ w o. view-collect-group (w .0) (w .1) (o .stores)) (λ w o. view-collect-all (w .0) (w .1) (o .stores))

@@ -11,6 +11,7 @@ use mathlib.Core.List.{List}
 use Prim.Native.Nat.{ℕ, zero, suc, _≤_, _<_}
 use native.Mathlib.Omega.{arith}
 use borrow.Author.Tests.{eqb-true, eqb-false}
+use Rattle.model.specs.declared.LaneKey.{LaneKey}
 use Rattle.model.specs.declared.LaneId.{LaneId}
 use Rattle.model.specs.declared.Call.{Call}
 use Rattle.model.specs.declared.Answer.{Answer}
@@ -35,7 +36,15 @@ use Rattle.turns.proofs.FrontLaws.{poll-front-turned}
 use Rattle.receive_batch.proofs.LookLaws.{look-front-looked}
 use Rattle.refinement.proofs.TryRecvFromLaws.{try-recv-from-keeps}
 use Rattle.refinement.proofs.KeysKept.{call-keeps-generation, call-keeps-issued}
-use Rattle.refinement.proofs.SlotsSeen.{generation-is, key-by-generation}
+
+-- the generation that the rules see, and that it is all of a slot's key that its words have
+generation-is : (t r : List ℕ) (x : ℕ) → x < issued t → view t r .slotOf x .generation ≡ laneAt t x .key .generation
+unfolding slotAt
+generation-is t r x h = ap (λ (m : Slot). m .generation) (slot-in t r x h)
+
+key-by-generation : (t u : List ℕ) (x : ℕ) → laneAt u x .key .generation ≡ laneAt t x .key .generation → laneAt u x .key ≡ laneAt t x .key
+unfolding laneAt
+key-by-generation t u x e = ap {A = ℕ} {B = LaneKey} (λ n. record { slot = x; generation = n }) e
 
 -- what stands behind an entry of the queue
 pub record QueuedLane (t : List ℕ) (x : ℕ) : Type 0 where

@@ -34,7 +34,7 @@ itemsIn t r k =
     [])
     []
 
--- All runs of code: an opening and calls whose numbers are u64, and whatever words the two stores hold before the opening.
+-- All runs of code: an opening and calls, and whatever words the two stores hold before the opening. The first cursor is a u64, as every number of code is.
 abbrev pub runs : RunsOf theStores
 runs = runsThatFit theStores
 

@@ -1,5 +1,4 @@
 pub mod Hands
 pub mod Runs
 pub mod Demands
-pub mod DisconnectedOnWords
 pub mod RulesOnWords

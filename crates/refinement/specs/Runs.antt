@@ -13,8 +13,11 @@ use Rattle.model.specs.declared.Call.the-variants.{Sender, Receive, Control}
 use Rattle.model.specs.declared.Answer.{Answer}
 use Rattle.model.specs.declared.Answer.the-variants.{Done}
 use Rattle.model.specs.Runs.{Rules, afterList}
+use Rattle.model.specs.Viewed.{Viewed}
 use Rattle.model.specs.Simulation.{runsThatFit}
 use Rattle.store.specs.Words.{Words}
+use Rattle.store.specs.View.{view}
+use Rattle.store.specs.Order.{StoreInOrder}
 use Rattle.opening.specs.Opening.{openStore}
 use Rattle.sender.specs.Sender.{senderWords}
 use Rattle.control.specs.Calls.{controlWords}
@@ -73,6 +76,11 @@ listsOf M = record {
   output = λ w c out. M .output (w .0) (w .1) c out;
 }
 
+-- What the calls' stores stand for: the rules' state that is read off their words, where they are in order. So what crate `model` says of any `Viewed` is said of
+-- the words that contracts name. The runs are those of code.
+abbrev pub viewedOf : StoreCalls → Viewed
+viewedOf M = record { rules = listsOf M; runs = runsThatFit (listsOf M); view = λ w. view (w .0) (w .1); Ok = λ w. StoreInOrder (w .0) (w .1) }
+
 -- A list is made of what contracts name: its opening is `openStore`, and its calls and outputs are those of M.
 pub record MadeOfCalls (M : StoreCalls) : Type 0 where
   pub opening : (o : Opening) (t r : List ℕ) → let w = openStore o t r in _≡_ {A = Answer × (List ℕ × List ℕ)} (listsOf M .opens o (t, r)) (w .0, (w .1, w .2))
@@ -85,7 +93,7 @@ innerCalls = record { words = callWords; hands = handsWords; output = outputWord
 abbrev pub theStores : Rules
 theStores = listsOf innerCalls
 
--- A run of code: an accepted opening, whatever words the two stores hold before it, and calls. All numbers are u64.
+-- A run of code: an accepted opening, whatever words the two stores hold before it, and calls. The first cursor is a u64.
 pub record Run : Type 0 where
   pub opening : Opening
   pub table : List ℕ
