@@ -37,22 +37,22 @@ module _ (W : Viewed) (collect : W .rules .State → W .rules .State) where
       → (g : ℕ) × (nonEmpty (marks t g) ≡ true) × (u ≡ collectGroup t g) × (u .cursor ≡ suc g)
       × ((h : ℕ) → h < groupsIn (t .issued) → groupsBefore t h < groupsBefore t g → nonEmpty (marks t h) ≡ false)
 
-  -- Collecting all groups leaves no page bit,
+  -- Collecting all groups leaves no page bit.
   unfoldable pub TakesAllGroups : Type 0
   TakesAllGroups = (s : W .rules .State) → W .Ok s → anyMarked (W .view (collect s)) ≡ false
 
-  -- and "The cursor then stands just after the last group that had bits": after g, and no group on the way behind g had any.
+  -- "The cursor then stands just after the last group that had bits": after g, and no group on the way behind g had any.
   unfoldable pub StandsAfterLast : Type 0
   StandsAfterLast =
       (s : W .rules .State) → W .Ok s → let t = W .view s in anyMarked t ≡ true
       → (g : ℕ) × (nonEmpty (marks t g) ≡ true) × (W .view (collect s) .cursor ≡ suc g)
       × ((h : ℕ) → h < groupsIn (t .issued) → groupsBefore t g < groupsBefore t h → nonEmpty (marks t h) ≡ false)
 
-  -- With no page bit set neither changes anything.
+  -- With no page bit set a collection changes nothing.
   unfoldable pub NothingToCollect : Type 0
   NothingToCollect = (s : W .rules .State) → W .Ok s → anyMarked (W .view s) ≡ false → W .view (collect s) ≡ W .view s
 
--- All of it, of the two steps.
+-- All of it, of the two steps: one that collects one group, and one that collects all.
 pub record Collecting (W : Viewed) (collectOne collectAll : W .rules .State → W .rules .State) : Type 0 where
   pub takes-one : TakesOneGroup W collectOne
   pub takes-all : TakesAllGroups W collectAll

@@ -88,7 +88,7 @@ module _ (W : Viewed) where
       → (x : ℕ) → let l = W .view s .slotOf x in l .registered ≡ true → l .paused ≡ true → l .ring ≢ []
       → (answerOf W s (Receive r) ≡ Empty) × SameLane l (viewAfter W s (Receive r) .slotOf x)
 
-  -- In a run from an accepted opening only such lanes are left: an unpaused lane whose sender is dropped is found and retired.
+  -- In a run from an accepted opening only paused lanes that hold items are left then: an unpaused lane whose sender is dropped is found and retired.
   -- So with no living sender the answer is Empty only if a paused lane holds items.
   unfoldable pub OnlyPausedItemsLeft : Type 0
   OnlyPausedItemsLeft =
