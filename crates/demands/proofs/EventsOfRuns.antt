@@ -170,7 +170,7 @@ module _ (k : LaneKey) (T : Tally) where
   receive-pass s (TryRecvBatchInto m n) o c =
       unless-law (Receives (receiveEvents s (TryRecvBatchInto m n))) _ s _ (λ n. no-event c) (λ p. answered-pass _ _ _ (answer-items-answered m _ _) (take-up-to-pass k m T s o c))
 
-  call-pass : (s : State) (c : Call) → Ordered s → Counted k T s → Pass k (Counted k) T (callEvents s c) ((outcome s c) .1 .1)
+  pub call-pass : (s : State) (c : Call) → Ordered s → Counted k T s → Pass k (Counted k) T (callEvents s c) ((outcome s c) .1 .1)
   unfolding callEvents outcome Receives
   call-pass s (Sender c) o d = no-event (sender-counted k T (sender-move s c) d)
   call-pass s (Control c) o d = no-event (control-counted k T (control-move s c) d)

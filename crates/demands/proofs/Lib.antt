@@ -40,3 +40,5 @@ pub mod PollLoop
 pub mod FoundEmpty
 pub mod IdleWhenEmpty
 pub mod ClosedSignal
+pub mod ViewedLaws
+pub mod BudgetAfterNothing

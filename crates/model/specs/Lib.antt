@@ -29,4 +29,5 @@ pub mod Disconnected
 pub mod ShutOut
 pub mod PollLoop
 pub mod Signals
+pub mod BudgetAfterNothing
 pub mod Examples
