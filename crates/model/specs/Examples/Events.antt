@@ -41,7 +41,7 @@ sends x = Sender (TrySend (lane x) 5)
 plain : Call
 plain = Receive TryRecv
 
-computeEvents : Unit {0}
+unfoldable pub computeEvents : Unit {0}
 unfolding compute twoSlots lent lane repeat registers sends plain accepted afterList anyMarked collectEvent refillEvents beforeNextTurnEvents runDownFromEvents runDownEvents backEvents giveOldestEvents giveFrontEvents collectIfDueEvents collectIfNoneQueuedEvents polledEvents takeOneEvents takeFairEvents andMoreEvents takeUpToEvents takeFromEvents receiveEvents callEvents eventsFrom runEvents
 computeEvents = tt
 
