@@ -33,8 +33,8 @@ use Rattle.demands.proofs.OrderKept.{refill-pos, settle-empty-queue, be
 use Rattle.demands.proofs.WaitInReceive.{settle-empty-budget}
 use Rattle.demands.proofs.Quiet.{poll}
 use Rattle.demands.proofs.Moves.{TakeResult, took-none, took-one, take-one-taken, take-fair-taken, unless-law}
-use Rattle.demands.proofs.Events.{Tally, Counted, collect-ready-alike, collect-ready-group-alike}
-use Rattle.demands.proofs.EventsOfRuns.{call-pass, answer-one-answered, answer-items-answered}
+use Rattle.demands.proofs.Events.{Tally, collect-ready-alike, collect-ready-group-alike}
+use Rattle.demands.proofs.EventsOfRuns.{call-pass, fromBudget, from-budget-counted, answer-one-answered, answer-items-answered}
 use Rattle.demands.proofs.Budget.{counted-from, as-many-as-handed}
 use Rattle.demands.proofs.ViewedLaws.{AsRules}
 
@@ -219,10 +219,9 @@ pub budget-as-events-set : BudgetAsEventsSet rulesViewed
 unfolding BudgetAsEventsSet AsManyAsHanded
 budget-as-events-set s r h =
     let k : LaneKey = record { slot = 0; generation = 0 } in
-    let T : Tally = record { sinceSet = 64 - s .budget; sinceCollected = 0; inTurn = 0 } in
+    let T : Tally = fromBudget (s .budget) in
     let most : s .budget ≤ 64 = h .in-order .ordered .budget-most in
-    let c : Counted k T s = record { by-budget = omega (arith, most); fewer = omega arith; turn-most = omega arith; by-burst = λ e. omega arith; known = λ e. absurd (omega arith) } in
-    let p = call-pass k T s (Receive r) (h .in-order .ordered) c .at-end .by-budget in
+    let p = call-pass k T s (Receive r) (h .in-order .ordered) (from-budget-counted k s (h .in-order .ordered)) .at-end .by-budget in
     let none : countEvents takesItem (callEvents s (Receive r)) ≡ 0 = as-many-as-handed s r ∙ go (isTargeted r) (ap length (h .no-item)) in
     let es = counted-from k T (callEvents s (Receive r)) ∙ none-counted (64 - s .budget) (callEvents s (Receive r)) none in
     left (leb 1 (countEvents setsBudget (callEvents s (Receive r)))) _ ((outcome s (Receive r)) .1 .1 .budget) (s .budget) most es p

@@ -42,3 +42,4 @@ pub mod IdleWhenEmpty
 pub mod ClosedSignal
 pub mod ViewedLaws
 pub mod BudgetAfterNothing
+pub mod WhileMarked

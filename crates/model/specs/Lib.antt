@@ -30,4 +30,5 @@ pub mod ShutOut
 pub mod PollLoop
 pub mod Signals
 pub mod BudgetAfterNothing
+pub mod WhileMarked
 pub mod Examples
