@@ -9,3 +9,4 @@ pub mod Held
 pub mod BoundMet
 pub mod Stretch
 pub mod BudgetAfterNothing
+pub mod WhileMarked
