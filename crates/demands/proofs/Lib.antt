@@ -43,3 +43,4 @@ pub mod ClosedSignal
 pub mod ViewedLaws
 pub mod BudgetAfterNothing
 pub mod WhileMarked
+pub mod BatchLoop

@@ -10,3 +10,4 @@ pub mod BoundMet
 pub mod Stretch
 pub mod BudgetAfterNothing
 pub mod WhileMarked
+pub mod BatchLoop

@@ -31,4 +31,5 @@ pub mod PollLoop
 pub mod Signals
 pub mod BudgetAfterNothing
 pub mod WhileMarked
+pub mod BatchLoop
 pub mod Examples
