@@ -14,7 +14,10 @@ use Rattle.model.specs.declared.Answer.{Answer}
 use Rattle.model.specs.declared.Answer.the-variants.{Done}
 use Rattle.model.specs.Runs.{Rules, afterList}
 use Rattle.model.specs.Simulation.{runsThatFit}
+use Rattle.model.specs.Viewed.{Viewed}
 use Rattle.store.specs.Words.{Words}
+use Rattle.store.specs.View.{view}
+use Rattle.store.specs.Order.{StoreInOrder}
 use Rattle.opening.specs.Opening.{openStore}
 use Rattle.sender.specs.Sender.{senderWords}
 use Rattle.control.specs.Calls.{controlWords}
@@ -84,6 +87,10 @@ innerCalls = record { words = callWords; hands = handsWords; output = outputWord
 
 abbrev pub theStores : Rules
 theStores = listsOf innerCalls
+
+-- The same, with the rules' state that two stores stand for, and which stores are in order. The runs spoken of are those of code.
+abbrev pub viewedOf : StoreCalls → Viewed
+viewedOf M = record { rules = listsOf M; runs = runsThatFit (listsOf M); view = λ w. view (w .0) (w .1); Ok = λ w. StoreInOrder (w .0) (w .1) }
 
 -- A run of code: an accepted opening, whatever words the two stores hold before it, and calls. All numbers are u64.
 pub record Run : Type 0 where
