@@ -13,7 +13,7 @@ use Rattle.model.specs.Receive.{takeUpTo}
 use Rattle.model.specs.Opening.{openingOutcome}
 use Rattle.model.specs.Rules.{theRules}
 use Rattle.model.specs.Viewed.{rulesViewed}
-use Rattle.model.specs.Events.{budgetSet, collected, noneMarked, itemTaken, wentToBack, anyMarked, takeUpToEvents, collects}
+use Rattle.model.specs.Events.{budgetSet, collected, noneMarked, itemTaken, wentToBack, anyMarked, takeUpToEvents, collects, findsNoneMarked}
 use Rattle.model.specs.WhileMarked.{eventsOf, untilCollected}
 use Rattle.model.specs.Examples.Pairs.{Reads}
 use Rattle.model.specs.Examples.Events.{twoSlots, lent, lane, repeat, registers, sends, plain, computeEvents}
@@ -27,7 +27,7 @@ until-collected-read :
     ∷ (noneMarked ∷ budgetSet ∷ itemTaken (lane 0) ∷ collected ∷ collected ∷ [], noneMarked ∷ budgetSet ∷ itemTaken (lane 0) ∷ [])
     ∷ (itemTaken (lane 0) ∷ wentToBack (lane 0) ∷ [], itemTaken (lane 0) ∷ wentToBack (lane 0) ∷ [])
     ∷ [])
-unfolding untilCollected collects
+unfolding lane untilCollected collects findsNoneMarked
 until-collected-read = refl
 
 laneId : ℕ → LaneId
@@ -40,7 +40,7 @@ point =
     (registers ∷ registers ∷ repeat 66 (sends 0) ++ (Control (Pause (laneId 0)) ∷ Control (Resume (laneId 0)) ∷ sends 1 ∷ []))
 
 computePoint : Unit {0}
-unfolding computeEvents laneId point eventsOf untilCollected collects
+unfolding computeEvents laneId point eventsOf untilCollected collects findsNoneMarked
 computePoint = tt
 
 point-marked : anyMarked point ≡ true
