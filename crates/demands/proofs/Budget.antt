@@ -29,7 +29,7 @@ use Rattle.demands.proofs.Moves.{unless-law, nothing-taken-gives-none}
 use Rattle.demands.proofs.Events.{Tally, next, tally}
 use Rattle.demands.proofs.EventsOfRuns.{zeros, run-pass, answer-one-answered, answer-items-answered}
 
-counted-from : (k : LaneKey) (T : Tally) (es : List Event) → (tally k T es) .sinceSet ≡ itemsCountedFrom (T .sinceSet) es
+pub counted-from : (k : LaneKey) (T : Tally) (es : List Event) → (tally k T es) .sinceSet ≡ itemsCountedFrom (T .sinceSet) es
 unfolding tally next itemsCountedFrom
 counted-from k T [] = refl
 counted-from k T (budgetSet ∷ es) = counted-from k (next k T budgetSet) es

@@ -33,7 +33,7 @@ was-registered : {l m : Slot} → Quiet l m → m .registered ≡ true → l .re
 was-registered (stays a) e = sym (a .registers) ∙ e
 was-registered (goes a r g) e = absurd (no e r)
 
-rings-fit-quiet : (s u : State) → Quietly s u → RingsFit s → RingsFit u
+pub rings-fit-quiet : (s u : State) → Quietly s u → RingsFit s → RingsFit u
 rings-fit-quiet s u q r = record {
   positive = omega (arith, r .positive, q .capacities);
   each-fits = λ y h. let f = r .each-fits y (was-registered (q .each y) h) in record {

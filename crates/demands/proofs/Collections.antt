@@ -22,7 +22,7 @@ use Rattle.demands.proofs.Signals.{collect-ready-unmarked}
 use Rattle.demands.proofs.Events.{Tally, next}
 use Rattle.demands.proofs.EventsOfRuns.{zeros, run-pass, part-most}
 
-reads : (k : LaneKey) (T : Tally) (e : Event) → (next k T e) .sinceCollected ≡ if (either (collects e) (findsNoneMarked e)) 0 (if (takesItem e) (T .sinceCollected + 1) (T .sinceCollected))
+pub reads : (k : LaneKey) (T : Tally) (e : Event) → (next k T e) .sinceCollected ≡ if (either (collects e) (findsNoneMarked e)) 0 (if (takesItem e) (T .sinceCollected + 1) (T .sinceCollected))
 unfolding next collects findsNoneMarked takesItem
 reads k T budgetSet = refl
 reads k T collected = refl
@@ -31,7 +31,7 @@ reads k T (foundEmpty j) = refl
 reads k T (itemTaken j) = refl
 reads k T (wentToBack j) = refl
 
-neither : (es : List Event) → countEvents collects es ≡ 0 → countEvents findsNoneMarked es ≡ 0 → countEvents (λ e. either (collects e) (findsNoneMarked e)) es ≡ 0
+pub neither : (es : List Event) → countEvents collects es ≡ 0 → countEvents findsNoneMarked es ≡ 0 → countEvents (λ e. either (collects e) (findsNoneMarked e)) es ≡ 0
 unfolding countEvents
 neither [] a b = refl
 neither (e ∷ es) a b = go (collects e) (findsNoneMarked e) a b (neither es)

@@ -168,11 +168,11 @@ collect-first-alike (g ∷ gs) s = go (nonEmpty (marks s g)) (collect-first-alik
     go true r = collect-group-alike s g
     go false r = r
 
-collect-ready-alike : (s : State) → Alike s (collectReady s)
+pub collect-ready-alike : (s : State) → Alike s (collectReady s)
 unfolding collectReady
 collect-ready-alike s = collect-each-alike (groupsRound s) s
 
-collect-ready-group-alike : (s : State) → Alike s (collectReadyGroup s)
+pub collect-ready-group-alike : (s : State) → Alike s (collectReadyGroup s)
 unfolding collectReadyGroup
 collect-ready-group-alike s = collect-first-alike (groupsRound s) s
 

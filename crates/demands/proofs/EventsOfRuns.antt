@@ -3,7 +3,7 @@
 use mathlib.Core.Path.{_≡_, refl, ap}
 use mathlib.Core.Bool.{Bool, true, false}
 use mathlib.Core.List.{List, [], _∷_, _++_}
-use Prim.Native.Nat.{ℕ, zero, suc, _+_, _≤_}
+use Prim.Native.Nat.{ℕ, zero, suc, _+_, _-_, _≤_}
 use native.Mathlib.Omega.{arith}
 use lib.Dec.{leb}
 use Rattle.model.specs.declared.LaneKey.{LaneKey}
@@ -171,16 +171,23 @@ module _ (k : LaneKey) (T : Tally) where
   receive-pass s (TryRecvBatchInto m n) o c =
       unless-law (Receives (receiveEvents s (TryRecvBatchInto m n))) _ s _ (λ n. no-event c) (λ p. answered-pass _ _ _ (answer-items-answered m _ _) (take-up-to-pass k m T s o c))
 
-  call-pass : (s : State) (c : Call) → Ordered s → Counted k T s → Pass k (Counted k) T (callEvents s c) ((outcome s c) .1 .1)
+  pub call-pass : (s : State) (c : Call) → Ordered s → Counted k T s → Pass k (Counted k) T (callEvents s c) ((outcome s c) .1 .1)
   unfolding callEvents outcome Receives
   call-pass s (Sender c) o d = no-event (sender-counted k T (sender-move s c) d)
   call-pass s (Control c) o d = no-event (control-counted k T (control-move s c) d)
   call-pass s (Receive r) o d = receive-pass s r o d
 
-calls-pass : (k : LaneKey) (T : Tally) (s : State) (calls : List Call) → InOrder s → Counted k T s → Pass k (Counted k) T (eventsFrom rulesViewed s calls) (afterList theRules s calls)
+pub calls-pass : (k : LaneKey) (T : Tally) (s : State) (calls : List Call) → InOrder s → Counted k T s → Pass k (Counted k) T (eventsFrom rulesViewed s calls) (afterList theRules s calls)
 unfolding eventsFrom afterList
 calls-pass k T s [] i d = no-event d
 calls-pass k T s (c ∷ cs) i d = bind (call-pass k T s c (i .ordered) d) (λ U e. calls-pass k U ((outcome s c) .1 .1) cs (call-keeps-order s c i) e)
+
+-- counts that begin in any state in order: as if the budget had been set, and the items since taken, before a collection
+abbrev pub fromBudget : ℕ → Tally
+fromBudget b = record { sinceSet = 64 - b; sinceCollected = 0; inTurn = 0 }
+
+pub from-budget-counted : (k : LaneKey) (s : State) → Ordered s → Counted k (fromBudget (s .budget)) s
+from-budget-counted k s o = record { by-budget = omega (arith, o .budget-most); fewer = omega arith; turn-most = omega arith; by-burst = λ e. omega arith; known = λ e. absurd (omega arith) }
 
 -- nothing counted yet
 abbrev pub zeros : Tally

@@ -42,3 +42,6 @@ pub mod IdleWhenEmpty
 pub mod ClosedSignal
 pub mod ReceivesEnd
 pub mod Carried
+pub mod BudgetAfterNothing
+pub mod WhileMarked
+pub mod BatchLoop

@@ -52,7 +52,7 @@ batch-unless-nothing-left limit s i = up-to-unless limit s (i .ordered)
 -- ---- as the Rust's loop
 
 -- where nothing is ready, `refresh_active` does what the rules do before the next turn
-refresh-unready : (q : List ℕ) (b : ℕ) (s : State) → s .budget ≡ b → NothingReady s → refreshed q b s ≡ beforeNextTurn q s
+pub refresh-unready : (q : List ℕ) (b : ℕ) (s : State) → s .budget ≡ b → NothingReady s → refreshed q b s ≡ beforeNextTurn q s
 unfolding refreshed beforeNextTurn refill
 refresh-unready [] b s e n = nothing-to-collect s (none-marked s n) .1
 refresh-unready (y ∷ q) zero s e n = ap (withBudget 64) (nothing-to-collect s (none-marked s n) .0) ∙ ap (λ (c : ℕ). withBudget (refill c) s) (sym e)
@@ -258,17 +258,17 @@ same-front {y} {z} {q} {p} e = (ap first e, ap tail e)
 no-front : {y : ℕ} {q : List ℕ} → [] ≡ y ∷ q → ⊥
 no-front e = omega (arith, ap length e)
 
-ends-unqueued : {s w : State} → s .queue ≡ [] → Turns s w → s ≡ w
+pub ends-unqueued : {s w : State} → s .queue ≡ [] → Turns s w → s ≡ w
 ends-unqueued e (nothing-queued s f) = refl
 ends-unqueued e (has-item s y v q vs f g) = refl
 ends-unqueued e (found-empty s w y q f g t) = absurd (no-front (sym e ∙ f))
 
-ends-with-item : {s w : State} (y v : ℕ) (q vs : List ℕ) → s .queue ≡ y ∷ q → s .slotOf y .ring ≡ v ∷ vs → Turns s w → s ≡ w
+pub ends-with-item : {s w : State} (y v : ℕ) (q vs : List ℕ) → s .queue ≡ y ∷ q → s .slotOf y .ring ≡ v ∷ vs → Turns s w → s ≡ w
 ends-with-item y v q vs e g (nothing-queued s f) = refl
 ends-with-item y v q vs e g (has-item s z x p xs f h) = refl
 ends-with-item y v q vs e g (found-empty s w z p f h t) = absurd (no-front (sym h ∙ ap (λ (a : ℕ). s .slotOf a .ring) (sym (same-front (sym e ∙ f) .0)) ∙ g))
 
-goes-on-empty : {s w : State} (y : ℕ) (q : List ℕ) → s .queue ≡ y ∷ q → s .slotOf y .ring ≡ [] → Turns s w → Turns (refreshActive (settleEmpty y q s)) w
+pub goes-on-empty : {s w : State} (y : ℕ) (q : List ℕ) → s .queue ≡ y ∷ q → s .slotOf y .ring ≡ [] → Turns s w → Turns (refreshActive (settleEmpty y q s)) w
 goes-on-empty y q e g (nothing-queued s f) = absurd (no-front (sym f ∙ e))
 goes-on-empty y q e g (has-item s z x p xs f h) = absurd (no-front (sym g ∙ ap (λ (a : ℕ). s .slotOf a .ring) (same-front (sym e ∙ f) .0) ∙ h))
 goes-on-empty y q e g (found-empty s w z p f h t) =

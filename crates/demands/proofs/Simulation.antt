@@ -135,7 +135,7 @@ pub words-demand2 : (W : Viewed) → Simulation W → Demand2In (W .rules) (W .r
 words-demand2 W sim = transfer2 W sim ringOf demand2
 
 -- The rules simulate themselves: none of the fields stands in another's way.
-rules-simulate : Simulation rulesViewed
+pub rules-simulate : Simulation rulesViewed
 rules-simulate = record {
   opens-alike = λ o lent. refl;
   opens-view = λ o lent d. refl;

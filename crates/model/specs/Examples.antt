@@ -10,3 +10,6 @@ pub mod BoundMet
 pub mod Stretch
 pub mod OtherLanes
 pub mod ReceivesEnd
+pub mod BudgetAfterNothing
+pub mod WhileMarked
+pub mod BatchLoop

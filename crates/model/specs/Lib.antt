@@ -30,4 +30,7 @@ pub mod ShutOut
 pub mod PollLoop
 pub mod Signals
 pub mod ReceivesEnd
+pub mod BudgetAfterNothing
+pub mod WhileMarked
+pub mod BatchLoop
 pub mod Examples

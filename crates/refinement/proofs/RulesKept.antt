@@ -2,6 +2,8 @@
 -- Assumes nothing.
 use mathlib.Core.Bool.{true, false}
 use Rattle.demands.proofs.Carried.{words-events-tell, words-budget-counts-items, words-at-most-64-in-one-turn, words-at-most-64-between-collections, words-ends-with-nothing-left, words-disconnected-exactly, words-retires-empty-paused, words-empty-with-paused-items, words-only-paused-items-left, words-targeted-disconnected-exactly, words-idle-only-when-empty, words-closed-signal-kept, words-older-sender-refused, words-collecting}
+use Rattle.demands.proofs.WhileMarked.{words-at-most-64-while-marked, words-at-most-64-while-marked-in-batch}
+use Rattle.demands.proofs.BudgetAfterNothing.{words-budget-after-nothing, words-budget-as-events-set}
 use Rattle.store.proofs.CollectedView.{view-collect-all, view-collect-group}
 use Rattle.refinement.specs.Runs.{StoreCalls, viewedOf, innerCalls}
 use Rattle.refinement.specs.RulesOnWords.{KeepsRules, collects, WordsCollecting}
@@ -19,6 +21,10 @@ keeps-rules M i =
       budget-is-count = words-budget-counts-items W sim;
       at-most-64-in-turn = words-at-most-64-in-one-turn W sim;
       at-most-64-between = words-at-most-64-between-collections W sim;
+      at-most-64-while-marked = words-at-most-64-while-marked W sim;
+      at-most-64-while-marked-in-batch = words-at-most-64-while-marked-in-batch W sim;
+      budget-after-nothing = words-budget-after-nothing W sim;
+      budget-as-events-set = words-budget-as-events-set W sim;
       ends-with-nothing-left = words-ends-with-nothing-left W sim;
       disconnected-exactly = words-disconnected-exactly W sim;
       retires-empty-paused = words-retires-empty-paused W sim;

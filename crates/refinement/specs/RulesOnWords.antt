@@ -15,6 +15,8 @@ use Rattle.model.specs.Lists.{count}
 use Rattle.model.specs.Budget.{BudgetCountsItems, EventsTell}
 use Rattle.model.specs.OneTurn.{AtMost64InOneTurn}
 use Rattle.model.specs.Collections.{AtMost64BetweenCollections, Collecting}
+use Rattle.model.specs.WhileMarked.{AtMost64WhileMarked, AtMost64WhileMarkedInBatch}
+use Rattle.model.specs.BudgetAfterNothing.{BudgetAfterNothing, BudgetAsEventsSet}
 use Rattle.model.specs.Disconnected.{DisconnectedExactly, RetiresEmptyPaused, EmptyWithPausedItems, OnlyPausedItemsLeft, TargetedDisconnectedExactly}
 use Rattle.model.specs.ReceivesEnd.{EndsWithNothingLeft}
 use Rattle.model.specs.Signals.{IdleOnlyWhenEmpty, ClosedSignalKept, OlderSenderRefused}
@@ -51,6 +53,10 @@ pub record KeepsRules (M : StoreCalls) : Type 0 where
   pub budget-is-count : BudgetCountsItems (viewedOf M)
   pub at-most-64-in-turn : AtMost64InOneTurn (viewedOf M)
   pub at-most-64-between : AtMost64BetweenCollections (viewedOf M)
+  pub at-most-64-while-marked : AtMost64WhileMarked (viewedOf M)
+  pub at-most-64-while-marked-in-batch : AtMost64WhileMarkedInBatch (viewedOf M)
+  pub budget-after-nothing : BudgetAfterNothing (viewedOf M)
+  pub budget-as-events-set : BudgetAsEventsSet (viewedOf M)
   pub ends-with-nothing-left : EndsWithNothingLeft (viewedOf M)
   pub disconnected-exactly : DisconnectedExactly (viewedOf M)
   pub retires-empty-paused : RetiresEmptyPaused (viewedOf M)

@@ -3,7 +3,7 @@
 -- Assumes nothing.
 use mathlib.Core.Path.{_≡_, refl}
 use mathlib.Core.Bool.{true, false}
-use mathlib.Core.List.{List, [], _∷_, _++_, map}
+use mathlib.Core.List.{List, [], _∷_, _++_}
 use Prim.Native.Nat.{ℕ, zero, suc}
 use Rattle.model.specs.declared.LaneKey.{LaneKey}
 use Rattle.model.specs.declared.Opening.{Opening}
@@ -17,32 +17,33 @@ use Rattle.model.specs.Viewed.{rulesViewed}
 use Rattle.model.specs.Events.{Event, budgetSet, collected, noneMarked, foundEmpty, itemTaken, wentToBack, anyMarked, collectEvent, refillEvents, beforeNextTurnEvents, runDownFromEvents, runDownEvents, backEvents, giveOldestEvents, giveFrontEvents, collectIfDueEvents, collectIfNoneQueuedEvents, polledEvents, takeOneEvents, takeFairEvents, andMoreEvents, takeUpToEvents, takeFromEvents, receiveEvents, callEvents, eventsFrom, runEvents, collects, findsNoneMarked, takesItem, takesItemOf, findsEmpty, countEvents}
 use Rattle.model.specs.OneTurn.{endsTurnOf}
 use Rattle.model.specs.Budget.{itemsCountedFrom, itemsSinceSet}
+use Rattle.model.specs.Examples.Pairs.{Reads}
 use Rattle.model.specs.Examples.Calls.{compute}
 
 -- two slots of capacity 128
-twoSlots : Opening
+unfoldable pub twoSlots : Opening
 twoSlots = record { capacity = 128; slots = 2; channel = 7; cursor = 0; generation = 0 }
 
-lent : Lent
+unfoldable pub lent : Lent
 lent = record { rings = 256; table = 560 }
 
-lane : ℕ → LaneKey
+unfoldable pub lane : ℕ → LaneKey
 lane x = record { slot = x; generation = 0 }
 
-repeat : {A : Type 0} → ℕ → A → List A
+unfoldable pub repeat : {A : Type 0} → ℕ → A → List A
 repeat zero a = []
 repeat (suc n) a = a ∷ repeat n a
 
-registers : Call
+unfoldable pub registers : Call
 registers = Sender (RegisterSender 2)
 
-sends : ℕ → Call
+unfoldable pub sends : ℕ → Call
 sends x = Sender (TrySend (lane x) 5)
 
-plain : Call
+unfoldable pub plain : Call
 plain = Receive TryRecv
 
-computeEvents : Unit {0}
+unfoldable pub computeEvents : Unit {0}
 unfolding compute twoSlots lent lane repeat registers sends plain accepted afterList anyMarked collectEvent refillEvents beforeNextTurnEvents runDownFromEvents runDownEvents backEvents giveOldestEvents giveFrontEvents collectIfDueEvents collectIfNoneQueuedEvents polledEvents takeOneEvents takeFairEvents andMoreEvents takeUpToEvents takeFromEvents receiveEvents callEvents eventsFrom runEvents
 computeEvents = tt
 
@@ -85,6 +86,76 @@ fair-and-targeted = refl
 
 -- ---- which event is what, on one of each kind, of lane 0 and of lane 1
 
+-- the words of the sentences on 64 and of the one on signals, for computing with them
+computeWords : Unit {0}
+unfolding lane sameKey collects findsNoneMarked takesItem takesItemOf findsEmpty endsTurnOf countEvents
+computeWords = tt
+
+-- "between two collections"
+collects-read :
+    Reads collects
+    ((budgetSet, false)
+    ∷ (collected, true)
+    ∷ (noneMarked, false)
+    ∷ (foundEmpty (lane 0), false)
+    ∷ (foundEmpty (lane 1), false)
+    ∷ (itemTaken (lane 0), false)
+    ∷ (itemTaken (lane 1), false)
+    ∷ (wentToBack (lane 0), false)
+    ∷ (wentToBack (lane 1), false)
+    ∷ [])
+unfolding computeWords
+collects-read = refl
+
+-- "while a page bit is set"
+finds-none-marked-read :
+    Reads findsNoneMarked
+    ((budgetSet, false)
+    ∷ (collected, false)
+    ∷ (noneMarked, true)
+    ∷ (foundEmpty (lane 0), false)
+    ∷ (foundEmpty (lane 1), false)
+    ∷ (itemTaken (lane 0), false)
+    ∷ (itemTaken (lane 1), false)
+    ∷ (wentToBack (lane 0), false)
+    ∷ (wentToBack (lane 1), false)
+    ∷ [])
+unfolding computeWords
+finds-none-marked-read = refl
+
+-- items that "go out"
+takes-read :
+    Reads takesItem
+    ((budgetSet, false)
+    ∷ (collected, false)
+    ∷ (noneMarked, false)
+    ∷ (foundEmpty (lane 0), false)
+    ∷ (foundEmpty (lane 1), false)
+    ∷ (itemTaken (lane 0), true)
+    ∷ (itemTaken (lane 1), true)
+    ∷ (wentToBack (lane 0), false)
+    ∷ (wentToBack (lane 1), false)
+    ∷ [])
+unfolding computeWords
+takes-read = refl
+
+-- those that lane 1 "gives"
+takes-of-lane-read :
+    Reads (takesItemOf (lane 1))
+    ((budgetSet, false)
+    ∷ (collected, false)
+    ∷ (noneMarked, false)
+    ∷ (foundEmpty (lane 0), false)
+    ∷ (foundEmpty (lane 1), false)
+    ∷ (itemTaken (lane 0), false)
+    ∷ (itemTaken (lane 1), true)
+    ∷ (wentToBack (lane 0), false)
+    ∷ (wentToBack (lane 1), false)
+    ∷ [])
+unfolding computeWords
+takes-of-lane-read = refl
+
+-- how many there are
 oneOfEach : List Event
 oneOfEach =
     budgetSet ∷ collected ∷ noneMarked
@@ -93,33 +164,40 @@ oneOfEach =
     ∷ wentToBack (lane 0) ∷ wentToBack (lane 1)
     ∷ []
 
--- the words of the sentences on 64 and of the one on signals, for computing with them
-computeWords : Unit {0}
-unfolding lane oneOfEach sameKey collects findsNoneMarked takesItem takesItemOf findsEmpty endsTurnOf countEvents
-computeWords = tt
-
--- "between two collections", and "while a page bit is set"
-collects-read :
-    (map collects oneOfEach ≡ false ∷ true ∷ false ∷ false ∷ false ∷ false ∷ false ∷ false ∷ false ∷ [])
-    × (map findsNoneMarked oneOfEach ≡ false ∷ false ∷ true ∷ false ∷ false ∷ false ∷ false ∷ false ∷ false ∷ [])
-unfolding computeWords
-collects-read = (refl, refl)
-
--- items that "go out", and those that lane 1 "gives"
-takes-read :
-    (map takesItem oneOfEach ≡ false ∷ false ∷ false ∷ false ∷ false ∷ true ∷ true ∷ false ∷ false ∷ [])
-    × (map (takesItemOf (lane 1)) oneOfEach ≡ false ∷ false ∷ false ∷ false ∷ false ∷ false ∷ true ∷ false ∷ false ∷ [])
-    × (countEvents takesItem oneOfEach ≡ 2)
+events-counted :
+    (countEvents takesItem oneOfEach ≡ 2)
     × (countEvents (takesItemOf (lane 1)) oneOfEach ≡ 1)
-unfolding computeWords
-takes-read = (refl, refl, refl, refl)
+unfolding computeWords oneOfEach
+events-counted = (refl, refl)
 
 -- "in one turn at the front": what ends lane 1's
-ends-turn-read : map (endsTurnOf (lane 1)) oneOfEach ≡ false ∷ false ∷ false ∷ false ∷ true ∷ false ∷ false ∷ false ∷ true ∷ []
+ends-turn-read :
+    Reads (endsTurnOf (lane 1))
+    ((budgetSet, false)
+    ∷ (collected, false)
+    ∷ (noneMarked, false)
+    ∷ (foundEmpty (lane 0), false)
+    ∷ (foundEmpty (lane 1), true)
+    ∷ (itemTaken (lane 0), false)
+    ∷ (itemTaken (lane 1), false)
+    ∷ (wentToBack (lane 0), false)
+    ∷ (wentToBack (lane 1), true)
+    ∷ [])
 unfolding computeWords
 ends-turn-read = refl
 
 -- "only when the lane is found empty": which finds lane 1 so
-finds-empty-read : map (findsEmpty (lane 1)) oneOfEach ≡ false ∷ false ∷ false ∷ false ∷ true ∷ false ∷ false ∷ false ∷ false ∷ []
+finds-empty-read :
+    Reads (findsEmpty (lane 1))
+    ((budgetSet, false)
+    ∷ (collected, false)
+    ∷ (noneMarked, false)
+    ∷ (foundEmpty (lane 0), false)
+    ∷ (foundEmpty (lane 1), true)
+    ∷ (itemTaken (lane 0), false)
+    ∷ (itemTaken (lane 1), false)
+    ∷ (wentToBack (lane 0), false)
+    ∷ (wentToBack (lane 1), false)
+    ∷ [])
 unfolding computeWords
 finds-empty-read = refl

@@ -1,8 +1,8 @@
 -- The section "Ready marks", computed: a slot's signal and page bit after calls, and the order of collecting.
 -- Assumes nothing.
-use mathlib.Core.Path.{_≡_, refl}
+use mathlib.Core.Path.{refl}
 use mathlib.Core.Bool.{Bool, true, false}
-use mathlib.Core.List.{List, [], _∷_, map}
+use mathlib.Core.List.{List, [], _∷_}
 use Prim.Native.Nat.{ℕ}
 use lib.Dec.{leb}
 use Rattle.model.specs.declared.LaneKey.{LaneKey}
@@ -18,6 +18,7 @@ use Rattle.model.specs.Runs.{afterList}
 use Rattle.model.specs.Collections.{groupsBefore}
 use Rattle.model.specs.Opening.{openedState}
 use Rattle.model.specs.Rules.{theRules}
+use Rattle.model.specs.Examples.Pairs.{Reads}
 use Rattle.model.specs.Examples.Calls.{compute}
 
 -- ---- signals
@@ -67,29 +68,46 @@ computeSignals = tt
 
 -- "idle to pending sets the page bit"; collecting takes it and leaves the signal pending, over the last item taken and over a further send, until the lane is found empty
 signal-of-lane :
-    map signalAfter ([] ∷ (sends ∷ []) ∷ (sends ∷ plain ∷ []) ∷ (sends ∷ plain ∷ sends ∷ []) ∷ (sends ∷ plain ∷ plain ∷ []) ∷ [])
-    ≡ idle ∷ pendingMarked ∷ pendingTaken ∷ pendingTaken ∷ idle ∷ []
+    Reads signalAfter
+    (([], idle)
+    ∷ (sends ∷ [], pendingMarked)
+    ∷ (sends ∷ plain ∷ [], pendingTaken)
+    ∷ (sends ∷ plain ∷ sends ∷ [], pendingTaken)
+    ∷ (sends ∷ plain ∷ plain ∷ [], idle)
+    ∷ [])
 unfolding computeSignals
 signal-of-lane = refl
 
 -- "a closed lane's signal is kept while its sender lives": pending over the close, a collection, a registration (refusal 9) and poll all, so that the drop sets no page bit
 signal-kept-pending :
-    map (λ calls. signalAfter (sends ∷ closes ∷ calls)) ([] ∷ (plain ∷ []) ∷ (plain ∷ registers ∷ pollsAll ∷ plain ∷ []) ∷ (plain ∷ drops ∷ []) ∷ [])
-    ≡ pendingMarked ∷ pendingTaken ∷ pendingTaken ∷ pendingTaken ∷ []
+    Reads signalAfter
+    ((sends ∷ closes ∷ [], pendingMarked)
+    ∷ (sends ∷ closes ∷ plain ∷ [], pendingTaken)
+    ∷ (sends ∷ closes ∷ plain ∷ registers ∷ pollsAll ∷ plain ∷ [], pendingTaken)
+    ∷ (sends ∷ closes ∷ plain ∷ drops ∷ [], pendingTaken)
+    ∷ [])
 unfolding computeSignals
 signal-kept-pending = refl
 
 -- idle likewise, so that the drop sets it: "Dropping a sender marks its lane"
 signal-kept-idle :
-    map (λ calls. signalAfter (closes ∷ calls)) ([] ∷ (registers ∷ pollsAll ∷ plain ∷ []) ∷ (drops ∷ []) ∷ (drops ∷ plain ∷ []) ∷ [])
-    ≡ idle ∷ idle ∷ pendingMarked ∷ pendingTaken ∷ []
+    Reads signalAfter
+    ((closes ∷ [], idle)
+    ∷ (closes ∷ registers ∷ pollsAll ∷ plain ∷ [], idle)
+    ∷ (closes ∷ drops ∷ [], pendingMarked)
+    ∷ (closes ∷ drops ∷ plain ∷ [], pendingTaken)
+    ∷ [])
 unfolding computeSignals
 signal-kept-idle = refl
 
 -- "A newly registered lane, in a freed slot too, is idle": the page bit of the lane before it stays, and the next collection takes it
 signal-of-next-lane :
-    map (λ calls. signalAfter (sends ∷ closes ∷ drops ∷ calls)) ([] ∷ (registers ∷ []) ∷ (registers ∷ plain ∷ []) ∷ (plain ∷ registers ∷ []) ∷ [])
-    ≡ pendingMarked ∷ idleMarked ∷ idle ∷ idle ∷ []
+    Reads signalAfter
+    ((sends ∷ closes ∷ drops ∷ [], pendingMarked)
+    ∷ (sends ∷ closes ∷ drops ∷ registers ∷ [], idleMarked)
+    ∷ (sends ∷ closes ∷ drops ∷ registers ∷ plain ∷ [], idle)
+    ∷ (sends ∷ closes ∷ drops ∷ plain ∷ registers ∷ [], idle)
+    ∷ [])
 unfolding computeSignals
 signal-of-next-lane = refl
 
@@ -111,12 +129,12 @@ twoGroups l c = record {
   firstGeneration = 0;
 }
 
--- the cursor and the queue after collecting one group, and after collecting all
-oneCollected : List ℕ → ℕ → ℕ × List ℕ
-oneCollected l c = let u = collectReadyGroup (twoGroups l c) in (u .cursor, u .queue)
+-- the slots that are marked and the group cursor before; the cursor and the queue after collecting one group, and after collecting all
+oneCollected : List ℕ × ℕ → ℕ × List ℕ
+oneCollected m = let u = collectReadyGroup (twoGroups (m .0) (m .1)) in (u .cursor, u .queue)
 
-allCollected : List ℕ → ℕ → ℕ × List ℕ
-allCollected l c = let u = collectReady (twoGroups l c) in (u .cursor, u .queue)
+allCollected : List ℕ × ℕ → ℕ × List ℕ
+allCollected m = let u = collectReady (twoGroups (m .0) (m .1)) in (u .cursor, u .queue)
 
 computeCollecting : Unit {0}
 unfolding compute twoGroups oneCollected allCollected
@@ -124,24 +142,51 @@ computeCollecting = tt
 
 -- "Collecting one group stops after the first that had any", "from the group cursor round": the cursor at group 0, at group 1, and past the last
 one-collected :
-    (map (oneCollected (70 ∷ 3 ∷ 4096 ∷ [])) (0 ∷ 1 ∷ 2 ∷ []) ≡ (1, 3 ∷ 70 ∷ []) ∷ (2, 4096 ∷ []) ∷ (1, 3 ∷ 70 ∷ []) ∷ [])
-    × (map (oneCollected (4096 ∷ [])) (0 ∷ 1 ∷ 2 ∷ []) ≡ (2, 4096 ∷ []) ∷ (2, 4096 ∷ []) ∷ (2, 4096 ∷ []) ∷ [])
-    × (map (oneCollected (3 ∷ [])) (0 ∷ 1 ∷ 2 ∷ []) ≡ (1, 3 ∷ []) ∷ (1, 3 ∷ []) ∷ (1, 3 ∷ []) ∷ [])
-    × (map (oneCollected []) (0 ∷ 1 ∷ 2 ∷ []) ≡ (0, []) ∷ (1, []) ∷ (2, []) ∷ [])
+    Reads oneCollected
+    (((70 ∷ 3 ∷ 4096 ∷ [], 0), (1, 3 ∷ 70 ∷ []))
+    ∷ ((70 ∷ 3 ∷ 4096 ∷ [], 1), (2, 4096 ∷ []))
+    ∷ ((70 ∷ 3 ∷ 4096 ∷ [], 2), (1, 3 ∷ 70 ∷ []))
+    ∷ ((4096 ∷ [], 0), (2, 4096 ∷ []))
+    ∷ ((4096 ∷ [], 1), (2, 4096 ∷ []))
+    ∷ ((4096 ∷ [], 2), (2, 4096 ∷ []))
+    ∷ ((3 ∷ [], 0), (1, 3 ∷ []))
+    ∷ ((3 ∷ [], 1), (1, 3 ∷ []))
+    ∷ ((3 ∷ [], 2), (1, 3 ∷ []))
+    ∷ (([], 0), (0, []))
+    ∷ (([], 1), (1, []))
+    ∷ (([], 2), (2, []))
+    ∷ [])
 unfolding computeCollecting
-one-collected = (refl, refl, refl, refl)
+one-collected = refl
 
 -- "The cursor then stands just after the last group that had bits", of all groups too
 all-collected :
-    (map (allCollected (70 ∷ 3 ∷ 4096 ∷ [])) (0 ∷ 1 ∷ 2 ∷ []) ≡ (2, 3 ∷ 70 ∷ 4096 ∷ []) ∷ (1, 4096 ∷ 3 ∷ 70 ∷ []) ∷ (2, 3 ∷ 70 ∷ 4096 ∷ []) ∷ [])
-    × (map (allCollected (3 ∷ [])) (0 ∷ 1 ∷ 2 ∷ []) ≡ (1, 3 ∷ []) ∷ (1, 3 ∷ []) ∷ (1, 3 ∷ []) ∷ [])
-    × (map (allCollected []) (0 ∷ 1 ∷ 2 ∷ []) ≡ (0, []) ∷ (1, []) ∷ (2, []) ∷ [])
+    Reads allCollected
+    (((70 ∷ 3 ∷ 4096 ∷ [], 0), (2, 3 ∷ 70 ∷ 4096 ∷ []))
+    ∷ ((70 ∷ 3 ∷ 4096 ∷ [], 1), (1, 4096 ∷ 3 ∷ 70 ∷ []))
+    ∷ ((70 ∷ 3 ∷ 4096 ∷ [], 2), (2, 3 ∷ 70 ∷ 4096 ∷ []))
+    ∷ ((3 ∷ [], 0), (1, 3 ∷ []))
+    ∷ ((3 ∷ [], 1), (1, 3 ∷ []))
+    ∷ ((3 ∷ [], 2), (1, 3 ∷ []))
+    ∷ (([], 0), (0, []))
+    ∷ (([], 1), (1, []))
+    ∷ (([], 2), (2, []))
+    ∷ [])
 unfolding computeCollecting
-all-collected = (refl, refl, refl)
+all-collected = refl
 
--- the way round: how many groups come before group 0 and before group 1, with the cursor at group 0, at group 1, and past the last
+-- the way round, from the cursor at group 0, at group 1, and past the last: the cursor, a group, and how many groups come before it
+groupsBeforeIt : ℕ × ℕ → ℕ
+groupsBeforeIt c = groupsBefore (twoGroups [] (c .0)) (c .1)
+
 groups-before-read :
-    map (λ c. map (groupsBefore (twoGroups [] c)) (0 ∷ 1 ∷ [])) (0 ∷ 1 ∷ 2 ∷ [])
-    ≡ (0 ∷ 1 ∷ []) ∷ (1 ∷ 0 ∷ []) ∷ (0 ∷ 1 ∷ []) ∷ []
-unfolding computeCollecting groupsBefore
+    Reads groupsBeforeIt
+    (((0, 0), 0)
+    ∷ ((0, 1), 1)
+    ∷ ((1, 0), 1)
+    ∷ ((1, 1), 0)
+    ∷ ((2, 0), 0)
+    ∷ ((2, 1), 1)
+    ∷ [])
+unfolding computeCollecting groupsBefore groupsBeforeIt
 groups-before-read = refl

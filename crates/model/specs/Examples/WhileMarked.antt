@@ -1,0 +1,58 @@
+-- From a point at which a page bit is set to the next collection, computed: which events are meant, and a run in which 64 of them are items, the most there can be.
+-- Assumes nothing.
+use mathlib.Core.Path.{_≡_, refl}
+use mathlib.Core.Bool.{true}
+use mathlib.Core.List.{List, [], _∷_, _++_}
+use Prim.Native.Nat.{ℕ}
+use Rattle.model.specs.declared.LaneId.{LaneId}
+use Rattle.model.specs.declared.ControlCall.the-variants.{Pause, Resume}
+use Rattle.model.specs.declared.Call.the-variants.{Control}
+use Rattle.model.specs.State.{State}
+use Rattle.model.specs.Runs.{afterList}
+use Rattle.model.specs.Receive.{takeUpTo}
+use Rattle.model.specs.Opening.{openingOutcome}
+use Rattle.model.specs.Rules.{theRules}
+use Rattle.model.specs.Viewed.{rulesViewed}
+use Rattle.model.specs.Events.{budgetSet, collected, noneMarked, itemTaken, wentToBack, anyMarked, takeUpToEvents, eventsFrom, collects, findsNoneMarked}
+use Rattle.model.specs.WhileMarked.{untilCollected}
+use Rattle.model.specs.Examples.Pairs.{Reads}
+use Rattle.model.specs.Examples.Events.{twoSlots, lent, lane, repeat, registers, sends, plain, computeEvents}
+
+-- the events before the first that collects
+until-collected-read :
+    Reads untilCollected
+    (([], [])
+    ∷ (collected ∷ itemTaken (lane 0) ∷ [], [])
+    ∷ (itemTaken (lane 0) ∷ collected ∷ itemTaken (lane 1) ∷ [], itemTaken (lane 0) ∷ [])
+    ∷ (noneMarked ∷ budgetSet ∷ itemTaken (lane 0) ∷ collected ∷ collected ∷ [], noneMarked ∷ budgetSet ∷ itemTaken (lane 0) ∷ [])
+    ∷ (itemTaken (lane 0) ∷ wentToBack (lane 0) ∷ [], itemTaken (lane 0) ∷ wentToBack (lane 0) ∷ [])
+    ∷ [])
+unfolding lane untilCollected collects findsNoneMarked
+until-collected-read = refl
+
+laneId : ℕ → LaneId
+laneId x = record { channel = 7; key = lane x }
+
+-- lane 0 has 66 items and is queued by a pause and a resume, with a budget of 64; then lane 1 is sent an item, which sets its page bit
+point : State
+point =
+    afterList theRules ((openingOutcome twoSlots lent) .1 .1)
+    (registers ∷ registers ∷ repeat 66 (sends 0) ++ (Control (Pause (laneId 0)) ∷ Control (Resume (laneId 0)) ∷ sends 1 ∷ []))
+
+computePoint : Unit {0}
+unfolding computeEvents laneId point eventsFrom untilCollected collects findsNoneMarked
+computePoint = tt
+
+point-marked : anyMarked point ≡ true
+unfolding computePoint
+point-marked = refl
+
+-- 64 items go out, and the 65th plain receive collects first
+most-met : untilCollected (eventsFrom rulesViewed point (repeat 65 plain)) ≡ repeat 64 (itemTaken (lane 0)) ++ (wentToBack (lane 0) ∷ [])
+unfolding computePoint
+most-met = refl
+
+-- in a batch of 66, from between its second and third item on: 62 go out
+most-met-in-batch : untilCollected (takeUpToEvents 64 ((takeUpTo 2 point) .1)) ≡ repeat 62 (itemTaken (lane 0)) ++ (wentToBack (lane 0) ∷ [])
+unfolding computePoint
+most-met-in-batch = refl
