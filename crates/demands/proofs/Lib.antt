@@ -6,6 +6,7 @@ pub mod Ahead
 pub mod WaitInReceive
 pub mod Moves
 pub mod Opened
+pub mod Points
 pub mod MovesKeepOrder
 pub mod LedgerLaws
 pub mod StretchBounds
@@ -40,3 +41,5 @@ pub mod PollLoop
 pub mod FoundEmpty
 pub mod IdleWhenEmpty
 pub mod ClosedSignal
+pub mod Wake
+pub mod Keys

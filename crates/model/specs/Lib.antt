@@ -30,3 +30,5 @@ pub mod ShutOut
 pub mod PollLoop
 pub mod Signals
 pub mod Examples
+pub mod Wake
+pub mod Keys
