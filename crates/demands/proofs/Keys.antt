@@ -1,29 +1,26 @@
 -- No key is answered again, and the issued slots are those of the answered keys: a key stands once in the ledger, which has an entry for each answer.
 -- Assumes nothing.
-use mathlib.Core.Path.{_≡_, refl, ap, sym, _∙_, subst}
+use mathlib.Core.Path.{_≡_, refl, ap, sym, subst}
 use mathlib.Core.Bool.{Bool, true, false}
-use mathlib.Core.List.{List, [], _∷_, _++_, map, append-nil}
+use mathlib.Core.List.{List, [], _∷_, append-nil}
 use Prim.Native.Nat.{ℕ, _+_, _≤_, _<_}
 use native.Mathlib.Omega.{arith}
 use lib.Dec.{eqb}
-use borrow.Author.Tests.{eqb-true}
 use Rattle.model.specs.declared.LaneKey.{LaneKey}
-use Rattle.model.specs.declared.Opening.{Opening}
 use Rattle.model.specs.declared.SenderCall.the-variants.{RegisterSender, TrySend, TrySendUnsignaled, DropSender}
 use Rattle.model.specs.declared.ControlCall.the-variants.{Pause, Resume, CloseLane, ReleaseConsumed, PollAllLanes, CloseReceiver, CountHeld}
 use Rattle.model.specs.declared.Call.{Call}
 use Rattle.model.specs.declared.Call.the-variants.{Sender, Receive, Control}
-use Rattle.model.specs.declared.Answer.{Answer}
 use Rattle.model.specs.declared.Answer.the-variants.{Done, Registered, Taken, Item, Items, Empty, Disconnected, Held, Refused}
 use Rattle.model.specs.Lists.{if, count}
 use Rattle.model.specs.State.{State}
 use Rattle.model.specs.Runs.{sameKey, accepted, Tick, gives, ends, trace, afterList, countTicks}
-use Rattle.model.specs.Opening.{openedState, openingOutcome}
+use Rattle.model.specs.Opening.{openingOutcome}
 use Rattle.model.specs.Rules.{theRules}
 use Rattle.model.specs.Order.{Ordered}
-use Rattle.model.specs.Ledger.{Lane, Ledger, atOpening, changeLane, addItem, removeOldest, setPaused, setClosed, setDropped, addRegistered, applyCall, note, ledgerAfter}
+use Rattle.model.specs.Ledger.{Lane, Ledger, atOpening, changeLane, removeOldest, addRegistered, applyCall, note, ledgerAfter}
 use Rattle.model.specs.Keys.{registersAs, answersKeyThat, answersKey, answersSlot, KeysNeverAgainIn, KeysNeverAgain, SlotsAnswered, IssuedAsAnsweredIn, IssuedAsAnswered}
-use Rattle.demands.proofs.Counting.{Same, equal, other, same?, self, no}
+use Rattle.demands.proofs.Counting.{Same, equal, other, same?}
 use Rattle.demands.proofs.OrderKept.{first-own}
 use Rattle.demands.proofs.Moves.{Moves, stays-put, credits, registers-new, registers-old, sends, posts, drops-it, pauses-it, resumes, resumes-not, closes-it, polls-all, shuts-it, takes, stops, aims, aims-none, Chain, stay, move, trace-chain}
 use Rattle.demands.proofs.Opened.{opened-ordered}

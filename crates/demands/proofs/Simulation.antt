@@ -22,6 +22,8 @@ use Rattle.model.specs.Demand2.{Demand2In, Demand2, shuts, values, outOf, into,
 use Rattle.model.specs.Demand3.{Demand3In, Demand3}
 use Rattle.model.specs.Closed.{NoneAfterCloseIn, NoneAfterClose}
 use Rattle.model.specs.Held.{HeldAsCountedIn, HeldAsCounted}
+use Rattle.model.specs.Wake.{NoLostWakeIn, NoLostWake}
+use Rattle.model.specs.Keys.{KeysNeverAgainIn, KeysNeverAgain, IssuedAsAnsweredIn, IssuedAsAnswered}
 use Rattle.model.specs.Simulation.{numbersOfOpening, numbersOfCall, Fits, OpeningFits, CallFits, runsThatFit, Simulation}
 use Rattle.demands.proofs.Demand2.{demand2}
 use Rattle.demands.proofs.Demand3.{demand3}
@@ -29,6 +31,8 @@ use Rattle.demands.proofs.Closed.{none-after-close}
 use Rattle.demands.proofs.InOrder.{call-keeps-order, opening-in-order}
 use Rattle.demands.proofs.Held.{held-as-counted}
 use Rattle.demands.proofs.HandsAsAnswered.{hands-as-answered}
+use Rattle.demands.proofs.Wake.{no-lost-wake}
+use Rattle.demands.proofs.Keys.{keys-never-again, issued-as-answered}
 
 -- two states are equal if their parts are, the slots one by one
 pub state-path : (s u : State) → ((y : ℕ) → s .slotOf y ≡ u .slotOf y) → s .queue ≡ u .queue → s .free ≡ u .free → s .issued ≡ u .issued → s .budget ≡ u .budget → s .cursor ≡ u .cursor
@@ -170,3 +174,30 @@ replayed-run-fits = (
   (omega arith, (omega arith, (omega arith, (omega arith, (omega arith, (omega arith, (omega arith, tt))))))),
   ((omega arith, tt), ((omega arith, (omega arith, (omega arith, tt))), (tt, (tt, ((omega arith, (omega arith, tt)), (tt, tt)))))),
 )
+
+-- ---- what is claimed beside the demands
+
+module _ (R S : Rules) (sim : Simulation R S) where
+  transfer-wake : NoLostWake S → NoLostWakeIn R (runsThatFit R)
+  unfolding NoLostWake NoLostWakeIn runsThatFit
+  transfer-wake h o w d calls f before asleep rest c a t e =
+      h o (sim .lent w) (accepted-too R S sim o w (f .0) d) calls tt before asleep rest c a t (sym (opened-trace R S sim o w (f .0) d calls (f .1)) ∙ e)
+
+  transfer-keys : KeysNeverAgain S → KeysNeverAgainIn R (runsThatFit R)
+  unfolding KeysNeverAgain KeysNeverAgainIn runsThatFit
+  transfer-keys h o w d calls f before rest c k e =
+      h o (sim .lent w) (accepted-too R S sim o w (f .0) d) calls tt before rest c k (sym (opened-trace R S sim o w (f .0) d calls (f .1)) ∙ e)
+
+  transfer-issued : (issuedOf : S .State → ℕ) → IssuedAsAnswered S issuedOf → IssuedAsAnsweredIn R (runsThatFit R) (λ x. issuedOf (sim .view x))
+  unfolding IssuedAsAnswered IssuedAsAnsweredIn runsThatFit
+  transfer-issued issuedOf h o w d calls f =
+      rw (opened-trace R S sim o w (f .0) d calls (f .1), opened-after R S sim o w (f .0) d calls (f .1)) (h o (sim .lent w) (accepted-too R S sim o w (f .0) d) calls tt)
+
+pub words-no-lost-wake : (R : Rules) → Simulation R theRules → NoLostWakeIn R (runsThatFit R)
+words-no-lost-wake R sim = transfer-wake R theRules sim no-lost-wake
+
+pub words-keys-never-again : (R : Rules) → Simulation R theRules → KeysNeverAgainIn R (runsThatFit R)
+words-keys-never-again R sim = transfer-keys R theRules sim keys-never-again
+
+pub words-issued-as-answered : (R : Rules) (sim : Simulation R theRules) → IssuedAsAnsweredIn R (runsThatFit R) (λ w. sim .view w .issued)
+words-issued-as-answered R sim = transfer-issued R theRules sim (λ s. s .issued) issued-as-answered

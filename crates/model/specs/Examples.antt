@@ -7,3 +7,5 @@ pub mod Events
 pub mod Held
 pub mod BoundMet
 pub mod Stretch
+pub mod Wake
+pub mod Keys

@@ -16,7 +16,7 @@ use Rattle.model.specs.declared.Answer.{Answer}
 use Rattle.model.specs.declared.Answer.the-variants.{Done, Registered, Taken, Item, Items, Empty, Disconnected, Held, Refused}
 use Rattle.model.specs.Lists.{if, both, either}
 use Rattle.model.specs.Runs.{Rules, RunsOf, allRuns, accepted, Tick, gives, ends, trace, sameKey, countTicks}
-use Rattle.model.specs.Ledger.{Lane, Ledger, atOpening, ledgerAfter}
+use Rattle.model.specs.Ledger.{Lane, atOpening, ledgerAfter}
 use Rattle.model.specs.Stretch.{looksInVain}
 
 -- "fewer items than its limit"
