@@ -1,5 +1,6 @@
 -- The rules, and the words of the claims about them, computed on small cases that can be checked by eye.
 -- Assumes nothing.
+pub mod Pairs
 pub mod Answers
 pub mod Calls
 pub mod Ready

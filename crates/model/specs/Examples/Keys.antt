@@ -2,7 +2,7 @@
 -- Assumes nothing.
 use mathlib.Core.Path.{_≡_, refl}
 use mathlib.Core.Bool.{Bool, true, false}
-use mathlib.Core.List.{List, [], _∷_, map}
+use mathlib.Core.List.{List, [], _∷_}
 use Prim.Native.Nat.{ℕ}
 use Rattle.model.specs.declared.LaneKey.{LaneKey}
 use Rattle.model.specs.declared.LaneId.{LaneId}
@@ -18,6 +18,7 @@ use Rattle.model.specs.Opening.{openedState}
 use Rattle.model.specs.Rules.{theRules}
 use Rattle.model.specs.Ledger.{atOpening, changeLane, addItem, removeOldest, setPaused, setClosed, setDropped, addRegistered, applyCall, note, ledgerAfter}
 use Rattle.model.specs.Keys.{registersAs, answersKeyThat, answersKey, answersSlot}
+use Rattle.model.specs.Examples.Pairs.{Reads}
 use Rattle.model.specs.Examples.Calls.{compute}
 
 key : ℕ → ℕ → LaneKey
@@ -40,9 +41,9 @@ unfolding compute key id registers drops plain accepted handed ticks trace after
 computeKeys = tt
 
 -- whether key (1, 2) is answered, and whether a key of slot 1 is
-answers : List (Tick × (Bool × Bool))
-answers =
-    (ends registers (Registered (key 1 2)), (true, true))
+answers-read :
+    Reads {B = Bool × Bool} (λ t. (answersKey (key 1 2) t, answersSlot 1 t))
+    ((ends registers (Registered (key 1 2)), (true, true))
     ∷ (ends registers (Registered (key 1 3)), (false, true))
     ∷ (ends registers (Registered (key 2 2)), (false, false))
     ∷ (ends registers (Refused NoFreeSlot), (false, false))
@@ -54,10 +55,8 @@ answers =
     ∷ (ends (Receive (TryRecvBatchInto 1 1)) (Items 1), (false, false))
     ∷ (ends (Control CountHeld) (Held 1), (false, false))
     ∷ (gives TryRecv (key 1 2) 5, (false, false))
-    ∷ []
-
-answers-read : map (λ e. (answersKey (key 1 2) (e .0), answersSlot 1 (e .0))) answers ≡ map (λ e. e .1) answers
-unfolding computeKeys answers
+    ∷ [])
+unfolding computeKeys
 answers-read = refl
 
 -- Three slots, first generation 4; slots 0 and 1 are registered, 0 is retired, issued again and retired again, and issued a third time.
@@ -68,32 +67,31 @@ run : List Tick
 run = trace theRules (openedState record { capacity = 4; slots = 3; channel = 7; cursor = 0; generation = 4 }) calls
 
 -- how often each key was answered
-keysAnswered : List (LaneKey × ℕ)
-keysAnswered =
-    (key 0 4, 1)
+keys-answered-read :
+    Reads (λ k. countTicks (answersKey k) run)
+    ((key 0 4, 1)
     ∷ (key 1 4, 1)
     ∷ (key 0 5, 1)
     ∷ (key 0 6, 1)
     ∷ (key 0 7, 0)
     ∷ (key 1 5, 0)
     ∷ (key 2 4, 0)
-    ∷ []
-
-keys-answered-read : map (λ e. countTicks (answersKey (e .0)) run) keysAnswered ≡ map (λ e. e .1) keysAnswered
-unfolding computeKeys calls run keysAnswered
+    ∷ [])
+unfolding computeKeys calls run
 keys-answered-read = refl
 
 -- how often a key of each slot was answered: of those below the number issued, which is 2 by the state and by the ledger
-slotsAnswered : List (ℕ × ℕ)
-slotsAnswered =
-    (0, 3)
+slots-answered-read :
+    Reads (λ x. countTicks (answersSlot x) run)
+    ((0, 3)
     ∷ (1, 1)
     ∷ (2, 0)
-    ∷ []
+    ∷ [])
+unfolding computeKeys calls run
+slots-answered-read = refl
 
-slots-answered-read :
-    (map (λ e. countTicks (answersSlot (e .0)) run) slotsAnswered ≡ map (λ e. e .1) slotsAnswered)
-    × ((afterList theRules (openedState record { capacity = 4; slots = 3; channel = 7; cursor = 0; generation = 4 }) calls) .issued ≡ 2)
+issued-read :
+    ((afterList theRules (openedState record { capacity = 4; slots = 3; channel = 7; cursor = 0; generation = 4 }) calls) .issued ≡ 2)
     × ((ledgerAfter atOpening run) .issued ≡ 2)
-unfolding computeKeys calls run slotsAnswered
-slots-answered-read = (refl, refl, refl)
+unfolding computeKeys calls run
+issued-read = (refl, refl)

@@ -3,7 +3,7 @@
 -- Assumes nothing.
 use mathlib.Core.Path.{_≡_, refl}
 use mathlib.Core.Bool.{Bool, true, false}
-use mathlib.Core.List.{List, [], _∷_, map}
+use mathlib.Core.List.{List, [], _∷_}
 use Prim.Native.Nat.{ℕ}
 use Rattle.model.specs.declared.LaneKey.{LaneKey}
 use Rattle.model.specs.declared.LaneId.{LaneId}
@@ -16,12 +16,13 @@ use Rattle.model.specs.declared.Refusal.the-variants.{ReceiverClosed, At
 use Rattle.model.specs.declared.Answer.{Answer}
 use Rattle.model.specs.declared.Answer.the-variants.{Done, Registered, Taken, Item, Items, Empty, Disconnected, Held, Refused}
 use Rattle.model.specs.State.{State}
-use Rattle.model.specs.Runs.{accepted, Tick, gives, ends, sameKey}
+use Rattle.model.specs.Runs.{accepted, gives, ends, sameKey}
 use Rattle.model.specs.Opening.{openedState}
 use Rattle.model.specs.Rules.{outcome}
 use Rattle.model.specs.Ledger.{atOpening, changeLane, addItem, removeOldest, setPaused, setClosed, setDropped, addRegistered, applyCall, note, ledgerAfter}
 use Rattle.model.specs.Stretch.{looks, findsNothing, looksInVain}
 use Rattle.model.specs.Wake.{itemsBelow, belowLimit, maySleep, whileAsleep, endsSleep, sendsTo, saysWoken, wakes, pausedIn}
+use Rattle.model.specs.Examples.Pairs.{Reads}
 use Rattle.model.specs.Examples.Calls.{compute}
 
 -- the key of slot x's lane with generation g
@@ -74,9 +75,9 @@ computeWake = tt
 
 -- ---- after which answers a receiver may sleep
 
-sleeps : List ((Call × Answer) × Bool)
-sleeps =
-    ((plain, Empty), true)
+sleeps-read :
+    Reads {A = Call × Answer} (λ e. maySleep (e .0) (e .1))
+    (((plain, Empty), true)
     ∷ ((plain, Disconnected), true)
     ∷ ((plain, Item 5 (id 0)), false)
     ∷ ((plain, Refused ReceiverClosed), false)
@@ -101,17 +102,15 @@ sleeps =
     ∷ ((drops 0, Done), false)
     ∷ ((Control PollAllLanes, Done), false)
     ∷ ((held, Held 0), false)
-    ∷ []
-
-sleeps-read : map (λ e. maySleep (e .0 .0) (e .0 .1)) sleeps ≡ map (λ e. e .1) sleeps
-unfolding computeWake sleeps
+    ∷ [])
+unfolding computeWake
 sleeps-read = refl
 
 -- ---- what ends the sleep, and what does not
 
-sleepEnds : List (Tick × Bool)
-sleepEnds =
-    (ends registers (Registered (key 0 0)), false)
+sleep-ends-read :
+    Reads endsSleep
+    ((ends registers (Registered (key 0 0)), false)
     ∷ (ends registers (Refused AtCapacity), false)
     ∷ (ends (sends 0) (Taken true), false)
     ∷ (ends (sends 0) (Refused Full), false)
@@ -131,17 +130,15 @@ sleepEnds =
     ∷ (ends (Control PollAllLanes) Done, true)
     ∷ (ends (Control CloseReceiver) Done, true)
     ∷ (gives TryRecv (key 0 0) 5, true)
-    ∷ []
-
-sleep-ends-read : map (λ e. endsSleep (e .0)) sleepEnds ≡ map (λ e. e .1) sleepEnds
-unfolding computeWake sleepEnds
+    ∷ [])
+unfolding computeWake
 sleep-ends-read = refl
 
 -- ---- an accepted ordinary send to lane 1, and whether it answers woken 1
 
-sentToOne : List (Tick × (Bool × Bool))
-sentToOne =
-    (ends (sends 1) (Taken true), (true, true))
+sent-to-one-read :
+    Reads {B = Bool × Bool} (λ t. (sendsTo (key 1 0) t, wakes t))
+    ((ends (sends 1) (Taken true), (true, true))
     ∷ (ends (sends 1) (Taken false), (true, false))
     ∷ (ends (sends 1) (Refused Full), (false, false))
     ∷ (ends (sends 0) (Taken true), (false, true))
@@ -152,17 +149,15 @@ sentToOne =
     ∷ (ends plain Empty, (false, false))
     ∷ (ends held (Held 1), (false, false))
     ∷ (gives TryRecv (key 1 0) 5, (false, false))
-    ∷ []
-
-sent-to-one-read : map (λ e. (sendsTo (key 1 0) (e .0), wakes (e .0))) sentToOne ≡ map (λ e. e .1) sentToOne
-unfolding computeWake sentToOne
+    ∷ [])
+unfolding computeWake
 sent-to-one-read = refl
 
 -- ---- whether lane 1 is paused, after lanes 0 and 1 were registered and then this happened
 
-pausedOne : List (List Tick × Bool)
-pausedOne =
-    ([], false)
+paused-one-read :
+    Reads (λ ts. pausedIn (key 1 0) ((ledgerAfter atOpening (ends registers (Registered (key 0 0)) ∷ ends registers (Registered (key 1 0)) ∷ ts)) .lanes))
+    (([], false)
     ∷ (ends (pauses 1) Done ∷ [], true)
     ∷ (ends (pauses 1) (Refused NoSuchLane) ∷ [], false)
     ∷ (ends (pauses 0) Done ∷ [], false)
@@ -171,10 +166,8 @@ pausedOne =
     ∷ (ends (pauses 1) Done ∷ ends (resumes 0) Done ∷ [], true)
     ∷ (ends (pauses 1) Done ∷ ends (sends 1) (Taken true) ∷ ends (drops 1) Done ∷ [], true)
     ∷ (ends registers (Registered (key 1 1)) ∷ ends (Control (Pause record { channel = 7; key = key 1 1 })) Done ∷ [], false)
-    ∷ []
-
-paused-one-read : map (λ e. pausedIn (key 1 0) ((ledgerAfter atOpening (ends registers (Registered (key 0 0)) ∷ ends registers (Registered (key 1 0)) ∷ e .0)) .lanes)) pausedOne ≡ map (λ e. e .1) pausedOne
-unfolding computeWake pausedOne
+    ∷ [])
+unfolding computeWake
 paused-one-read = refl
 
 -- a lane that is registered later is not paused
@@ -193,9 +186,9 @@ answered : List Call → Answer
 answered calls = lastAnswer (openedState record { capacity = 2; slots = 3; channel = 7; cursor = 0; generation = 0 }) registers calls
 
 -- the receiver may sleep, and the next ordinary send to an unpaused lane wakes it
-woken : List (List Call × Answer)
-woken =
-    (plain ∷ sends 0 ∷ [], Taken true)
+woken-read :
+    Reads answered
+    ((plain ∷ sends 0 ∷ [], Taken true)
     ∷ (fair ∷ sends 0 ∷ [], Taken true)
     ∷ (batch 1 ∷ sends 0 ∷ [], Taken true)
     ∷ (drops 0 ∷ plain ∷ registers ∷ Sender (TrySend (key 0 1) 5) ∷ [], Taken true)
@@ -213,17 +206,15 @@ woken =
     ∷ (closes 0 ∷ plain ∷ drops 0 ∷ registers ∷ Sender (TrySend (key 0 1) 5) ∷ [], Taken true)
     -- and of each lane the first
     ∷ (registers ∷ plain ∷ sends 0 ∷ sends 1 ∷ [], Taken true)
-    ∷ []
-
-woken-read : map (λ e. answered (e .0)) woken ≡ map (λ e. e .1) woken
-unfolding computeWake woken lastAnswer answered
+    ∷ [])
+unfolding computeWake lastAnswer answered
 woken-read = refl
 
 -- where a word less were asked for, the next send to the lane need not wake
-unwoken : List (List Call × Answer)
-unwoken =
+unwoken-read :
+    Reads answered
     -- no look at all; a single item; a batch that reached its limit; one of limit 0; a targeted receive that answered Empty
-    (sends 0 ∷ sends 0 ∷ [], Taken false)
+    ((sends 0 ∷ sends 0 ∷ [], Taken false)
     ∷ (sends 0 ∷ plain ∷ sends 0 ∷ [], Taken false)
     ∷ (sends 0 ∷ fair ∷ sends 0 ∷ [], Taken false)
     ∷ (sends 0 ∷ batch 1 ∷ sends 0 ∷ [], Taken false)
@@ -236,8 +227,6 @@ unwoken =
     -- an unsignalled send, and a drop
     ∷ (plain ∷ unsignalled 0 ∷ [], Taken false)
     ∷ (plain ∷ drops 0 ∷ [], Done)
-    ∷ []
-
-unwoken-read : map (λ e. answered (e .0)) unwoken ≡ map (λ e. e .1) unwoken
-unfolding computeWake unwoken lastAnswer answered
+    ∷ [])
+unfolding computeWake lastAnswer answered
 unwoken-read = refl
