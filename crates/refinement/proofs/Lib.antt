@@ -35,3 +35,4 @@ pub mod SlotsSeen
 pub mod DisconnectedOnWords
 pub mod FirstCursorKept
 pub mod RulesKept
+pub mod AsRules

@@ -3,3 +3,4 @@ pub mod Runs
 pub mod Demands
 pub mod DisconnectedOnWords
 pub mod RulesOnWords
+pub mod AsRules

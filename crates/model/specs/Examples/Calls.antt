@@ -1,11 +1,12 @@
 -- Document 01's examples about runs, those marked P and more, in one table: one computed test, one law.
 -- Assumes nothing.
 use mathlib.Core.Path.{_≡_, refl, ap}
-use mathlib.Core.Bool.{true, false}
+use mathlib.Core.Bool.{Bool, true, false}
 use mathlib.Core.List.{List, [], _∷_, _++_, map, tail}
 use Prim.Native.Nat.{ℕ, zero, suc, _<_}
 use native.Mathlib.Omega.{arith}
 use lib.ListN.{length, getD}
+use lib.Dec.{leb}
 use Rattle.model.specs.declared.LaneKey.{LaneKey}
 use Rattle.model.specs.declared.LaneId.{LaneId}
 use Rattle.model.specs.declared.Opening.{Opening}
@@ -17,7 +18,7 @@ use Rattle.model.specs.declared.Call.the-variants.{Sender, Receive, Cont
 use Rattle.model.specs.declared.Refusal.the-variants.{CapacityOutOfRange, SlotsOutOfRange, RingStoreShort, TableStoreShort, ReceiverClosed, AtCapacity, NoFreeSlot, OlderSenderLives, NoSuchSender, LaneClosed, Full, OutputShort, NoSuchLane}
 use Rattle.model.specs.declared.Answer.{Answer}
 use Rattle.model.specs.declared.Answer.the-variants.{Done, Registered, Taken, Item, Items, Empty, Disconnected, Held, Refused}
-use Rattle.model.specs.Lists.{same, count, keep, without, from, total}
+use Rattle.model.specs.Lists.{both, same, count, keep, without, from, total}
 use Rattle.model.specs.State.{vacant, mayQueue, registeredLanes, livingSenders, senderLives, hasLane, hasLaneId, isFull, releaseBatch, ringOf}
 use Rattle.model.specs.Ready.{groupOf, groupsIn, marks, isReady, collectMarks, collectGroup, startGroup, groupsRound, collectFirst, collectEach, collectReadyGroup, collectReady}
 use Rattle.model.specs.Turn.{retireLane, retireLaneIf, settleEmpty, refill, beforeNextTurn, runDownFrom, runDown, unreleasedAfterOne, giveItem, giveOldest, giveFront, collectIfDue, collectIfNoneQueued, polled, takeOne, takeFair}
@@ -443,6 +444,14 @@ table =
 pub table-computed : map found table ≡ map expected table
 unfolding compute answers afterList found expected openingOf keyAt idOn idAt registers sends sendsUnsignalled drops plain fair batch targeted pauses resumes closes pollsAll held lane gave repeat table
 table-computed = refl
+
+-- an opening takes the sizes of each row: "1 to 65,536", "1 to 8,192"
+unfoldable pub sizesTaken : Example → Bool
+sizesTaken e = both (both (leb 1 (e .capacity)) (leb (e .capacity) 65536)) (both (leb 1 (e .slots)) (leb (e .slots) 8192))
+
+pub sizes-computed : map sizesTaken table ≡ map (λ e. true) table
+unfolding sizesTaken table
+sizes-computed = refl
 
 -- the law: at each row
 row : ℕ → Example
