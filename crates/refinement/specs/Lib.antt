@@ -1,6 +1,6 @@
 pub mod Hands
 pub mod Runs
+pub mod AsRules
 pub mod Demands
 pub mod DisconnectedOnWords
 pub mod RulesOnWords
-pub mod AsRules
