@@ -3,7 +3,7 @@
 use mathlib.Core.Path.{_≡_, refl, ap, sym, _∙_}
 use mathlib.Core.Bool.{Bool, true, false}
 use mathlib.Core.Option.{some}
-use mathlib.Core.List.{List, [], _∷_, _++_, map, tail}
+use mathlib.Core.List.{List, [], _∷_, append-nil}
 use Prim.Native.Nat.{ℕ, zero, suc, _+_, _≤_, _<_}
 use native.Mathlib.Omega.{arith}
 use lib.ListN.{length, length-map}
@@ -11,17 +11,14 @@ use borrow.Author.Tests.{ne-eqb}
 use lib.Dec.{eqb, leb}
 use Rattle.model.specs.declared.LaneKey.{LaneKey}
 use Rattle.model.specs.declared.Opening.{Opening}
-use Rattle.model.specs.declared.ReceiveCall.{ReceiveCall}
-use Rattle.model.specs.declared.ControlCall.the-variants.{Pause, Resume, CloseLane, ReleaseConsumed, PollAllLanes, CloseReceiver, CountHeld}
-use Rattle.model.specs.declared.Call.{Call}
-use Rattle.model.specs.declared.Call.the-variants.{Sender, Receive, Control}
-use Rattle.model.specs.declared.Answer.{Answer}
+use Rattle.model.specs.declared.ControlCall.the-variants.{CountHeld}
+use Rattle.model.specs.declared.Call.the-variants.{Control}
 use Rattle.model.specs.declared.Answer.the-variants.{Held}
 use Rattle.model.specs.Lists.{if, either, count, from, without, total}
 use Rattle.model.specs.State.{Slot, State, mayQueue, keyOf}
 use Rattle.model.specs.Changes.{withQueue, put, newLane, signalled, pushed, senderDropped, popped, withPaused, credited, retired}
 use Rattle.model.specs.Turn.{retireLane, unreleasedAfterOne, giveItem}
-use Rattle.model.specs.Runs.{accepted, Tick, gives, ends, handed, ticks, trace, countTicks}
+use Rattle.model.specs.Runs.{accepted, Tick, handed, trace, afterList}
 use Rattle.model.specs.Receive.{queueLaneIf}
 use Rattle.model.specs.Control.{controlOutcome, countHeld}
 use Rattle.model.specs.Opening.{openedState, openingOutcome}
@@ -33,9 +30,10 @@ use Rattle.demands.proofs.Counting.{Same, equal, other, same?, self}
 use Rattle.demands.proofs.Totals.{sumOf, total-keep, sum-same, sum-but, sum-more}
 use Rattle.demands.proofs.OrderKept.{first-own, front-registered}
 use Rattle.demands.proofs.Quiet.{Quiet, stays, goes, Quietly, trans, poll, poll-quiet, poll-ordered, release-all-quiet, settle-empty-quiet}
-use Rattle.demands.proofs.Moves.{Moves, stays-put, credits, registers-new, registers-old, sends, posts, drops-it, pauses-it, resumes, resumes-not, closes-it, polls-all, shuts-it, takes, stops, aims, aims-none, Chain, stay, move, call-chain}
+use Rattle.demands.proofs.Moves.{Moves, stays-put, credits, registers-new, registers-old, sends, posts, drops-it, pauses-it, resumes, resumes-not, closes-it, polls-all, shuts-it, takes, stops, aims, aims-none, Chain, stay, move, trace-chain}
 use Rattle.demands.proofs.Opened.{opened-ordered}
 use Rattle.demands.proofs.MovesKeepOrder.{has-lane-parts, unissued, move-ordered}
+use Rattle.demands.proofs.Points.{ends-at}
 use Rattle.demands.proofs.LedgerLaws.{alike, unlike, keys?, look, times, changeIn, look-changed, times-changed, held-changed}
 use Rattle.demands.proofs.Demand2.{sender-parts, queue-lane-slot, queue-lane-parts, give-item-slot, opens-as}
 use Rattle.demands.proofs.LedgerAgrees.{Agrees, agrees-quiet, move-agrees, key-path, add-item-key, remove-oldest-key, set-dropped-key, set-paused-key, set-closed-key, retire-lane-slot, retire-lane-issued, give-item-issued, queue-lane-more, again-put}
@@ -111,9 +109,9 @@ entry-count L s y l h r e =
     ap heldBy q ∙ rw (f .matches .unclosed, r) (sym (length-map (f .entry .holds) (λ v. v .value)) ∙ ap length (f .matches .values-same))
 
 -- a key stands once in the ledger; its slot is issued, and the slot's generation has reached the key's
-record KeysOnce (L : Ledger) (s : State) : Type 0 where
-  once : (k : LaneKey) → times k (L .lanes) ≤ 1
-  known : (k : LaneKey) → 1 ≤ times k (L .lanes) → (k .slot < s .issued) × (k .generation ≤ s .slotOf (k .slot) .generation)
+pub record KeysOnce (L : Ledger) (s : State) : Type 0 where
+  pub once : (k : LaneKey) → times k (L .lanes) ≤ 1
+  pub known : (k : LaneKey) → 1 ≤ times k (L .lanes) → (k .slot < s .issued) × (k .generation ≤ s .slotOf (k .slot) .generation)
 
 keys-on : (L M : Ledger) {s u : State} → ((k : LaneKey) → times k (M .lanes) ≡ times k (L .lanes)) → Grows s u → KeysOnce L s → KeysOnce M u
 keys-on L M e g h = record {
@@ -214,7 +212,7 @@ unfolding heldOf
 held-one-more s u i e z = omega (arith, sum-more ringCount s u i e)
 
 -- every move
-move-keys : (L : Ledger) {s u : State} {t : Tick} → Ordered s → KeysOnce L s → Moves s t u → KeysOnce (note L t) u
+pub move-keys : (L : Ledger) {s u : State} {t : Tick} → Ordered s → KeysOnce L s → Moves s t u → KeysOnce (note L t) u
 unfolding note accepted applyCall addRegistered
 move-keys L o h (stays-put s c a n) = keys-same L _ (n .noted L) (move-grows (stays-put s c a n)) h
 move-keys L o h (credits s c a n) = keys-same L _ (n .noted L) (move-grows (credits s c a n)) h
@@ -311,83 +309,11 @@ opened-tallied : (o : Opening) → Ordered (openedState o) → Tallied atOpening
 unfolding atOpening openedState heldByLanes heldOf from total times
 opened-tallied o h = record { ord = h; agrees = opened-agrees o; keys = record { once = λ k. omega arith; known = λ k n. absurd (omega arith) }; sum = refl }
 
--- a call to count what is held, in the ticks of a run
-isCount : Tick → Bool
-isCount (gives r k v) = false
-isCount (ends (Control CountHeld) a) = true
-isCount (ends (Control (Pause i)) a) = false
-isCount (ends (Control (Resume i)) a) = false
-isCount (ends (Control (CloseLane i)) a) = false
-isCount (ends (Control ReleaseConsumed) a) = false
-isCount (ends (Control PollAllLanes) a) = false
-isCount (ends (Control CloseReceiver) a) = false
-isCount (ends (Sender c) a) = false
-isCount (ends (Receive r) a) = false
-
--- it stands among the first ones, or after them
-data Split (ts us before : List Tick) (x : Tick) (rest : List Tick) : Type 0 where
-  later : (more : List Tick) → before ≡ ts ++ more → us ≡ more ++ (x ∷ rest) → Split ts us before x rest
-  within : (more : List Tick) → ts ≡ before ++ (x ∷ more) → Split ts us before x rest
-
-split : (ts us before : List Tick) (x : Tick) (rest : List Tick) → ts ++ us ≡ before ++ (x ∷ rest) → Split ts us before x rest
-split [] us before x rest e = later before refl e
-split (t ∷ ts) us [] x rest e = let h : t ≡ x = cc in within ts (ap (λ (y : Tick). y ∷ ts) h)
-split (t ∷ ts) us (b ∷ before) x rest e = let h : t ≡ b = cc in go h (split ts us before x rest (ap tail e))
-  where
-    go : t ≡ b → Split ts us before x rest → Split (t ∷ ts) us (b ∷ before) x rest
-    go h (later more p q) = later more (λ i. sym h i ∷ p i) q
-    go h (within more p) = within more (λ i. h i ∷ p i)
-
-not-there : (before : List Tick) (x : Tick) (more : List Tick) → [] ≡ before ++ (x ∷ more) → ⊥
-not-there [] x more e = let z : _≡_ {A = ℕ} 0 1 = cc in omega arith
-not-there (b ∷ before) x more e = let z : _≡_ {A = ℕ} 0 1 = cc in omega arith
-
-none-counts : (ts before : List Tick) (x : Tick) (more : List Tick) → countTicks isCount ts ≡ 0 → isCount x ≡ true → ts ≡ before ++ (x ∷ more) → ⊥
-unfolding countTicks
-none-counts ts before x more z c e = omega (arith, ap (countTicks isCount) e, at-least before)
-  where
-    at-least : (l : List Tick) → 1 ≤ countTicks isCount (l ++ (x ∷ more))
-    at-least [] = rw c (omega arith)
-    at-least (t ∷ l) = omega (arith, at-least l)
-
-receive-counts : (s : State) (r : ReceiveCall) → countTicks isCount (ticks theRules s (Receive r)) ≡ 0
-unfolding ticks handed countTicks isCount
-receive-counts s r = go (theRules .hands s r)
-  where
-    go : (l : List (LaneKey × ℕ)) → countTicks isCount (map (λ g. gives r (g .0) (g .1)) l ++ (ends (Receive r) ((theRules .step s (Receive r)) .0) ∷ [])) ≡ 0
-    go [] = refl
-    go (g ∷ l) = omega (arith, go l)
-
-held-within : (L : Ledger) (s : State) (c : Call) → Tallied L s → (before more : List Tick) (a : Answer) → ticks theRules s c ≡ before ++ (ends (Control CountHeld) a ∷ more) → a ≡ Held (heldByLanes ((ledgerAfter L before) .lanes))
-unfolding ticks handed countTicks isCount ledgerAfter
-held-within L s (Sender c) h before more a e = absurd (none-counts _ before (ends (Control CountHeld) a) more refl refl e)
-held-within L s (Receive r) h before more a e = absurd (none-counts _ before (ends (Control CountHeld) a) more (receive-counts s r) refl e)
-held-within L s (Control (Pause i)) h before more a e = absurd (none-counts _ before (ends (Control CountHeld) a) more refl refl e)
-held-within L s (Control (Resume i)) h before more a e = absurd (none-counts _ before (ends (Control CountHeld) a) more refl refl e)
-held-within L s (Control (CloseLane i)) h before more a e = absurd (none-counts _ before (ends (Control CountHeld) a) more refl refl e)
-held-within L s (Control ReleaseConsumed) h before more a e = absurd (none-counts _ before (ends (Control CountHeld) a) more refl refl e)
-held-within L s (Control PollAllLanes) h before more a e = absurd (none-counts _ before (ends (Control CountHeld) a) more refl refl e)
-held-within L s (Control CloseReceiver) h before more a e = absurd (none-counts _ before (ends (Control CountHeld) a) more refl refl e)
-held-within L s (Control CountHeld) h [] more a e = let w : a ≡ (outcome s (Control CountHeld)) .1 .0 = cc in w ∙ held-answer s ∙ ap Held (sym (h .sum))
-held-within L s (Control CountHeld) h (b ∷ before) more a e = absurd (not-there before (ends (Control CountHeld) a) more (ap tail e))
-
-after-append : (L : Ledger) (a b : List Tick) → ledgerAfter L (a ++ b) ≡ ledgerAfter (ledgerAfter L a) b
-unfolding ledgerAfter
-after-append L [] b = refl
-after-append L (t ∷ a) b = after-append (note L t) a b
-
-held-at : (calls : List Call) (L : Ledger) (s : State) → Tallied L s → (before rest : List Tick) (a : Answer) → trace theRules s calls ≡ before ++ (ends (Control CountHeld) a ∷ rest) → a ≡ Held (heldByLanes ((ledgerAfter L before) .lanes))
-unfolding trace
-held-at [] L s h before rest a e = absurd (not-there before (ends (Control CountHeld) a) rest e)
-held-at (c ∷ cs) L s h before rest a e = go (split (ticks theRules s c) _ before (ends (Control CountHeld) a) rest e) (λ b. held-at cs (ledgerAfter L (ticks theRules s c)) ((outcome s c) .1 .1) (chain-tallied L (call-chain s c) h) b rest a)
-  where
-    go : Split (ticks theRules s c) (trace theRules ((outcome s c) .1 .1) cs) before (ends (Control CountHeld) a) rest
-        → ((b : List Tick) → trace theRules ((outcome s c) .1 .1) cs ≡ b ++ (ends (Control CountHeld) a ∷ rest) → a ≡ Held (heldByLanes ((ledgerAfter (ledgerAfter L (ticks theRules s c)) b) .lanes)))
-        → a ≡ Held (heldByLanes ((ledgerAfter L before) .lanes))
-    go (later more p q) ih = ih more q ∙ ap (λ (M : Ledger). Held (heldByLanes (M .lanes))) (sym (ap (ledgerAfter L) p ∙ after-append L (ticks theRules s c) more))
-    go (within more p) ih = held-within L s c h before more a p
-
 pub held-as-counted : HeldAsCounted theRules
-unfolding HeldAsCounted HeldAsCountedIn
+unfolding HeldAsCounted HeldAsCountedIn handed
 held-as-counted o lent d calls t before rest a e =
-    held-at calls atOpening ((openingOutcome o lent) .1 .1) (rw (opens-as o lent) (opened-tallied o (opened-ordered o lent d))) before rest a e
+    let s = (openingOutcome o lent) .1 .1 in
+    let p = ends-at calls s before rest (Control CountHeld) a e in
+    let h = chain-tallied atOpening (trace-chain s (p .made)) (rw (opens-as o lent) (opened-tallied o (opened-ordered o lent d))) in
+    p .answered ∙ held-answer (afterList theRules s (p .made)) ∙ ap Held (sym (h .sum))
+    ∙ ap (λ (ts : List Tick). Held (heldByLanes ((ledgerAfter atOpening ts) .lanes))) (sym (p .so-far ∙ append-nil (trace theRules s (p .made))))

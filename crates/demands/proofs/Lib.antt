@@ -6,6 +6,7 @@ pub mod Ahead
 pub mod WaitInReceive
 pub mod Moves
 pub mod Opened
+pub mod Points
 pub mod MovesKeepOrder
 pub mod LedgerLaws
 pub mod StretchBounds
@@ -45,3 +46,5 @@ pub mod Carried
 pub mod BudgetAfterNothing
 pub mod WhileMarked
 pub mod BatchLoop
+pub mod Wake
+pub mod Keys

@@ -8,6 +8,7 @@ use Prim.Native.Nat.{ℕ, zero, suc, _+_, _-_, _≤_, _<_}
 use native.Mathlib.Omega.{arith}
 use lib.Dec.{eqb, leb, ltb}
 use borrow.Author.Tests.{eqb-false, leb-false, ltb-true}
+use Rattle.model.specs.declared.LaneKey.{LaneKey}
 -- not used here: so the computed examples are checked before any proof about the rules, and a changed rule is refused there first
 use Rattle.model.specs.Examples.Calls.{table-computed}
 use Rattle.model.specs.Lists.{if, both, either, count, keep, from, nonEmpty}
@@ -15,7 +16,7 @@ use Rattle.model.specs.State.{Slot, State, queued, mayQueue}
 use Rattle.model.specs.Changes.{withQueue, withBudget, put, signalled, popped, settledEmpty, retired, unmarked}
 use Rattle.model.specs.Ready.{groupOf, groupsIn, marks, isReady, collectMarks, collectGroup, startGroup, groupsRound, collectFirst, collectEach, collectReadyGroup, collectReady}
 use Rattle.model.specs.Turn.{retireLane, retireLaneIf, settleEmpty, refill, beforeNextTurn, runDownFrom, unreleasedAfterOne, giveItem, giveOldest, giveFront, collectIfDue, runDown, collectIfNoneQueued, polled, takeOne, takeFair}
-use Rattle.model.specs.Receive.{retireEmptyPausedLanes, releaseAll}
+use Rattle.model.specs.Receive.{retireEmptyPausedLanes, andMore, takeUpTo, releaseAll}
 use Rattle.model.specs.Order.{SlotOrdered, SlotsOrdered, Ordered}
 use Rattle.demands.proofs.Counting.{Same, equal, other, same?, same-self, self, no, both-true, not-true, count-append, keep-in, keep-out, from-once, from-in, unqueued-zero, both-3}
 
@@ -421,6 +422,17 @@ take-one-ordered s o = give-front-ordered false (polled s) _ refl (polled-ordere
 pub take-fair-ordered : (s : State) → Ordered s → Ordered ((takeFair s) .1)
 unfolding takeFair
 take-fair-ordered s o = give-front-ordered true _ _ refl (run-down-ordered _ (budget-ordered 64 (collectReady s) (omega arith) (collect-ready-ordered s o)))
+
+-- a batch's takes
+pub and-more-ordered : (l : List (LaneKey × ℕ)) (m : ℕ) (s : State) → Ordered s → (Ordered s → Ordered ((takeUpTo m s) .1)) → Ordered ((andMore l s (takeUpTo m s)) .1)
+unfolding andMore
+and-more-ordered [] m s o h = o
+and-more-ordered (g ∷ l) m s o h = h o
+
+pub take-up-to-ordered : (n : ℕ) (s : State) → Ordered s → Ordered ((takeUpTo n s) .1)
+unfolding takeUpTo
+take-up-to-ordered zero s o = o
+take-up-to-ordered (suc m) s o = and-more-ordered ((takeOne s) .0) m ((takeOne s) .1) (take-one-ordered s o) (take-up-to-ordered m ((takeOne s) .1))
 
 -- empty paused lanes are retired
 pub retire-empty-paused-ordered : (xs : List ℕ) (s : State) → Ordered s → Ordered (retireEmptyPausedLanes xs s)

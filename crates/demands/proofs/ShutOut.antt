@@ -1,13 +1,14 @@
 -- What document 01 says demands 2 and 3 shut out, they do: each by one computed run of the wrong rules (specs/ShutOut.antt) on which the demand fails.
 -- Assumes nothing.
 use mathlib.Core.Path.{_≡_, refl, ap, _∙_}
+use mathlib.Core.Bool.{false}
 use mathlib.Core.List.{List, [], _∷_}
 use Prim.Native.Nat.{ℕ, _≤_}
 use native.Mathlib.Omega.{arith}
 use lib.ListN.{length, take, drop}
 use Rattle.model.specs.declared.LaneKey.{LaneKey}
 use Rattle.model.specs.declared.Opening.{Opening}
-use Rattle.model.specs.declared.SenderCall.the-variants.{RegisterSender, TrySend}
+use Rattle.model.specs.declared.SenderCall.the-variants.{RegisterSender, TrySend, DropSender}
 use Rattle.model.specs.declared.ReceiveCall.{ReceiveCall}
 use Rattle.model.specs.declared.ReceiveCall.the-variants.{TryRecv, TryRecvFair, TryRecvFrom, TryRecvBatchInto}
 use Rattle.model.specs.declared.ControlCall.the-variants.{CountHeld}
@@ -17,7 +18,7 @@ use Rattle.model.specs.declared.Answer.{Answer}
 use Rattle.model.specs.declared.Answer.the-variants.{Done, Registered, Taken, Item, Items, Empty, Disconnected, Held, Refused}
 use Rattle.model.specs.Lists.{Each}
 use Rattle.model.specs.State.{State, ringOf}
-use Rattle.model.specs.Runs.{Lent, allRuns, accepted, Tick, handed, ticks, trace, afterList, sameKey, countTicks, ofLane}
+use Rattle.model.specs.Runs.{Lent, allRuns, accepted, Tick, ends, handed, ticks, trace, afterList, sameKey, countTicks, ofLane}
 use Rattle.model.specs.Sender.{senderOutcome}
 use Rattle.model.specs.Receive.{receiveOutcome, outputAfter}
 use Rattle.model.specs.Control.{controlOutcome}
@@ -28,8 +29,11 @@ use Rattle.model.specs.Demand2.{Demand2, Demand2In, outOf, into, shuts, values,
 use Rattle.model.specs.Demand3.{Demand3, Demand3In}
 use Rattle.model.specs.Held.{HeldAsCounted, HeldAsCountedIn, heldBy, heldByLanes}
 use Rattle.model.specs.Simulation.{Simulation}
+use Rattle.model.specs.Keys.{registersAs, answersKeyThat, KeysNeverAgainIn, KeysNeverAgain}
+use Rattle.model.specs.Wake.{itemsBelow, belowLimit, maySleep, endsSleep, sendsTo, saysWoken, wakes, pausedIn, NoLostWakeIn, NoLostWake}
 use Rattle.model.specs.Examples.Calls.{compute}
-use Rattle.model.specs.ShutOut.{callBy, outputBy, receiveBeforeLooking, emptyBeforeLooking, receiveOfFront, fairServesFrontOnly, sendRefused, sendFullAlways, sendUnstored, sendStoresNothing, batchBy, firstMoved, batchMovesFirstOnly, othersReported, batchReportsOthers, oneMoreCounted, batchCountsOneMore, receiveLeavesItem, itemForEver, countsNone, heldZero}
+use Rattle.model.specs.ShutOut.{callBy, outputBy, receiveBeforeLooking, emptyBeforeLooking, receiveOfFront, fairServesFrontOnly, sendRefused, sendFullAlways, sendUnstored, sendStoresNothing, batchBy, firstMoved, batchMovesFirstOnly, othersReported, batchReportsOthers, oneMoreCounted, batchCountsOneMore, receiveLeavesItem, itemForEver, countsNone, heldZero, issuedAgain, registerSameKey, sameKeyAgain, sendUnwoken, sendNeverWakes}
+use Rattle.demands.proofs.Counting.{no}
 use Rattle.demands.proofs.Simulation.{opened-trace}
 
 -- the frame of the wrong rules is document 01's: with its own outcomes it is its rules
@@ -176,3 +180,28 @@ held-zero-shut-out h =
 
     run : List Tick
     run = trace heldZero ((heldZero .opens opening lent) .1) calls
+
+-- ---- by what is claimed beside the demands
+
+-- a slot that is issued again under the same key: lane 0 is dropped and found, and (0, 0) is answered again
+pub same-key-again-shut-out : KeysNeverAgain sameKeyAgain → ⊥
+unfolding computeWrong KeysNeverAgain KeysNeverAgainIn issuedAgain registerSameKey registersAs answersKeyThat
+same-key-again-shut-out h =
+    let once : _≡_ {A = ℕ} 1 0 = h opening lent refl calls tt (take 3 run) [] registers (lane 0) refl in omega (arith, once)
+  where
+    calls : List Call
+    calls = registers ∷ Sender (DropSender (lane 0)) ∷ plain ∷ registers ∷ []
+
+    run : List Tick
+    run = trace sameKeyAgain ((sameKeyAgain .opens opening lent) .1) calls
+
+-- a send that never says woken 1: after a plain receive that answered Empty
+pub never-wakes-shut-out : NoLostWake sendNeverWakes → ⊥
+unfolding computeWrong NoLostWake NoLostWakeIn sendUnwoken maySleep belowLimit itemsBelow endsSleep sendsTo pausedIn wakes saysWoken
+never-wakes-shut-out h = no (h opening lent refl calls tt (take 1 run) [] [] plain Empty (ends (sends 0 5) (Taken false)) refl refl refl (lane 0) refl refl refl) refl
+  where
+    calls : List Call
+    calls = registers ∷ plain ∷ sends 0 5 ∷ []
+
+    run : List Tick
+    run = trace sendNeverWakes ((sendNeverWakes .opens opening lent) .1) calls

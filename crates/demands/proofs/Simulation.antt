@@ -23,6 +23,8 @@ use Rattle.model.specs.Demand2.{Demand2In, Demand2, shuts, values, outOf, into,
 use Rattle.model.specs.Demand3.{Demand3In, Demand3}
 use Rattle.model.specs.Closed.{NoneAfterCloseIn, NoneAfterClose}
 use Rattle.model.specs.Held.{HeldAsCountedIn, HeldAsCounted}
+use Rattle.model.specs.Wake.{NoLostWakeIn, NoLostWake}
+use Rattle.model.specs.Keys.{KeysNeverAgainIn, KeysNeverAgain, IssuedAsAnsweredIn, IssuedAsAnswered}
 use Rattle.model.specs.Simulation.{runsThatFit, Simulation, numbersOfCall, Fits, CallFits}
 use Rattle.demands.proofs.Demand2.{demand2}
 use Rattle.demands.proofs.Demand3.{demand3}
@@ -30,6 +32,8 @@ use Rattle.demands.proofs.Closed.{none-after-close}
 use Rattle.demands.proofs.InOrder.{call-keeps-order, opening-in-order}
 use Rattle.demands.proofs.Held.{held-as-counted}
 use Rattle.demands.proofs.HandsAsAnswered.{hands-as-answered}
+use Rattle.demands.proofs.Wake.{no-lost-wake}
+use Rattle.demands.proofs.Keys.{keys-never-again, issued-as-answered}
 
 -- two states are equal if their parts are, the slots one by one
 pub state-path : (s u : State) → ((y : ℕ) → s .slotOf y ≡ u .slotOf y) → s .queue ≡ u .queue → s .free ≡ u .free → s .issued ≡ u .issued → s .budget ≡ u .budget → s .cursor ≡ u .cursor
@@ -177,3 +181,30 @@ top-fits = (omega arith, tt)
 past-top-not : CallFits (Sender (RegisterSender 18446744073709551616)) → ⊥
 unfolding Fits Each numbersOfCall
 past-top-not h = omega (arith, h .0)
+
+-- ---- what is claimed beside the demands
+
+module _ (W : Viewed) (sim : Simulation W) where
+  transfer-wake : NoLostWake theRules → NoLostWakeIn (W .rules) (W .runs)
+  unfolding NoLostWake NoLostWakeIn
+  transfer-wake h o lent d calls f before asleep rest c a t e =
+      h o (W .rules .lengths lent) (accepted-too W sim o lent d) calls tt before asleep rest c a t (sym (opened-trace W sim o lent d calls f) ∙ e)
+
+  transfer-keys : KeysNeverAgain theRules → KeysNeverAgainIn (W .rules) (W .runs)
+  unfolding KeysNeverAgain KeysNeverAgainIn
+  transfer-keys h o lent d calls f before rest c k e =
+      h o (W .rules .lengths lent) (accepted-too W sim o lent d) calls tt before rest c k (sym (opened-trace W sim o lent d calls f) ∙ e)
+
+  transfer-issued : (issuedOf : State → ℕ) → IssuedAsAnswered theRules issuedOf → IssuedAsAnsweredIn (W .rules) (W .runs) (λ s. issuedOf (W .view s))
+  unfolding IssuedAsAnswered IssuedAsAnsweredIn
+  transfer-issued issuedOf h o lent d calls f =
+      rw (opened-trace W sim o lent d calls f, opened-after W sim o lent d calls f) (h o (W .rules .lengths lent) (accepted-too W sim o lent d) calls tt)
+
+pub words-no-lost-wake : (W : Viewed) → Simulation W → NoLostWakeIn (W .rules) (W .runs)
+words-no-lost-wake W sim = transfer-wake W sim no-lost-wake
+
+pub words-keys-never-again : (W : Viewed) → Simulation W → KeysNeverAgainIn (W .rules) (W .runs)
+words-keys-never-again W sim = transfer-keys W sim keys-never-again
+
+pub words-issued-as-answered : (W : Viewed) → Simulation W → IssuedAsAnsweredIn (W .rules) (W .runs) (λ s. W .view s .issued)
+words-issued-as-answered W sim = transfer-issued W sim (λ s. s .issued) issued-as-answered

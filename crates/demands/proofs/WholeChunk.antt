@@ -18,7 +18,7 @@ use Rattle.model.specs.Receive.{andMore, takeUpTo}
 use Rattle.model.specs.Order.{Ordered}
 use Rattle.demands.proofs.Counting.{Same, equal, other, same?, self}
 use Rattle.demands.proofs.Simulation.{state-path}
-use Rattle.demands.proofs.OrderKept.{give-front-ordered, take-one-ordered}
+use Rattle.demands.proofs.OrderKept.{give-front-ordered, and-more-ordered, take-up-to-ordered}
 use Rattle.demands.proofs.Quiet.{poll}
 use Rattle.demands.proofs.WaitInReceive.{Settled, nothing-queued, front, poll-settled}
 use Rattle.demands.proofs.FrontItem.{polled-front}
@@ -286,17 +286,7 @@ take-up-to-none-onto l n s h e = ap (onto l) (take-up-to-none n s h e) ∙ ap (�
 
 -- ORDER
 
-and-more-ordered : (l : List (LaneKey × ℕ)) (m : ℕ) (s : State) → Ordered s → (Ordered s → Ordered ((takeUpTo m s) .1)) → Ordered ((andMore l s (takeUpTo m s)) .1)
-unfolding andMore
-and-more-ordered [] m s o h = o
-and-more-ordered (g ∷ l) m s o h = h o
-
--- a batch's takes keep it, and so does a chunk
-pub take-up-to-ordered : (n : ℕ) (s : State) → Ordered s → Ordered ((takeUpTo n s) .1)
-unfolding takeUpTo
-take-up-to-ordered zero s o = o
-take-up-to-ordered (suc m) s o = and-more-ordered ((takeOne s) .0) m ((takeOne s) .1) (take-one-ordered s o) (take-up-to-ordered m ((takeOne s) .1))
-
+-- a chunk keeps it, as a batch's takes do
 pub given-ordered : (n : ℕ) (s : State) (y : ℕ) (q : List ℕ) → s .queue ≡ y ∷ q → ChunkFits s y n → Ordered s → Ordered (given s y q n)
 given-ordered n s y q e f o =
     let t : Took = giveFront false s (s .queue) in

@@ -4,12 +4,19 @@ use mathlib.Core.Path.{_≡_, refl}
 use mathlib.Core.List.{List, [], _∷_}
 use Prim.Native.Nat.{ℕ}
 use Rattle.model.specs.declared.ReceiveCall.{ReceiveCall}
+use Rattle.model.specs.declared.ControlCall.the-variants.{CountHeld}
 use Rattle.model.specs.declared.Call.{Call}
+use Rattle.model.specs.declared.Call.the-variants.{Control}
 use Rattle.model.specs.declared.Refusal.the-variants.{StoreNotInOrder}
-use Rattle.model.specs.declared.Answer.the-variants.{Refused}
+use Rattle.model.specs.declared.Answer.the-variants.{Held, Refused}
+use Rattle.lane.specs.Table.{laneAt}
+use Rattle.all_lanes.specs.AllLanes.{heldIn, heldFrom, countHeld}
+use Rattle.control.specs.Calls.{controlWords}
+use Rattle.refinement.specs.Runs.{callWords}
 use Rattle.order.specs.InOrder.{lengthsTest, headerTest, inOrder}
 use Rattle.fanring.specs.Checked.{checked}
 use Rattle.fanring.specs.Runs.{checkedWords, checkedHands, checkedOutput}
+use Rattle.fanring.specs.Mixed.{as-checked, as-inner, callsOf}
 
 one : List ℕ
 one = 1 ∷ []
@@ -27,3 +34,10 @@ hands-none c = refl
 leaves-output : (c : ReceiveCall) (out : List ℕ) → checkedOutput one [] c out ≡ out
 unfolding checkedOutput inOrder headerTest lengthsTest one
 leaves-output c out = refl
+
+-- Made checked, held is refused for these stores; made inner, whose premise they do not meet, it counts.
+ways-differ :
+    (callsOf as-checked .words one [] (Control CountHeld) ≡ (Refused StoreNotInOrder, one, []))
+    × (callsOf as-inner .words one [] (Control CountHeld) ≡ (Held 0, one, []))
+unfolding callsOf checkedWords checked inOrder headerTest lengthsTest one callWords controlWords countHeld heldFrom heldIn laneAt
+ways-differ = (refl, refl)

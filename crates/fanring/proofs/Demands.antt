@@ -9,23 +9,28 @@ use Rattle.model.specs.declared.Refusal.the-variants.{StoreNotInOrder}
 use Rattle.model.specs.declared.Answer.the-variants.{Refused}
 use Rattle.model.specs.Simulation.{Simulation}
 use Rattle.model.specs.Demand2.{Demand2In}
-use Rattle.demands.proofs.Simulation.{words-demand2, words-demand3, words-none-after-close, words-held-as-counted, words-hands-as-answered}
+use Rattle.demands.proofs.Simulation.{words-demand2, words-demand3, words-none-after-close, words-held-as-counted, words-hands-as-answered, words-no-lost-wake, words-keys-never-again, words-issued-as-answered}
+use Rattle.store.specs.View.{view}
 use Rattle.store.specs.Order.{StoreInOrder}
 use Rattle.store.specs.Words.{Words}
 use Rattle.opening.specs.Opening.{openStore}
-use Rattle.opening.proofs.OpeningLaws.{open-in-order}
+use Rattle.opening.proofs.OpeningLaws.{open-answers-alike, open-view, open-in-order}
+use Rattle.demands.proofs.Demand2.{opens-as}
 use Rattle.refinement.proofs.RefusedUnmoved.{Unmoved, open-unmoved}
 use Rattle.refinement.specs.Runs.{viewedOf}
 use Rattle.refinement.specs.RulesOnWords.{StaysInOrder}
-use Rattle.refinement.proofs.AsInner.{words-alike, words-keep}
+use Rattle.refinement.specs.AsRules.{lentOf}
+use Rattle.refinement.proofs.AsInner.{words-keep}
 use Rattle.refinement.proofs.Demands.{ring-seen}
 use Rattle.refinement.proofs.RulesKept.{keeps-rules}
 use Rattle.refinement.proofs.Simulation.{simulates}
+use Rattle.refinement.proofs.AsRules.{each-call-as-rules, lists-as-rules, examples-of}
 use Rattle.fanring.specs.Runs.{checkedWords, checkedCalls, theCalls}
-use Rattle.fanring.specs.Demands.{RefusalsChangeNothing, FiveExactly, CallsAsRules, CallsKeepOrder, OpensInOrder, runs, NeverFive, ItemsInOrder, AnswersTell, LanesWaitBounded, NoneAfterClose, HeldIsCounted, RulesKept}
+use Rattle.fanring.specs.Demands.{RefusalsChangeNothing, FiveExactly, CallsAsRules, CallsKeepOrder, OpensAsRules, OpensInOrder, runs, NeverFive, ItemsInOrder, AnswersTell, LanesWaitBounded, NoneAfterClose, HeldIsCounted, RulesKept, TraceAsRules, MixedAsChecked, ExamplesHold, NoLostWake, KeysNeverAgain, IssuedAsAnswered}
 use Rattle.fanring.proofs.CheckedLaws.{checked-five}
 use Rattle.fanring.proofs.CheckedCalls.{checked-as-inner, words-unmoved, output-left}
 use Rattle.fanring.proofs.NeverFive.{never-five}
+use Rattle.fanring.proofs.Mixed.{mixed-as}
 
 -- ---- one call
 
@@ -51,10 +56,16 @@ five-exactly = record {
 }
 
 pub calls-as-rules : CallsAsRules
-calls-as-rules t r c o = words-alike checkedCalls checked-as-inner t r o c
+calls-as-rules = each-call-as-rules checkedCalls checked-as-inner
 
 pub calls-keep-order : CallsKeepOrder
 calls-keep-order t r c o = words-keep checkedCalls checked-as-inner t r o c
+
+pub opens-as-rules : OpensAsRules
+opens-as-rules = record {
+  answers = λ o t r. open-answers-alike o t r;
+  leaves = λ o t r d. open-view o t r d ∙ sym (opens-as o (lentOf t r));
+}
 
 pub opens-in-order : OpensInOrder
 opens-in-order o t r f d = open-in-order o t r f d
@@ -85,3 +96,22 @@ none-after-close = words-none-after-close (viewedOf checkedCalls) calls-simulate
 
 pub held-is-counted : HeldIsCounted
 held-is-counted = words-held-as-counted (viewedOf checkedCalls) calls-simulate
+
+pub trace-as-rules : TraceAsRules
+trace-as-rules = lists-as-rules checkedCalls checked-as-inner
+
+pub mixed-as-checked : MixedAsChecked
+mixed-as-checked = mixed-as
+
+pub examples-hold : ExamplesHold
+examples-hold = examples-of checkedCalls checked-as-inner
+
+pub no-lost-wake : NoLostWake
+no-lost-wake = words-no-lost-wake (viewedOf checkedCalls) calls-simulate
+
+pub keys-never-again : KeysNeverAgain
+keys-never-again = words-keys-never-again (viewedOf checkedCalls) calls-simulate
+
+pub issued-as-answered : IssuedAsAnswered
+unfolding view
+issued-as-answered = words-issued-as-answered (viewedOf checkedCalls) calls-simulate

@@ -1,8 +1,9 @@
 -- What is claimed of the checked calls: of each on any two stores, and of lists of them from an accepted opening on.
--- Most claims are crate `model`'s (its specs/Demand2.antt, Demand3.antt, Closed.antt, Held.antt), here of the words that the calls' contracts name; the last is crate `refinement`'s (its specs/RulesOnWords.antt).
+-- Most claims are crate `model`'s (its specs/Demand2.antt, Demand3.antt, Closed.antt, Held.antt, Wake.antt, Keys.antt), here of the words that the calls' contracts name; others are crate
+-- `refinement`'s (its specs/RulesOnWords.antt, AsRules.antt).
 -- Assumes nothing.
 use mathlib.Core.Path.{_≡_}
-use mathlib.Core.List.{List}
+use mathlib.Core.List.{List, map}
 use Prim.Native.Nat.{ℕ, _^_, _<_}
 use Rattle.model.specs.declared.Opening.{Opening}
 use Rattle.model.specs.declared.ReceiveCall.{ReceiveCall}
@@ -10,23 +11,26 @@ use Rattle.model.specs.declared.Call.{Call}
 use Rattle.model.specs.declared.Call.the-variants.{Receive}
 use Rattle.model.specs.declared.Refusal.{Refusal}
 use Rattle.model.specs.declared.Refusal.the-variants.{StoreNotInOrder}
-use Rattle.model.specs.declared.Answer.{Answer}
 use Rattle.model.specs.declared.Answer.the-variants.{Done, Refused}
-use Rattle.model.specs.State.{State}
 use Rattle.model.specs.Runs.{RunsOf}
-use Rattle.model.specs.Rules.{outcome}
+use Rattle.model.specs.Opening.{openingOutcome}
 use Rattle.model.specs.Simulation.{runsThatFit}
 use Rattle.model.specs.Demand2.{Demand2In, HasRoom, HandsAsAnsweredIn}
 use Rattle.model.specs.Demand3.{Demand3In}
 use Rattle.model.specs.Closed.{NoneAfterCloseIn}
 use Rattle.model.specs.Held.{HeldAsCountedIn}
+use Rattle.model.specs.Wake.{NoLostWakeIn}
+use Rattle.model.specs.Keys.{KeysNeverAgainIn, IssuedAsAnsweredIn}
+use Rattle.queues.specs.Header.{issued}
 use Rattle.store.specs.View.{view}
 use Rattle.store.specs.Order.{StoreInOrder}
 use Rattle.opening.specs.Opening.{openStore}
 use Rattle.refinement.specs.Runs.{Run, storesAfter}
 use Rattle.refinement.specs.Demands.{itemsIn}
 use Rattle.refinement.specs.RulesOnWords.{KeepsRules}
+use Rattle.refinement.specs.AsRules.{lentOf, EachCallAsRules, ListsAsRules, ExamplesOf}
 use Rattle.fanring.specs.Runs.{checkedWords, checkedOutput, checkedCalls, theCalls}
+use Rattle.fanring.specs.Mixed.{Way, MixedAs}
 
 -- ---- one call, on any two stores
 
@@ -41,15 +45,19 @@ pub record FiveExactly : Type 0 where
   pub when : (t r : List ℕ) (c : Call) → (StoreInOrder t r → ⊥) → (checkedWords t r c) .0 ≡ Refused StoreNotInOrder
   pub only-then : (t r : List ℕ) (c : Call) → (checkedWords t r c) .0 ≡ Refused StoreNotInOrder → StoreInOrder t r → ⊥
 
--- demand 2: "each call is proved to do what document 01's rules say": on stores in order it answers as the rules do, and leaves what they leave
+-- demand 2: "each call is proved to do what document 01's rules say": on stores in order it answers as the rules do, leaves what they leave, hands out
+-- their items of their lanes, and writes into its output what they write
 abbrev pub CallsAsRules : Type 0
-CallsAsRules =
-    (t r : List ℕ) (c : Call) → StoreInOrder t r
-    → let w = checkedWords t r c in _≡_ {A = Answer × State} (w .0, view (w .1) (w .2)) ((outcome (view t r) c) .1)
+CallsAsRules = EachCallAsRules checkedCalls
 
 -- "An inner crate's calls [..] keep it": a call on stores in order leaves stores in order
 abbrev pub CallsKeepOrder : Type 0
 CallsKeepOrder = (t r : List ℕ) (c : Call) → StoreInOrder t r → let w = checkedWords t r c in StoreInOrder (w .1) (w .2)
+
+-- An opening is accepted exactly as the rules say, with the same refusal else, and leaves their state, whatever it is given and whatever the lent words held.
+pub record OpensAsRules : Type 0 where
+  pub answers : (o : Opening) (t r : List ℕ) → (openStore o t r) .0 ≡ (openingOutcome o (lentOf t r)) .1 .0
+  pub leaves : (o : Opening) (t r : List ℕ) → let w = openStore o t r in w .0 ≡ Done → view (w .1) (w .2) ≡ (openingOutcome o (lentOf t r)) .1 .1
 
 -- "An accepted opening leaves a store in order, whatever the lent words held."
 abbrev pub OpensInOrder : Type 0
@@ -89,3 +97,27 @@ HeldIsCounted = HeldAsCountedIn theCalls runs
 -- keys, one field for each
 abbrev pub RulesKept : Type 0
 RulesKept = KeepsRules checkedCalls
+
+-- a list of calls from an accepted opening on is the rules' run: in all answers, items and lanes, and in what the words then stand for
+abbrev pub TraceAsRules : Type 0
+TraceAsRules = ListsAsRules checkedCalls
+
+-- a list in which some calls are made checked and others inner is the list of checked calls; ms are the calls of the run x, each with the way in which it is made
+abbrev pub MixedAsChecked : Type 0
+MixedAsChecked = (x : Run) (ms : List (Way × Call)) → map (λ m. m .1) ms ≡ x .calls → MixedAs x ms
+
+-- "The examples marked P are proved in one go over a table": of the calls, on any lent stores of enough length
+abbrev pub ExamplesHold : Type 0
+ExamplesHold = ExamplesOf checkedCalls
+
+-- no wake-up is lost: after an answer on which a receiver may sleep, "the first accepted ordinary send to an unpaused lane answers woken 1"
+abbrev pub NoLostWake : Type 0
+NoLostWake = NoLostWakeIn theCalls runs
+
+-- a registration never answers a key that was answered before in the run: demands 2 and 3 tell lanes by their keys
+abbrev pub KeysNeverAgain : Type 0
+KeysNeverAgain = KeysNeverAgainIn theCalls runs
+
+-- the issued slots, of which demand 3's G is the number of groups, are those of the answers
+abbrev pub IssuedAsAnswered : Type 0
+IssuedAsAnswered = IssuedAsAnsweredIn theCalls runs (λ w. issued (w .0))

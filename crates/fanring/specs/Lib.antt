@@ -1,3 +1,4 @@
 pub mod Checked
 pub mod Runs
+pub mod Mixed
 pub mod Demands

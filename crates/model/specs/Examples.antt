@@ -13,3 +13,5 @@ pub mod ReceivesEnd
 pub mod BudgetAfterNothing
 pub mod WhileMarked
 pub mod BatchLoop
+pub mod Wake
+pub mod Keys

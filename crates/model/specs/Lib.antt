@@ -34,3 +34,5 @@ pub mod BudgetAfterNothing
 pub mod WhileMarked
 pub mod BatchLoop
 pub mod Examples
+pub mod Wake
+pub mod Keys

@@ -73,6 +73,11 @@ unfoldable pub afterList : (R : Rules) → R .State → List Call → R .State
 afterList R s [] = s
 afterList R s (c ∷ cs) = afterList R ((R .step s c) .1) cs
 
+-- What the calls of a list answer, in order.
+unfoldable pub answers : (R : Rules) → R .State → List Call → List Answer
+answers R s [] = []
+answers R s (c ∷ cs) = (R .step s c) .0 ∷ answers R ((R .step s c) .1) cs
+
 -- Two lane keys are the same.
 unfoldable pub sameKey : LaneKey → LaneKey → Bool
 sameKey i j = both (eqb (i .slot) (j .slot)) (eqb (i .generation) (j .generation))

@@ -1,5 +1,5 @@
 -- Wrong rules, each document 01's but for one call: those that document 01 says demands 2 and 3 shut out.
--- That a demand does not hold of them is in crates/demands/proofs/ShutOut.antt.
+-- That a demand does not hold of them is in crates/demands/proofs/ShutOut.antt. Two more are shut out by what is claimed beside the demands.
 -- Assumes nothing.
 use mathlib.Core.Bool.{false, not}
 use mathlib.Core.List.{List, [], _∷_}
@@ -16,14 +16,15 @@ use Rattle.model.specs.declared.ControlCall.the-variants.{Pause, Resume,
 use Rattle.model.specs.declared.Call.{Call}
 use Rattle.model.specs.declared.Call.the-variants.{Sender, Receive, Control}
 use Rattle.model.specs.declared.Refusal.the-variants.{ReceiverClosed, OutputShort, Full}
-use Rattle.model.specs.declared.Answer.the-variants.{Items, Held, Refused}
-use Rattle.model.specs.State.{State}
-use Rattle.model.specs.Changes.{withBudget}
+use Rattle.model.specs.declared.Answer.the-variants.{Registered, Taken, Items, Held, Refused}
+use Rattle.model.specs.Lists.{if}
+use Rattle.model.specs.State.{State, keyOf}
+use Rattle.model.specs.Changes.{withFree, withBudget, put, newLane}
 use Rattle.model.specs.Ready.{collectReady}
 use Rattle.model.specs.Turn.{runDown, giveFront, polled}
 use Rattle.model.specs.Outcome.{Outcome, says, unless}
-use Rattle.model.specs.Runs.{Lent, Rules}
-use Rattle.model.specs.Sender.{trySend, senderOutcome}
+use Rattle.model.specs.Runs.{Lent, Rules, accepted}
+use Rattle.model.specs.Sender.{issueSlot, registerSender, trySend, senderOutcome}
 use Rattle.model.specs.Receive.{answerOne, takeUpTo, releaseAll, answerItems, writtenTo, receiveOutcome}
 use Rattle.model.specs.Control.{controlOutcome}
 use Rattle.model.specs.Opening.{openingOutcome}
@@ -144,3 +145,29 @@ countsNone s CloseReceiver = controlOutcome s CloseReceiver
 
 abbrev pub heldZero : Rules
 heldZero = rulesBy senderOutcome receiveOutcome countsNone
+
+-- ---- shut out by what is claimed beside the demands
+
+-- `KeysNeverAgain` shuts out a slot that is issued again under the same key.
+unfoldable pub issuedAgain : List ℕ → State → Outcome
+issuedAgain [] s = issueSlot [] s
+issuedAgain (x ∷ f) s = says (Registered (keyOf s x)) (withFree f (put x (newLane (s .slotOf x .generation) (s .slotOf x)) s))
+
+unfoldable pub registerSameKey : State → SenderCall → Outcome
+registerSameKey s (RegisterSender most) = let o = registerSender s most in if (accepted (o .1 .0)) (issuedAgain (s .free) s) o
+registerSameKey s (TrySend k v) = senderOutcome s (TrySend k v)
+registerSameKey s (TrySendUnsignaled k v) = senderOutcome s (TrySendUnsignaled k v)
+registerSameKey s (DropSender k) = senderOutcome s (DropSender k)
+
+abbrev pub sameKeyAgain : Rules
+sameKeyAgain = rulesBy registerSameKey receiveOutcome controlOutcome
+
+-- `NoLostWake` shuts out a send that never says woken 1: it leaves what a send leaves.
+unfoldable pub sendUnwoken : State → SenderCall → Outcome
+sendUnwoken s (TrySend k v) = let o = trySend s k v in says (if (accepted (o .1 .0)) (Taken false) (o .1 .0)) (o .1 .1)
+sendUnwoken s (RegisterSender most) = senderOutcome s (RegisterSender most)
+sendUnwoken s (TrySendUnsignaled k v) = senderOutcome s (TrySendUnsignaled k v)
+sendUnwoken s (DropSender k) = senderOutcome s (DropSender k)
+
+abbrev pub sendNeverWakes : Rules
+sendNeverWakes = rulesBy sendUnwoken receiveOutcome controlOutcome

@@ -11,17 +11,19 @@ use Rattle.model.specs.State as rules
 use Rattle.model.specs.State.{vacant, hasLane}
 use Rattle.model.specs.Demand1.{RefusalChangesNothing}
 use Rattle.model.specs.Demand2.{Demand2In}
-use Rattle.demands.proofs.Simulation.{words-demand2, words-demand3, words-none-after-close, words-held-as-counted, words-hands-as-answered}
+use Rattle.demands.proofs.Simulation.{words-demand2, words-demand3, words-none-after-close, words-held-as-counted, words-hands-as-answered, words-no-lost-wake, words-keys-never-again, words-issued-as-answered}
 use Rattle.yring.specs.Ring.{newRing}
 use Rattle.lane.specs.Lane.{heldItems}
 use Rattle.lane.specs.Table.{laneAt}
 use Rattle.queues.specs.Header.{issued, capacity}
 use Rattle.store.specs.View.{flag, slotAt, view}
 use Rattle.refinement.specs.Runs.{viewedOf, innerCalls, theStores}
-use Rattle.refinement.specs.Demands.{itemsIn, runs, RefusalsChangeNothing, ItemsInOrder, AnswersTell, LanesWaitBounded, NoneAfterClose, HeldIsCounted}
+use Rattle.refinement.specs.Demands.{itemsIn, runs, RefusalsChangeNothing, ItemsInOrder, AnswersTell, LanesWaitBounded, NoneAfterClose, HeldIsCounted, NoLostWake, KeysNeverAgain, IssuedAsAnswered, CallsAsRules, TraceAsRules, ExamplesHold}
 use Rattle.refinement.proofs.RefusedUnmoved.{open-unmoved}
 use Rattle.refinement.proofs.CallLaws.{call-unmoved, output-unmoved}
+use Rattle.refinement.proofs.AsInner.{inner-as-inner}
 use Rattle.refinement.proofs.Simulation.{stores-simulate}
+use Rattle.refinement.proofs.AsRules.{each-call-as-rules, lists-as-rules, examples-of}
 
 -- a lane's ring in the words is the ring that the rules see
 pub ring-seen : (t r : List ℕ) (k : LaneKey) → rules.ringOf (view t r) k ≡ itemsIn t r k
@@ -62,3 +64,22 @@ none-after-close = words-none-after-close (viewedOf innerCalls) stores-simulate
 
 pub held-is-counted : HeldIsCounted
 held-is-counted = words-held-as-counted (viewedOf innerCalls) stores-simulate
+
+pub no-lost-wake : NoLostWake
+no-lost-wake = words-no-lost-wake (viewedOf innerCalls) stores-simulate
+
+pub keys-never-again : KeysNeverAgain
+keys-never-again = words-keys-never-again (viewedOf innerCalls) stores-simulate
+
+pub issued-as-answered : IssuedAsAnswered
+unfolding view
+issued-as-answered = words-issued-as-answered (viewedOf innerCalls) stores-simulate
+
+pub calls-as-rules : CallsAsRules
+calls-as-rules = each-call-as-rules innerCalls inner-as-inner
+
+pub trace-as-rules : TraceAsRules
+trace-as-rules = lists-as-rules innerCalls inner-as-inner
+
+pub examples-hold : ExamplesHold
+examples-hold = examples-of innerCalls inner-as-inner

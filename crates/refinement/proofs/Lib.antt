@@ -32,3 +32,4 @@ pub mod Simulation
 pub mod Demands
 pub mod FirstCursorKept
 pub mod RulesKept
+pub mod AsRules

@@ -1,5 +1,5 @@
 -- What is claimed of lists of calls on the two stores, made from an opening on, each on the words as the last one left them.
--- The claims are crate `model`'s (its specs/Demand1.antt, Demand2.antt, Demand3.antt, Closed.antt, Held.antt), here of the words that the calls' contracts name.
+-- The claims are crate `model`'s (its specs/Demand1.antt, Demand2.antt, Demand3.antt, Closed.antt, Held.antt, Wake.antt, Keys.antt), here of the words that the calls' contracts name.
 -- Assumes nothing.
 use mathlib.Core.Path.{_≡_}
 use mathlib.Core.Bool.{cond}
@@ -19,11 +19,14 @@ use Rattle.model.specs.Demand2.{Demand2In, HasRoom, HandsAsAnsweredIn}
 use Rattle.model.specs.Demand3.{Demand3In}
 use Rattle.model.specs.Closed.{NoneAfterCloseIn}
 use Rattle.model.specs.Held.{HeldAsCountedIn}
+use Rattle.model.specs.Wake.{NoLostWakeIn}
+use Rattle.model.specs.Keys.{KeysNeverAgainIn, IssuedAsAnsweredIn}
 use Rattle.yring.specs.Ring.{newRing}
 use Rattle.lane.specs.Lane.{heldItems}
 use Rattle.lane.specs.Table.{laneAt}
 use Rattle.queues.specs.Header.{issued, capacity}
-use Rattle.refinement.specs.Runs.{theStores}
+use Rattle.refinement.specs.Runs.{innerCalls, theStores}
+use Rattle.refinement.specs.AsRules.{EachCallAsRules, ListsAsRules, ExamplesOf}
 
 -- The items in the ring of the lane with this key, oldest first; none if no lane has it.
 unfoldable pub itemsIn : List ℕ → List ℕ → LaneKey → List ℕ
@@ -63,3 +66,27 @@ NoneAfterClose = NoneAfterCloseIn theStores runs
 -- held is the number of accepted sends less items handed out, of lanes not closed
 abbrev pub HeldIsCounted : Type 0
 HeldIsCounted = HeldAsCountedIn theStores runs
+
+-- "the first accepted ordinary send to an unpaused lane answers woken 1" after an answer on which a receiver may sleep
+abbrev pub NoLostWake : Type 0
+NoLostWake = NoLostWakeIn theStores runs
+
+-- a registration never answers a key that was answered before in the run
+abbrev pub KeysNeverAgain : Type 0
+KeysNeverAgain = KeysNeverAgainIn theStores runs
+
+-- the issued slots are those of the answers
+abbrev pub IssuedAsAnswered : Type 0
+IssuedAsAnswered = IssuedAsAnsweredIn theStores runs (λ w. issued (w .0))
+
+-- demand 2: "each call is proved to do what document 01's rules say", in answer, state, items, lanes and output
+abbrev pub CallsAsRules : Type 0
+CallsAsRules = EachCallAsRules innerCalls
+
+-- a list of calls from an accepted opening on is the rules' run
+abbrev pub TraceAsRules : Type 0
+TraceAsRules = ListsAsRules innerCalls
+
+-- document 01's examples, of the calls
+abbrev pub ExamplesHold : Type 0
+ExamplesHold = ExamplesOf innerCalls

@@ -1,4 +1,5 @@
 pub mod Hands
 pub mod Runs
+pub mod AsRules
 pub mod Demands
 pub mod RulesOnWords

@@ -1,13 +1,15 @@
 -- Document 01's examples about runs, those marked P and more, in one table: one computed test, one law.
 -- Assumes nothing.
 use mathlib.Core.Path.{_≡_, refl, ap}
-use mathlib.Core.Bool.{true, false}
+use mathlib.Core.Bool.{Bool, true, false}
 use mathlib.Core.List.{List, [], _∷_, _++_, map, tail}
 use Prim.Native.Nat.{ℕ, zero, suc, _<_}
 use native.Mathlib.Omega.{arith}
 use lib.ListN.{length, getD}
+use lib.Dec.{leb}
 use Rattle.model.specs.declared.LaneKey.{LaneKey}
 use Rattle.model.specs.declared.LaneId.{LaneId}
+use Rattle.model.specs.declared.Opening.{Opening}
 use Rattle.model.specs.declared.SenderCall.the-variants.{RegisterSender, TrySend, TrySendUnsignaled, DropSender}
 use Rattle.model.specs.declared.ReceiveCall.the-variants.{TryRecv, TryRecvFair, TryRecvFrom, TryRecvBatchInto}
 use Rattle.model.specs.declared.ControlCall.the-variants.{Pause, Resume, CloseLane, ReleaseConsumed, PollAllLanes, CloseReceiver, CountHeld}
@@ -16,12 +18,12 @@ use Rattle.model.specs.declared.Call.the-variants.{Sender, Receive, Cont
 use Rattle.model.specs.declared.Refusal.the-variants.{CapacityOutOfRange, SlotsOutOfRange, RingStoreShort, TableStoreShort, ReceiverClosed, AtCapacity, NoFreeSlot, OlderSenderLives, NoSuchSender, LaneClosed, Full, OutputShort, NoSuchLane}
 use Rattle.model.specs.declared.Answer.{Answer}
 use Rattle.model.specs.declared.Answer.the-variants.{Done, Registered, Taken, Item, Items, Empty, Disconnected, Held, Refused}
-use Rattle.model.specs.Lists.{same, count, keep, without, from, total}
-use Rattle.model.specs.State.{State, vacant, mayQueue, registeredLanes, livingSenders, senderLives, hasLane, hasLaneId, isFull, releaseBatch, ringOf}
+use Rattle.model.specs.Lists.{both, same, count, keep, without, from, total}
+use Rattle.model.specs.State.{vacant, mayQueue, registeredLanes, livingSenders, senderLives, hasLane, hasLaneId, isFull, releaseBatch, ringOf}
 use Rattle.model.specs.Ready.{groupOf, groupsIn, marks, isReady, collectMarks, collectGroup, startGroup, groupsRound, collectFirst, collectEach, collectReadyGroup, collectReady}
 use Rattle.model.specs.Turn.{retireLane, retireLaneIf, settleEmpty, refill, beforeNextTurn, runDownFrom, runDown, unreleasedAfterOne, giveItem, giveOldest, giveFront, collectIfDue, collectIfNoneQueued, polled, takeOne, takeFair}
 use Rattle.model.specs.Outcome.{unless}
-use Rattle.model.specs.Runs.{afterList}
+use Rattle.model.specs.Runs.{answers, afterList}
 use Rattle.model.specs.Sender.{issueSlot, olderLives, registerSender, trySend, trySendUnsignaled, dropSender, senderOutcome}
 use Rattle.model.specs.Receive.{retireEmptyPausedLanes, emptyOrDrained, nothingTaken, answerOne, tryRecv, tryRecvFair, queueLaneIf, takeFrom, tryRecvFrom, andMore, takeUpTo, releaseAll, answerItems, tryRecvBatchInto, writtenTo, receiveOutcome, outputAfter}
 use Rattle.model.specs.Control.{pause, resumeIf, resume, closeLane, releaseConsumed, pollAllLanes, closeReceiver, countHeld, controlOutcome}
@@ -42,19 +44,15 @@ pub record Example : Type 0 where
   pub answers : List Answer
   pub budget : ℕ
 
-answersFrom : State → List Call → List Answer
-answersFrom s [] = []
-answersFrom s (c ∷ cs) = let r = outcome s c in (r .1 .0) ∷ answersFrom (r .1 .1) cs
-
--- the state after an example's opening; the channel is 7, as in "Input 0 (4, 2, 7, 0, 0)"
-start : Example → State
-start e = openedState record { capacity = e .capacity; slots = e .slots; channel = 7; cursor = 0; generation = e .generation }
+-- its opening; the channel is 7, as in "Input 0 (4, 2, 7, 0, 0)"
+unfoldable pub openingOf : Example → Opening
+openingOf e = record { capacity = e .capacity; slots = e .slots; channel = 7; cursor = 0; generation = e .generation }
 
 -- what does come of it
-pub found : Example → List Answer × ℕ
-found e = (answersFrom (start e) (e .calls), (afterList theRules (start e) (e .calls)) .budget)
+unfoldable pub found : Example → List Answer × ℕ
+found e = let s = openedState (openingOf e) in (answers theRules s (e .calls), (afterList theRules s (e .calls)) .budget)
 
-pub expected : Example → List Answer × ℕ
+unfoldable pub expected : Example → List Answer × ℕ
 expected e = (e .answers, e .budget)
 
 keyAt : ℕ → ℕ → LaneKey
@@ -444,8 +442,16 @@ table =
 
 -- the computed test, over the whole table
 pub table-computed : map found table ≡ map expected table
-unfolding compute afterList found expected answersFrom start keyAt idOn idAt registers sends sendsUnsignalled drops plain fair batch targeted pauses resumes closes pollsAll held lane gave repeat table
+unfolding compute answers afterList found expected openingOf keyAt idOn idAt registers sends sendsUnsignalled drops plain fair batch targeted pauses resumes closes pollsAll held lane gave repeat table
 table-computed = refl
+
+-- an opening takes the sizes of each row: "1 to 65,536", "1 to 8,192"
+unfoldable pub sizesTaken : Example → Bool
+sizesTaken e = both (both (leb 1 (e .capacity)) (leb (e .capacity) 65536)) (both (leb 1 (e .slots)) (leb (e .slots) 8192))
+
+pub sizes-computed : map sizesTaken table ≡ map (λ e. true) table
+unfolding sizesTaken table
+sizes-computed = refl
 
 -- the law: at each row
 row : ℕ → Example
