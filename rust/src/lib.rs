@@ -71,8 +71,9 @@
 //!
 //! # Refusals
 //!
-//! Document 01 gives each refusal a number. Each variant of an error has one number, which the method `refusal` tells;
-//! `Empty` and `Disconnected` of a receive are results and have none. A call that is refused has changed nothing.
+//! Document 01 gives each refusal a number. Each variant of an error has one number, which the method `refusal` tells,
+//! but for three: `Empty` and `Disconnected` of a receive are results, and with [`ChannelError::OutOfMemory`] the library
+//! was not called. A call that is refused has changed nothing.
 //!
 //! | No. | When | Variant |
 //! |---|---|---|
