@@ -191,7 +191,7 @@ impl Run {
                 Err(error) => limit > 0 && nothing(error),
             },
             14 => {
-                drop(self.channel.try_recv_from(&lane));
+                let _ = self.channel.try_recv_from(&lane);
                 false
             }
             15..=16 => {
