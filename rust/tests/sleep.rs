@@ -119,6 +119,15 @@ fn a_drop_of_a_closed_lane_and_of_a_paused_one() {
 }
 
 #[test]
+fn a_batch_does_not_tell_the_end() {
+    let (mut channel, keys) = with_senders(4, 1);
+    channel.try_send(keys[0], 1).unwrap();
+    channel.drop_sender(keys[0]).unwrap();
+    assert_eq!(channel.try_recv_batch_into(&mut Vec::new(), 4), Ok(1));
+    assert_eq!(channel.try_recv_batch_into(&mut Vec::new(), 4), Err(TryRecvError::Disconnected));
+}
+
+#[test]
 fn a_batch_keeps_no_order_between_lanes() {
     let (mut channel, keys) = with_senders(4, 2);
     for (key, item) in [(keys[1], 1), (keys[0], 2), (keys[1], 3)] {
