@@ -13,9 +13,9 @@
    order sent. Between lanes no order is kept, and a batch names no lanes: where it matters whose an item is, the item has to say so, or single receives do.
 
    SLEEP. No call waits. A send that finds its lane's signal idle answers woken 1: wake the receiver if it sleeps, and do nothing else.
-   A receiver may sleep after a plain receive, a fair one or a batch of a limit other than 0 that answered FANRING_EMPTY or FANRING_DISCONNECTED, and after
-   a batch that answered fewer items than its limit. From such an answer on, while no calls but sender calls and held are made, the first fanring_try_send
-   that is taken, to a lane that is not paused, answers woken 1.
+   To look is to make a plain receive, a fair one or a batch of a limit other than 0. A receiver may sleep after a look that answered FANRING_EMPTY or
+   FANRING_DISCONNECTED, and after a batch that answered fewer items than its limit. From such an answer on, while no calls but sender calls and held are
+   made, the first fanring_try_send that is taken, to a lane that is not paused, answers woken 1.
    It may not sleep after a single item, a batch that reached its limit, a batch of limit 0 or a targeted receive: a lane may still be pending, and then
    its sends answer woken 0 until its ring is full. After the receiver's other calls it looks again first; made while it sleeps, they are to wake it.
    A drop and an unsignalled send wake nobody. A drop is seen by the next look, so wake the receiver after it. Nor does a batch tell that its items were

@@ -32,9 +32,10 @@
 //!
 //! No call waits; a host with threads puts the [`Channel`] behind a lock, and does its own waking.
 //!
-//! The receiver may sleep after [`try_recv`](Channel::try_recv), [`try_recv_fair`](Channel::try_recv_fair) or a batch
-//! with a limit other than 0 that answered `Empty` or `Disconnected`, and after a batch of fewer items than its limit.
-//! From such an answer on, while no calls but those of senders and [`held`](Channel::held) are made, the first accepted
+//! To look is to call [`try_recv`](Channel::try_recv), [`try_recv_fair`](Channel::try_recv_fair) or
+//! [`try_recv_batch_into`](Channel::try_recv_batch_into) with a limit other than 0. The receiver may sleep after a look
+//! that answered `Empty` or `Disconnected`, and after a batch of fewer items than its limit. From such an answer on,
+//! while no calls but those of senders and [`held`](Channel::held) are made, the first accepted
 //! [`try_send`](Channel::try_send) to a lane that is not paused answers `true`: wake the receiver then.
 //!
 //! - It may not sleep after a single item, a batch that reached its limit, a batch of limit 0, or

@@ -129,7 +129,8 @@ impl Channel {
     /// empty before it is resumed; but with no living sender left, untargeted receives that have no item retire empty
     /// paused lanes too. A closed lane is gone already.
     ///
-    /// If the receiver sleeps, wake it, as fanring does: the sender may have been the last. The next look sees it.
+    /// If the receiver sleeps, wake it, as fanring does: the sender may have been the last. The next receive
+    /// that is not targeted sees it.
     ///
     /// # Errors
     ///
