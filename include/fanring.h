@@ -2,27 +2,40 @@
 
    STORES. `table` and `rings` are arrays of words. To open a channel of S slots the table needs at least FANRING_TABLE_WORDS(S) words and the ring store
    at least FANRING_RING_WORDS(S, C), with C the capacity rounded up to a power of two; table_len and rings_len are their lengths in words. Their words
-   belong to the library from the opening on. There is no heap and no other state.
+   belong to the library from the opening on. There is no heap and no other state. The words are numbers and no pointers: between calls both stores may be
+   copied whole, saved and read back, mapped at another place or by another process, and shared behind a lock; calls on them then do and answer the same.
 
    ANSWERS. Each call returns a tag (enum fanring_tag) and puts the answer's numbers into words[0] and on; `words` has room for FANRING_WORDS. Words that
    the answer does not use are as they were. A refusal leaves every word of both stores and of the output as it was.
 
    LANES. A lane is one sender's ring, named by its key. Its signal is idle or pending: a send marks the lane, which makes it pending; a receive that
-   finds the lane empty makes it idle. Receives look for marked lanes and queue them; queued lanes have turns at the front. A send that finds the signal
-   idle answers woken 1: wake the receiver if it sleeps, and do nothing else. Wake it also after a drop or a resume, which answer no such number.
-   Credit is the places of items handed out. It goes back to the lane's sender when it reaches the release batch (half of C or 64, whichever is more, but
-   at most C), when a receive finds the lane empty, on pause, on release_consumed and with every batch. So a send may still be refused 11 after a receive.
+   finds the lane empty makes it idle. Receives look for marked lanes and queue them; queued lanes have turns at the front. A lane's items come out in the
+   order sent. Between lanes no order is kept, and a batch names no lanes: where it matters whose an item is, the item has to say so, or single receives do.
+
+   SLEEP. No call waits. A send that finds its lane's signal idle answers woken 1: wake the receiver if it sleeps, and do nothing else.
+   To look is to make a plain receive, a fair one or a batch of a limit other than 0. A receiver may sleep after a look that answered FANRING_EMPTY or
+   FANRING_DISCONNECTED, and after a batch that answered fewer items than its limit. From such an answer on, while no calls but sender calls and held are
+   made, the first fanring_try_send that is taken, to a lane that is not paused, answers woken 1.
+   It may not sleep after a single item, a batch that reached its limit, a batch of limit 0 or a targeted receive: a lane may still be pending, and then
+   its sends answer woken 0 until its ring is full. After the receiver's other calls it looks again first; made while it sleeps, they are to wake it.
+   A drop and an unsignalled send wake nobody. A drop is seen by the next look, so wake the receiver after it. Nor does a batch tell that its items were
+   the last: FANRING_DISCONNECTED comes with the look after it, for which nobody is woken. Once all senders are dropped, look until it is answered.
+
+   CREDIT. The places of items handed out are free for the sender once the lane gives them back: when they are as many as the release batch (half of C or
+   64, whichever is more, but at most C), when a receive finds the lane empty, and on pause; all lanes do on release_consumed and at the end of every batch,
+   one of limit 0 too. So a send may still be refused 11 after a receive. No answer tells of credit that goes back; after a batch or release_consumed, all
+   of it has: that is when to try again.
 
    WHAT EVERY CALL RELIES ON. Each pointer is to as many words as its length says, `words` to FANRING_WORDS, aligned as uint64_t is; it is not NULL, also
    where the length is 0. `table`, `rings`, `out` and `words` do not overlap. Nothing else uses them during the call: one call at a time on a pair of
-   stores. (Two fanring_held or two fanring_inner_held, which only read the stores, may run at one time.)
+   stores. (Calls of fanring_held and fanring_inner_held, which only read the stores, may run at one time.)
 
    CHECKED CALLS (fanring_..) rely on nothing else: they take any stores and any numbers. All but fanring_open test both stores first, which goes over
    every issued slot, and answer refused 5 if they are not in order.
 
    INNER CALLS (fanring_inner_..) make no such test, and have a premise: the stores are in order. They are if fanring_open has opened them and answered
-   FANRING_DONE, with these lengths, and since then nothing but these calls, checked or inner, has changed them. With the premise broken, nothing is
-   promised: not even that a call stays within the stores.
+   FANRING_DONE, with these lengths, and since then nothing but these calls, checked and inner ones in any mixture, has changed them. With the premise
+   broken, nothing is promised: not even that a call stays within the stores.
 
    The contracts are in crates/c_checked/src and crates/c_inner/src, and are proved. For x86-64 Linux. */
 #ifndef FANRING_H
@@ -100,8 +113,10 @@ uint64_t fanring_try_send_unsignaled(
     uint64_t *table, size_t table_len, uint64_t *rings, size_t rings_len, uint64_t slot, uint64_t generation,
     uint64_t item, uint64_t words[FANRING_WORDS]);
 
-/* Drops the sender with this key: its lane is marked, and the living senders are one less. Items already sent can still be received, and the lane counts
-   against `most` until a receive finds it empty, and it retires. Answers FANRING_DONE; or refused 5, 10. */
+/* Drops the sender with this key: its lane is marked, and the living senders are one less. If the lane is not closed, items already sent can still be
+   received, and the lane counts against `most` until a receive finds it empty, and it retires. If it is paused, only a targeted receive finds it empty
+   before it is resumed; but with no living sender left, plain, fair and non-zero batch receives that have no item retire empty paused lanes too. A closed
+   lane is gone already. Answers FANRING_DONE; or refused 5, 10. */
 uint64_t fanring_drop_sender(
     uint64_t *table, size_t table_len, const uint64_t *rings, size_t rings_len, uint64_t slot, uint64_t generation,
     uint64_t words[FANRING_WORDS]);
@@ -114,23 +129,23 @@ uint64_t fanring_try_recv(uint64_t *table, size_t table_len, const uint64_t *rin
 /* Receives one item (fair): one of the front lane, which goes to the back. Answers as fanring_try_recv. */
 uint64_t fanring_try_recv_fair(uint64_t *table, size_t table_len, const uint64_t *rings, size_t rings_len, uint64_t words[FANRING_WORDS]);
 
-/* Receives one item of the lane with this id, paused or not (targeted); an unpaused lane that is not queued is then queued, at the back. Answers
-   FANRING_ITEM with the words of fanring_try_recv; FANRING_EMPTY; FANRING_DISCONNECTED if this lane is empty and its own sender dropped, whether or not
-   others live, and the lane retires; or refused 5, 6, 13. */
+/* Receives one item of the lane with this id, paused or not (targeted). A lane that gave one, and is neither paused nor queued, is then queued, at the
+   back. Answers FANRING_ITEM with the words of fanring_try_recv; FANRING_EMPTY; FANRING_DISCONNECTED if this lane is empty and its own sender dropped,
+   whether or not others live, and the lane retires; or refused 5, 6, 13. */
 uint64_t fanring_try_recv_from(
     uint64_t *table, size_t table_len, const uint64_t *rings, size_t rings_len,
     uint64_t channel, uint64_t slot, uint64_t generation, uint64_t words[FANRING_WORDS]);
 
-/* Receives items into out[0], out[1], .. in order, until the limit, or until nothing is queued and nothing is ready; then every lane gives back its
-   credit. Answers FANRING_ITEMS with words[0] their count; FANRING_EMPTY or FANRING_DISCONNECTED if there was none, but 0 items if the limit is 0; or
-   refused 5, 6, 14. The rest of out is as it was. */
+/* Receives items into out[0], out[1], .. in order, with turns as of plain receives, until the limit, or until nothing is queued and nothing is ready;
+   then every lane gives back its credit. Answers FANRING_ITEMS with words[0] their count; FANRING_EMPTY or FANRING_DISCONNECTED if there was none, but 0
+   items if the limit is 0; or refused 5, 6, 14. The rest of out is as it was. */
 uint64_t fanring_try_recv_batch_into(
     uint64_t *table, size_t table_len, const uint64_t *rings, size_t rings_len, uint64_t *out, size_t out_len,
     uint64_t limit, uint64_t words[FANRING_WORDS]);
 
-/* Takes the lane with this id out of all receives but targeted ones; its credit goes back. While no sender lives and a paused lane has items, a receive
-   that finds nothing answers FANRING_EMPTY and not FANRING_DISCONNECTED, until that lane is resumed, closed or emptied by targeted ones. Answers
-   FANRING_DONE; or refused 5, 6, 13. */
+/* Takes the lane with this id out of all receives but targeted ones; its credit goes back. While no sender lives and a paused lane has items, plain, fair
+   and non-zero batch receives that have no item answer FANRING_EMPTY and not FANRING_DISCONNECTED, until that lane is resumed, closed or emptied by
+   targeted ones. Answers FANRING_DONE; or refused 5, 6, 13. */
 uint64_t fanring_pause(
     uint64_t *table, size_t table_len, const uint64_t *rings, size_t rings_len,
     uint64_t channel, uint64_t slot, uint64_t generation, uint64_t words[FANRING_WORDS]);

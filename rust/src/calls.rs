@@ -1,7 +1,9 @@
-//! The calls of the library. The only module with `unsafe`, and the only one that reaches the words of a channel.
+//! The calls of the library, and the memory that is lent to them. The only module with `unsafe`, and the only one that
+//! reaches the words of a channel.
 
 mod controlling;
 mod library;
+mod memory;
 mod receiving;
 mod sending;
 #[cfg(test)]
@@ -11,6 +13,7 @@ use crate::answer::Answer;
 use crate::{Opening, Stores};
 use library::fanring_open;
 pub(crate) use library::Words;
+pub(crate) use memory::zeros;
 
 // The library's numbers are u64, and a slice's length is one of them.
 const _: () = assert!(usize::BITS == 64);

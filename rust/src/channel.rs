@@ -30,8 +30,8 @@ use crate::{LaneId, LaneKey, Opening, Stores};
 /// - Nothing else writes to the words, and their number stays. The `Channel` owns both stores, the fields are private
 ///   to the one module that calls the library, that module hands out no reference to them, and no function that this
 ///   crate exports is `unsafe`. [`into_stores`](Self::into_stores) gives them back only as the channel ends.
-/// - A call that writes takes `&mut self`, so nothing else runs on the stores at that time. A `Channel` may move to
-///   another thread, or stand behind a lock.
+/// - A call that writes takes `&mut self`, so nothing else runs on the stores at that time; [`held`](Self::held) takes
+///   `&self` and only reads. A `Channel` may move to another thread, or stand behind a lock.
 ///
 /// Neither it nor [`Opening`] is `Clone`: two channels would share their id, and each would take the other's lane ids.
 pub struct Channel {

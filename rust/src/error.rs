@@ -3,7 +3,7 @@
 use std::error::Error;
 use std::fmt;
 
-/// The opening was refused.
+/// No channel was opened.
 #[derive(Debug, Clone, Copy, PartialEq, Eq)]
 pub enum ChannelError {
     /// `capacity_per_sender` was zero. Refusal 1.
@@ -36,22 +36,28 @@ pub enum ChannelError {
         /// Words that the opening asks for.
         asked: usize,
     },
+    /// There is no memory for the stores. No refusal: the library was not called.
+    OutOfMemory {
+        /// Words that the two stores have together.
+        words: usize,
+    },
 }
 
 impl ChannelError {
-    /// Document 01's number.
+    /// Document 01's number; none for `OutOfMemory`.
     ///
     /// ```
     /// let error = proved_fanring::try_channel(0, 2).unwrap_err();
-    /// assert_eq!(error.refusal(), 1);
+    /// assert_eq!(error.refusal(), Some(1));
     /// ```
     #[must_use]
-    pub const fn refusal(&self) -> u64 {
+    pub const fn refusal(&self) -> Option<u64> {
         match self {
-            Self::ZeroCapacity | Self::CapacityTooLarge { .. } => 1,
-            Self::SlotsOutOfRange { .. } => 2,
-            Self::RingStoreShort { .. } => 3,
-            Self::TableStoreShort { .. } => 4,
+            Self::ZeroCapacity | Self::CapacityTooLarge { .. } => Some(1),
+            Self::SlotsOutOfRange { .. } => Some(2),
+            Self::RingStoreShort { .. } => Some(3),
+            Self::TableStoreShort { .. } => Some(4),
+            Self::OutOfMemory { .. } => None,
         }
     }
 
@@ -91,6 +97,7 @@ impl fmt::Display for ChannelError {
             Self::TableStoreShort { words, asked } => {
                 write!(f, "the table store has {words} words and must have {asked}")
             }
+            Self::OutOfMemory { words } => write!(f, "there is no memory for stores of {words} words"),
         }
     }
 }

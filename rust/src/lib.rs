@@ -28,6 +28,29 @@
 //! # Ok::<(), Box<dyn std::error::Error>>(())
 //! ```
 //!
+//! # When a receiver may sleep
+//!
+//! No call waits; a host with threads puts the [`Channel`] behind a lock, and does its own waking.
+//!
+//! To look is to call [`try_recv`](Channel::try_recv), [`try_recv_fair`](Channel::try_recv_fair) or
+//! [`try_recv_batch_into`](Channel::try_recv_batch_into) with a limit other than 0. The receiver may sleep after a look
+//! that answered `Empty` or `Disconnected`, and after a batch of fewer items than its limit. From such an answer on,
+//! while no calls but those of senders and [`held`](Channel::held) are made, the first accepted
+//! [`try_send`](Channel::try_send) to a lane that is not paused answers `true`: wake the receiver then.
+//!
+//! - It may not sleep after a single item, a batch that reached its limit, a batch of limit 0, or
+//!   [`try_recv_from`](Channel::try_recv_from): a lane may still be pending, and then its sends answer `false` until its
+//!   ring is full. After the receiver's other calls it looks again first; made while it sleeps, they are to wake it.
+//! - A drop and an unsignalled send wake nobody. A drop is seen by the next look, so wake the receiver after it. Nor does
+//!   a batch tell that its items were the last: `Disconnected` comes with the look after it, for which nobody is woken.
+//!   Once all senders are dropped, look until it is answered.
+//! - A sender that was refused as `Full` tries again after a batch or [`release_consumed`](Channel::release_consumed):
+//!   then all places of items that were taken are free again. No answer tells of it.
+//! - A batch names no lanes and keeps no order between them; a lane's own items are in the order sent. Where it matters
+//!   whose an item is, the item has to say so, or single receives do.
+//!
+//! examples/recorder.rs is a host that does so, with threads, a lock and two condition variables.
+//!
 //! # From fanring to this crate
 //!
 //! Of the same name, and by a sender's key or a lane's id: `try_send`, `try_send_unsignaled`, `try_recv`,
@@ -45,8 +68,8 @@
 //! Absent:
 //!
 //! - all that waits: `send`, `send_timeout`, `send_deadline`, `recv`, `recv_timeout`, `recv_deadline`,
-//!   `recv_batch_into`, iterators, async calls, wakers and wait strategies. A caller that sleeps does its own waking:
-//!   see [`try_send`](Channel::try_send);
+//!   `recv_batch_into`, iterators, async calls, wakers and wait strategies. A caller that sleeps does its own waking, as
+//!   above;
 //! - admit predicates: `try_recv_batch_into_while`, `try_recv_scan_into_while` (without a predicate,
 //!   [`poll_all_lanes`](Channel::poll_all_lanes) and then [`try_recv_batch_into`](Channel::try_recv_batch_into));
 //! - `try_send_deferred` and `flush`; `try_register_with_capacity`; teardown policies other than `Deferred`;
@@ -71,8 +94,9 @@
 //!
 //! # Refusals
 //!
-//! Document 01 gives each refusal a number. Each variant of an error has one number, which the method `refusal` tells;
-//! `Empty` and `Disconnected` of a receive are results and have none. A call that is refused has changed nothing.
+//! Document 01 gives each refusal a number. Each variant of an error has one number, which the method `refusal` tells,
+//! but for three: `Empty` and `Disconnected` of a receive are results, and with [`ChannelError::OutOfMemory`] the library
+//! was not called. A call that is refused has changed nothing.
 //!
 //! | No. | When | Variant |
 //! |---|---|---|

@@ -2,7 +2,7 @@
 
 use std::sync::atomic::{AtomicU64, Ordering};
 
-use crate::calls::StoresInOrder;
+use crate::calls::{zeros, StoresInOrder};
 use crate::{Channel, ChannelError};
 
 /// Maximum per-sender capacity.
@@ -41,8 +41,8 @@ pub fn channel(capacity_per_sender: usize, slots: usize) -> Channel {
 ///
 /// # Errors
 ///
-/// Returns [`ChannelError`] when `capacity_per_sender` is zero or exceeds [`MAX_CAPACITY_PER_SENDER`], or when `slots`
-/// is zero or exceeds [`MAX_SLOTS`].
+/// Returns [`ChannelError`] when `capacity_per_sender` is zero or exceeds [`MAX_CAPACITY_PER_SENDER`], when `slots` is
+/// zero or exceeds [`MAX_SLOTS`], or when there is no memory for the stores, which may take up to 4 GiB.
 ///
 /// ```
 /// use proved_fanring::{try_channel, ChannelError};
@@ -159,7 +159,7 @@ impl Opening {
     ///
     /// # Errors
     ///
-    /// Returns [`ChannelError`] when capacity or slots are out of range.
+    /// Returns [`ChannelError`] when capacity or slots are out of range, or when there is no memory for the stores.
     ///
     /// ```
     /// use proved_fanring::{ChannelError, Opening, MAX_SLOTS};
@@ -170,9 +170,11 @@ impl Opening {
     /// ```
     pub fn open(self) -> Result<Channel, ChannelError> {
         // An opening that is out of range gets empty stores; it is refused before they are looked at.
-        let stores =
-            Stores { table: vec![0; self.table_words().unwrap_or(0)], rings: vec![0; self.ring_words().unwrap_or(0)] };
-        self.open_on(stores).map_err(|(error, _)| error)
+        let (table, rings) = (self.table_words().unwrap_or(0), self.ring_words().unwrap_or(0));
+        let (Some(table), Some(rings)) = (zeros(table), zeros(rings)) else {
+            return Err(ChannelError::OutOfMemory { words: table + rings });
+        };
+        self.open_on(Stores { table, rings }).map_err(|(error, _)| error)
     }
 
     /// Open a channel on stores that are at hand, whatever they hold. They may be longer than asked.

@@ -121,7 +121,7 @@ impl Run {
             }
             (Err(TrySendError::NoSuchSender(back)), lane) => {
                 assert_eq!(back, item);
-                assert!(lane.is_none_or(|lane| lane.sender_dropped));
+                assert!(lane.map_or(true, |lane| lane.sender_dropped));
             }
             (result, None) => panic!("{key:?} was never given out: {result:?}"),
         }
@@ -181,7 +181,7 @@ impl Run {
             }
             Err(error) => {
                 assert_eq!(error == TryRecvError::ReceiverClosed, self.receiver_closed);
-                let empty = self.lanes.get(&key).is_none_or(|lane| lane.items.is_empty());
+                let empty = self.lanes.get(&key).map_or(true, |lane| lane.items.is_empty());
                 assert!(empty || self.receiver_closed, "{key:?} has items, and the answer is {error:?}");
             }
         }
@@ -236,7 +236,7 @@ impl Run {
             (Err(LaneControlError::ReceiverClosed), _) => assert!(self.receiver_closed),
             (Err(LaneControlError::NoSuchLane), lane) => {
                 // Closed, or retired: then it is empty and its sender is gone.
-                assert!(lane.is_none_or(|lane| lane.closed || lane.sender_dropped && lane.items.is_empty()));
+                assert!(lane.map_or(true, |lane| lane.closed || lane.sender_dropped && lane.items.is_empty()));
             }
             (Ok(()), None) => panic!("{key:?} was never given out"),
         }

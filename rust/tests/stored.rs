@@ -29,7 +29,7 @@ fn open(lengths: &Lengths, numbers: &[u64], channel: &mut Option<Channel>) -> St
         }
         Err((error, returned)) => {
             assert_eq!(returned, stores);
-            format!("refused {}", error.refusal())
+            format!("refused {}", error.refusal().unwrap())
         }
     }
 }

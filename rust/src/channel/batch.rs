@@ -8,9 +8,13 @@ use crate::{ReceiverClosed, TryRecvError};
 impl Channel {
     /// Append up to `limit` immediately available items to `output`, returning the number appended.
     ///
-    /// Lanes have the same turns as with [`try_recv`](Self::try_recv). In the end every lane's places of items already
+    /// Lanes have the same turns as with [`try_recv`](Self::try_recv). Which lane an item is from is not told, and the
+    /// order in which items of different lanes were sent is not kept. In the end every lane's places of items already
     /// taken are released. A zero limit receives nothing, releases, and returns `Ok(0)` even if the channel is
     /// disconnected. Existing items of the vector are preserved.
+    ///
+    /// After fewer items than `limit`, or none, [the receiver may sleep](crate#when-a-receiver-may-sleep), unless all
+    /// senders are dropped: that is told by the next call.
     ///
     /// The vector grows as needed, and any limit may be given: `usize::MAX` takes all that is there. For the call it is
     /// made longer by the limit, but where that is more than 16 for each slot, by no more than the items held and one;

@@ -7,8 +7,8 @@ use crate::{LaneKey, NoSuchSender, TryRegisterBoundedError, TrySendError};
 impl Channel {
     /// Register a sender, with a lane of its own, if fewer than `max_lanes` lanes are registered.
     ///
-    /// Includes dropped senders whose lanes the receiver has not yet observed empty, whether or not items remain.
-    /// Closed lanes stop counting immediately. The slot freed last is issued first, else the next unused one.
+    /// Includes dropped senders whose lanes, not closed, the receiver has not yet observed empty, whether or not items
+    /// remain. Closed lanes stop counting immediately. The slot freed last is issued first, else the next unused one.
     ///
     /// # Errors
     ///
@@ -48,8 +48,14 @@ impl Channel {
     /// The lane is marked: its signal becomes pending, and is idle again when a receive finds the lane empty. `Ok` says
     /// whether it was idle. Where it was, wake the receiver if it sleeps, as fanring does; there is nothing else to do.
     ///
+    /// That is enough where the receiver sleeps only after [`try_recv`](Self::try_recv),
+    /// [`try_recv_fair`](Self::try_recv_fair) or a batch with a limit other than 0 that answered `Empty` or
+    /// `Disconnected`, or after a batch of fewer items than its limit: then the first accepted send to a lane that is
+    /// not paused answers `true`. After a single item or a batch that reached its limit it may not sleep: the next send
+    /// answers `false`, as below. [The whole rule](crate#when-a-receiver-may-sleep).
+    ///
     /// Places of items that were taken remain occupied until the receiver releases them, so a send may be refused as
-    /// `Full` after a receive: see [`release_consumed`](Self::release_consumed).
+    /// `Full` after a receive: see [`release_consumed`](Self::release_consumed). After a batch all are free.
     ///
     /// # Errors
     ///
@@ -70,6 +76,19 @@ impl Channel {
     /// channel.drop_sender(key).unwrap();
     /// assert_eq!(channel.try_send(key, 3), Err(TrySendError::NoSuchSender(3)));
     /// ```
+    ///
+    /// Who sleeps after an item is not woken:
+    ///
+    /// ```
+    /// let mut channel = proved_fanring::channel(2, 1);
+    /// let key = channel.register_sender(1).unwrap();
+    /// assert_eq!(channel.try_send(key, 1), Ok(true));
+    /// assert!(channel.try_recv().is_ok());
+    /// assert_eq!(channel.try_send(key, 2), Ok(false));
+    /// assert!(channel.try_recv().is_ok());
+    /// assert!(channel.try_recv().is_err());
+    /// assert_eq!(channel.try_send(key, 3), Ok(true));
+    /// ```
     #[inline]
     pub fn try_send(&mut self, key: LaneKey, item: u64) -> Result<bool, TrySendError> {
         match self.stores.try_send(key, item) {
@@ -80,7 +99,7 @@ impl Channel {
 
     /// Send one item without marking this lane ready.
     ///
-    /// A targeted receive finds it; other receives do once the lane is marked or queued, by
+    /// It wakes nobody. A targeted receive finds it; other receives do once the lane is marked or queued, by
     /// [`poll_all_lanes`](Self::poll_all_lanes) or by an ordinary send on the same lane.
     ///
     /// # Errors
@@ -105,10 +124,13 @@ impl Channel {
         }
     }
 
-    /// Drop a sender. Items already sent can still be received; the lane counts as registered until a receive finds it
-    /// empty, and it retires.
+    /// Drop a sender. If its lane is not closed, items already sent can still be received, and the lane counts as
+    /// registered until a receive finds it empty, and it retires. If it is paused, only a targeted receive finds it
+    /// empty before it is resumed; but with no living sender left, untargeted receives that have no item retire empty
+    /// paused lanes too. A closed lane is gone already.
     ///
-    /// If the receiver sleeps, wake it, as fanring does: the sender may have been the last.
+    /// If the receiver sleeps, wake it, as fanring does: the sender may have been the last. The next receive
+    /// that is not targeted sees it.
     ///
     /// # Errors
     ///
