@@ -66,7 +66,9 @@ extern "C" fn touched(_: c_int) {
 pub fn start(seed: u64) {
     SEED.store(seed, Relaxed);
     std::panic::set_hook(Box::new(|info| {
-        let said = info.payload_as_str().unwrap_or("panic");
+        let payload = info.payload();
+        let text = payload.downcast_ref::<&str>().copied().or_else(|| payload.downcast_ref::<String>().map(String::as_str));
+        let said = text.unwrap_or("panic");
         eprintln!("hostile: {said}: {}", place());
         std::process::exit(1);
     }));
