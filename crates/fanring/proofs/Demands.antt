@@ -26,7 +26,7 @@ use Rattle.refinement.proofs.RulesKept.{keeps-rules}
 use Rattle.refinement.proofs.Simulation.{simulates}
 use Rattle.refinement.proofs.AsRules.{each-call-as-rules, lists-as-rules, examples-of}
 use Rattle.fanring.specs.Runs.{checkedWords, checkedCalls, theCalls}
-use Rattle.fanring.specs.Demands.{RefusalsChangeNothing, FiveExactly, CallsAsRules, CallsKeepOrder, OpensAsRules, OpensInOrder, runs, NeverFive, ItemsInOrder, AnswersTell, LanesWaitBounded, NoneAfterClose, HeldIsCounted, RulesKept, TraceAsRules, MixedAsChecked, ExamplesHold, NoLostWake, KeysNeverAgain, IssuedAsAnswered}
+use Rattle.fanring.specs.Demands.{RefusalsChangeNothing, FiveExactly, CallsSimulate, CallsKeepOrder, OpensAsRules, OpensInOrder, runs, NeverFive, ItemsInOrder, AnswersTell, LanesWaitBounded, NoneAfterClose, HeldIsCounted, RulesKept, TraceAsRules, MixedAsChecked, ExamplesHold, NoLostWake, KeysNeverAgain, IssuedAsAnswered}
 use Rattle.fanring.proofs.CheckedLaws.{checked-five}
 use Rattle.fanring.proofs.CheckedCalls.{checked-as-inner, words-unmoved, output-left}
 use Rattle.fanring.proofs.NeverFive.{never-five}
@@ -55,8 +55,8 @@ five-exactly = record {
   only-then = only-not-in-order;
 }
 
-pub calls-as-rules : CallsAsRules
-calls-as-rules = each-call-as-rules checkedCalls checked-as-inner
+pub calls-simulate : CallsSimulate
+calls-simulate = each-call-as-rules checkedCalls checked-as-inner
 
 pub calls-keep-order : CallsKeepOrder
 calls-keep-order t r c o = words-keep checkedCalls checked-as-inner t r o c
@@ -79,23 +79,23 @@ pub never-refused-five : NeverFive
 unfolding StaysInOrder
 never-refused-five x c e = only-not-in-order _ _ c e (rules-kept .stays-in-order x)
 
-pub calls-simulate : Simulation (viewedOf checkedCalls)
-calls-simulate = simulates checkedCalls checked-as-inner
+pub checked-simulate : Simulation (viewedOf checkedCalls)
+checked-simulate = simulates checkedCalls checked-as-inner
 
 pub items-in-order : ItemsInOrder
-items-in-order = subst (Demand2In theCalls runs) (λ i w k. ring-seen (w .0) (w .1) k i) (words-demand2 (viewedOf checkedCalls) calls-simulate)
+items-in-order = subst (Demand2In theCalls runs) (λ i w k. ring-seen (w .0) (w .1) k i) (words-demand2 (viewedOf checkedCalls) checked-simulate)
 
 pub answers-tell : AnswersTell
-answers-tell = words-hands-as-answered (viewedOf checkedCalls) calls-simulate
+answers-tell = words-hands-as-answered (viewedOf checkedCalls) checked-simulate
 
 pub lanes-wait-bounded : LanesWaitBounded
-lanes-wait-bounded = words-demand3 (viewedOf checkedCalls) calls-simulate
+lanes-wait-bounded = words-demand3 (viewedOf checkedCalls) checked-simulate
 
 pub none-after-close : NoneAfterClose
-none-after-close = words-none-after-close (viewedOf checkedCalls) calls-simulate
+none-after-close = words-none-after-close (viewedOf checkedCalls) checked-simulate
 
 pub held-is-counted : HeldIsCounted
-held-is-counted = words-held-as-counted (viewedOf checkedCalls) calls-simulate
+held-is-counted = words-held-as-counted (viewedOf checkedCalls) checked-simulate
 
 pub trace-as-rules : TraceAsRules
 trace-as-rules = lists-as-rules checkedCalls checked-as-inner
@@ -107,11 +107,11 @@ pub examples-hold : ExamplesHold
 examples-hold = examples-of checkedCalls checked-as-inner
 
 pub no-lost-wake : NoLostWake
-no-lost-wake = words-no-lost-wake (viewedOf checkedCalls) calls-simulate
+no-lost-wake = words-no-lost-wake (viewedOf checkedCalls) checked-simulate
 
 pub keys-never-again : KeysNeverAgain
-keys-never-again = words-keys-never-again (viewedOf checkedCalls) calls-simulate
+keys-never-again = words-keys-never-again (viewedOf checkedCalls) checked-simulate
 
 pub issued-as-answered : IssuedAsAnswered
 unfolding view
-issued-as-answered = words-issued-as-answered (viewedOf checkedCalls) calls-simulate
+issued-as-answered = words-issued-as-answered (viewedOf checkedCalls) checked-simulate

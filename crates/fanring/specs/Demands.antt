@@ -47,8 +47,8 @@ pub record FiveExactly : Type 0 where
 
 -- demand 2: "each call is proved to do what document 01's rules say": on stores in order it answers as the rules do, leaves what they leave, hands out
 -- their items of their lanes, and writes into its output what they write
-abbrev pub CallsAsRules : Type 0
-CallsAsRules = EachCallAsRules checkedCalls
+abbrev pub CallsSimulate : Type 0
+CallsSimulate = EachCallAsRules checkedCalls
 
 -- "An inner crate's calls [..] keep it": a call on stores in order leaves stores in order
 abbrev pub CallsKeepOrder : Type 0

@@ -18,7 +18,7 @@ use Rattle.lane.specs.Table.{laneAt}
 use Rattle.queues.specs.Header.{issued, capacity}
 use Rattle.store.specs.View.{flag, slotAt, view}
 use Rattle.refinement.specs.Runs.{viewedOf, innerCalls, theStores}
-use Rattle.refinement.specs.Demands.{itemsIn, runs, RefusalsChangeNothing, ItemsInOrder, AnswersTell, LanesWaitBounded, NoneAfterClose, HeldIsCounted, NoLostWake, KeysNeverAgain, IssuedAsAnswered, CallsAsRules, TraceAsRules, ExamplesHold}
+use Rattle.refinement.specs.Demands.{itemsIn, runs, RefusalsChangeNothing, ItemsInOrder, AnswersTell, LanesWaitBounded, NoneAfterClose, HeldIsCounted, NoLostWake, KeysNeverAgain, IssuedAsAnswered, CallsSimulate, TraceAsRules, ExamplesHold}
 use Rattle.refinement.proofs.RefusedUnmoved.{open-unmoved}
 use Rattle.refinement.proofs.CallLaws.{call-unmoved, output-unmoved}
 use Rattle.refinement.proofs.AsInner.{inner-as-inner}
@@ -75,8 +75,8 @@ pub issued-as-answered : IssuedAsAnswered
 unfolding view
 issued-as-answered = words-issued-as-answered (viewedOf innerCalls) stores-simulate
 
-pub calls-as-rules : CallsAsRules
-calls-as-rules = each-call-as-rules innerCalls inner-as-inner
+pub calls-simulate : CallsSimulate
+calls-simulate = each-call-as-rules innerCalls inner-as-inner
 
 pub trace-as-rules : TraceAsRules
 trace-as-rules = lists-as-rules innerCalls inner-as-inner

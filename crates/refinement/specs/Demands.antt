@@ -80,8 +80,8 @@ abbrev pub IssuedAsAnswered : Type 0
 IssuedAsAnswered = IssuedAsAnsweredIn theStores runs (λ w. issued (w .0))
 
 -- demand 2: "each call is proved to do what document 01's rules say", in answer, state, items, lanes and output
-abbrev pub CallsAsRules : Type 0
-CallsAsRules = EachCallAsRules innerCalls
+abbrev pub CallsSimulate : Type 0
+CallsSimulate = EachCallAsRules innerCalls
 
 -- a list of calls from an accepted opening on is the rules' run
 abbrev pub TraceAsRules : Type 0
