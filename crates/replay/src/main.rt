@@ -1,50 +1,58 @@
 // Document 01's replay program: reads records from standard input, and writes one line for each.
 mod input;
+mod round;
 
 ghost use mathlib.Core.Path.{_≡_};
-ghost use Prim.Native.Nat.{_≤_};
-ghost use lib.ListN.{length};
 ghost use Rattle.replay_serve.specs.Calls.{started};
-use input::Next;
-use replay_serve::serve;
+ghost use Rattle.replay.specs.Place.{Sized};
+ghost use Rattle.replay.specs.Ran.{Ran};
+use round::Next;
+use round::Place;
 
-fn flush(text: &[u8], end: usize)
-    requires { ⌜ end ≤ length (now text) ⌝ }
-{
-    io::write_all(1, &text[..end]);
+// How a run of the program ended.
+pub enum Outcome {
+    Answered,
+    ReadFailed,
+    WriteFailed,
+    TurnsOver,
 }
 
-// Reads and answers until the input ends or is malformed. A proved loop has to end, and nothing says that the input does: the turns are counted down from a number that no run uses up.
+// Reads, answers and writes until the input ends or is malformed. A proved loop has to end, and nothing says that the input does: the turns are counted down from a number that no run uses up.
 fn run(
     table: &mut [u64; 4096],
     rings: &mut [u64; 2048],
     out: &mut [u64; 64],
     buffer: &mut [u8; 65536],
     text: &mut [u8; 65536],
-)
-    requires { ⌜ record { table = now table; rings = now rings; out = now out } ≡ started ⌝ }
+) -> Outcome
+    requires { ⌜ (record { table = now table; rings = now rings; out = now out } ≡ started) × Sized (now buffer) × Sized (now text) ⌝ }
+    ensures { λ r. ⌜ Ran r (record { table = now (table .exit); rings = now (rings .exit); out = now (out .exit) }) ⌝ }
 {
     let mut turns = u64::MAX;
-    let mut at = 0;
-    let mut have = 0;
+    let mut place = Place {
+        next: Next::Read,
+        at: 0,
+        have: 0,
+        end: 0,
+    };
     while turns > 0 {
         turns -= 1;
-        let t = serve::serve(buffer, at, have, table, rings, out, text);
-        let end = t.end;
-        flush(text, end);
-        let found = t.found;
-        at = t.at;
-        match input::go_on(found, buffer, at, have, text) {
-            Next::Stop { end } => {
-                flush(text, end);
-                return;
-            }
-            Next::Go { at: a, have: h } => {
-                at = a;
-                have = h;
-            }
+        let came = input::fetch(place, buffer);
+        if came.failed {
+            return Outcome::ReadFailed;
+        }
+        place = round::round(place, came.size, buffer, table, rings, out, text);
+        let end = place.end;
+        let written = input::flush(text, end);
+        if !written {
+            return Outcome::WriteFailed;
+        }
+        let next = place.next;
+        if let Next::Stop = next {
+            return Outcome::Answered;
         }
     }
+    Outcome::TurnsOver
 }
 
 fn main() {
@@ -53,5 +61,10 @@ fn main() {
     let mut out = [0u64; 64];
     let mut buffer = [0u8; 65536];
     let mut text = [0u8; 65536];
-    run(&mut table, &mut rings, &mut out, &mut buffer, &mut text);
+    match run(&mut table, &mut rings, &mut out, &mut buffer, &mut text) {
+        Outcome::Answered => {}
+        Outcome::ReadFailed => input::complain(b"replay: standard input cannot be read\n"),
+        Outcome::WriteFailed => input::complain(b"replay: standard output cannot be written\n"),
+        Outcome::TurnsOver => input::complain(b"replay: the input is too long\n"),
+    }
 }

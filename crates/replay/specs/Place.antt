@@ -1,0 +1,65 @@
+-- The bytes in the program's buffer, and a round over them.
+-- Assumes nothing.
+use mathlib.Core.Bool.{Bool, true, false}
+use mathlib.Core.List.{List}
+use mathlib.Core.Path.{_≡_}
+use Prim.Native.Nat.{ℕ, zero, suc, _+_, _-_, _≤_, _<_}
+use lib.ListN.{length, take, drop}
+use Rattle.replay_serve.specs.declared.serve.Found.{Found}
+use Rattle.replay_serve.specs.declared.serve.Found.the-variants.{Incomplete, Malformed, Answered}
+use Rattle.replay_serve.specs.declared.serve.Reached.{Reached}
+use Rattle.replay_serve.specs.Calls.{Stores}
+use Rattle.replay.specs.declared.round.Next.{Next}
+use Rattle.replay.specs.declared.round.Next.the-variants.{Read, Again, Stop}
+use Rattle.replay.specs.declared.round.Place.{Place}
+use Rattle.replay.specs.Rounds.{Round, Last}
+
+-- the bytes from one place of the buffer to another
+abbrev pub between : ℕ → ℕ → List ℕ → List ℕ
+between at have b = take (have - at) (drop at b)
+
+-- The buffer and the text have 65,536 bytes, as their types say: of an array that is lent the logic does not tell it by itself.
+abbrev pub Sized : List ℕ → Type 0
+Sized l = length l ≡ 65536
+
+-- A place is inside the buffer; and where it asks for bytes there is room for one at least, as a read that asks for none looks like the end of the input.
+pub record InBuffer (p : Place) : Type 0 where
+  pub forward : p .at ≤ p .have
+  pub inside : p .have ≤ 65536
+  pub room : p .next ≡ Read → p .have < 65536
+
+-- after a read, or none where none was asked for: so many bytes came behind those that the buffer has, which stay
+pub record Fetched (n : Next) (have : ℕ) (b d : List ℕ) (got : ℕ) : Type 0 where
+  pub inside : have + got ≤ 65536
+  pub kept : take have d ≡ take have b
+  pub long : length d ≡ length b
+  pub unasked : (n ≡ Read → ⊥) → got ≡ 0
+
+-- bytes were asked for, and none came
+unfoldable pub ended : Next → ℕ → Bool
+ended Read zero = true
+ended Read (suc k) = false
+ended Again got = false
+ended Stop got = false
+
+-- where the records up to a place are answered, by what was found there: the buffer stays, or what is left of it goes to the front
+abbrev pub LeftBy : Found → ℕ → ℕ → List ℕ → List ℕ → Place → Type 0
+LeftBy Malformed at have b d p = (p .next ≡ Stop) × (p .at ≡ at) × (p .have ≡ have) × (d ≡ b)
+LeftBy Answered at have b d p = (p .next ≡ Again) × (p .at ≡ at) × (p .have ≡ have) × (d ≡ b)
+LeftBy Incomplete at have b d p = (p .next ≡ Read) × (p .at ≡ 0) × (p .have ≡ have - at) × (take (have - at) d ≡ between at have b)
+
+pub record Left (t : Reached) (have : ℕ) (b d : List ℕ) (p : Place) : Type 0 where
+  pub end : p .end ≡ t .end
+  pub long : length d ≡ length b
+  pub does : LeftBy (t .found) (t .at) have b d p
+
+-- the last round where the input has ended, else a round over what was left and what came
+abbrev pub RoundBy : Bool → Stores → List ℕ → Stores → List ℕ → List ℕ → Next → Type 0
+RoundBy true s b u rest text n = Last s b u rest text n
+RoundBy false s b u rest text n = Round s b u rest text n
+
+pub record Rounded (last : Bool) (p : Place) (got : ℕ) (s : Stores) (b : List ℕ) (u : Stores) (d text : List ℕ) (q : Place) : Type 0 where
+  pub sized : Sized d × Sized text
+  pub in-buffer : InBuffer q
+  pub room : q .end ≤ 65536
+  pub does : RoundBy last s (between (p .at) (p .have + got) b) u (between (q .at) (q .have) d) (take (q .end) text) (q .next)
