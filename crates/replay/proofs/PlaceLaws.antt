@@ -29,7 +29,7 @@ use Rattle.replay.specs.declared.round.Next.the-variants.{Read, Again, S
 use Rattle.replay.specs.declared.round.Place.{Place}
 use Rattle.replay.specs.Rounds.{cutLine, lastLine, GoesOn, Round, Last, Rounds}
 use Rattle.replay.specs.Rounds as Rounds
-use Rattle.replay.specs.Place.{Sized, between, InBuffer, Fetched, ended, LeftBy, Left, RoundBy, Rounded}
+use Rattle.replay.specs.Place.{Sized, between, InBuffer, Fetched, ended, LeftBy, Left, Finished, RoundBy, Rounded}
 
 -- ---- the text
 
@@ -117,8 +117,9 @@ unasked-stop got e = ap (λ (n : Next). ended n got) (sym e)
 
 -- ---- a round
 
-pub left-as : {t : Reached} {have : ℕ} {b d : List ℕ} {p : Place} {f : Found} → t .found ≡ f → p .end ≡ t .end → length d ≡ length b → LeftBy f (t .at) have b d p → Left t have b d p
-left-as {t} {have} {b} {d} {p} e w l r = record { end = w; long = l; does = subst (λ (f : Found). LeftBy f (t .at) have b d p) (sym e) r }
+pub left-as : {t : Reached} {have : ℕ} {b d : List ℕ} {p q : Place} {f : Found} → t .found ≡ f → p ≡ q → q .end ≡ t .end → length d ≡ length b → LeftBy f (t .at) have b d q → Left t have b d p
+left-as {t} {have} {b} {d} {p} {q} e g w l r =
+    subst (λ (x : Place). Left t have b d x) (sym g) (record { end = w; long = l; does = subst (λ (f : Found). LeftBy f (t .at) have b d q) (sym e) r })
 
 -- what was served, and how the program goes on
 module _ {s u : Stores} {b d text v : List ℕ} {at have : ℕ} {t : Reached} {p : Place} (h : at ≤ have) (i : have ≤ 65536) (j : Sized b) (m : Sized text)
@@ -182,24 +183,29 @@ served-rounded {place = place} {got = got} w i j m g k q =
       does = round-served h i j m g k q;
     }
 
+pub finished : {place p q : Place} {text v : List ℕ} → p ≡ q → q .next ≡ Stop → q .at ≡ place .at → q .have ≡ place .have
+    → Puts text 0 (cutLine (place .have - place .at)) v (q .end) × (q .end ≤ 65536) → Finished place text v p
+finished {place} {text = text} {v = v} e n a h w = subst (λ (x : Place). Finished place text v x) (sym e) (record { next = n; at = a; have = h; put = w .0; room = w .1 })
+
 -- the round in which nothing came
 pub last-rounded : {s : Stores} {b text v : List ℕ} {place p : Place} {got : ℕ} → InBuffer place → Sized b → Sized text → ended (place .next) got ≡ true
-    → (p .next ≡ Stop) × (p .at ≡ place .at) × (p .have ≡ place .have) × Puts text 0 (cutLine (place .have - place .at)) v (p .end) × (p .end ≤ 65536)
+    → Finished place text v p
     → Rounded true place got s b s b v p
 unfolding ended
-last-rounded {s} {b} {text} {v} {place} {p} {got} w j m e (n, f, x, y, z) =
+last-rounded {s} {b} {text} {v} {place} {p} {got} w j m e g =
+    let n = g .next in
     let nothing : got ≡ 0 = none-came (place .next) got e in
     let same : between (p .at) (p .have) b ≡ between (place .at) (place .have + got) b =
-    ap (λ (k : ℕ). between k (p .have) b) f ∙ (let q : p .have ≡ place .have + got = omega (arith, x, nothing) in ap (λ (k : ℕ). between (place .at) k b) q)
+    ap (λ (k : ℕ). between k (p .have) b) (g .at) ∙ (let q : p .have ≡ place .have + got = omega (arith, g .have, nothing) in ap (λ (k : ℕ). between (place .at) k b) q)
     in
     record {
-      sized = (j, y .long ∙ m);
-      in-buffer = record { forward = omega (arith, f, x, w .forward); inside = omega (arith, x, w .inside); room = λ r. (let z : _≡_ {A = ℕ} 0 1 = cc in absurd (omega arith)) };
-      room = z;
+      sized = (j, g .put .long ∙ m);
+      in-buffer = record { forward = omega (arith, g .at, g .have, w .forward); inside = omega (arith, g .have, w .inside); room = λ r. (let z : _≡_ {A = ℕ} 0 1 = cc in absurd (omega arith)) };
+      room = g .room;
       does = record {
         stores = refl;
         same = same;
-        lines = taken y (omega (arith, m, z))
+        lines = taken (g .put) (omega (arith, m, g .room))
             ∙ (let q : place .have - place .at ≡ length (between (place .at) (place .have + got) b) = omega (arith, nothing, between-long (place .at) (place .have + got) b (omega (arith, nothing, w .inside, j))) in ap cutLine q);
         stops = n;
       };

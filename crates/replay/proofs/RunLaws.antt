@@ -79,16 +79,16 @@ pub record Running (turns : ℕ) (s : Stores) (b text : List ℕ) (p : Place) : 
   pub in-buffer : InBuffer p
   pub goes : p .next ≡ Stop → ⊥
 
-pub running-start : {s : Stores} {b text : List ℕ} → (s ≡ started) × Sized b × Sized text → Running (2 ^ 64 - 1) s b text (record { next = Read; at = 0; have = 0; end = 0 })
-running-start {b = b} h =
-    record {
+pub running-start : {s : Stores} {b text : List ℕ} {p : Place} → (s ≡ started) × Sized b × Sized text → p ≡ record { next = Read; at = 0; have = 0; end = 0 } → Running (2 ^ 64 - 1) s b text p
+running-start {s} {b} {text} h g =
+    subst (λ (p : Place). Running (2 ^ 64 - 1) s b text p) (sym g) (record {
       count = 0;
       counted = refl;
       carried = carried-start b (h .0) 0;
       sized = (h .1, h .2);
       in-buffer = record { forward = omega arith; inside = omega arith; room = λ r. omega arith };
       goes = λ r. (let z : _≡_ {A = ℕ} 0 1 = cc in absurd (omega arith));
-    }
+    })
 
 module _ {turns got : ℕ} {s u : Stores} {b text d x v : List ℕ} {p q : Place} (c : Running turns s b text p) (f : Fetched (p .next) (p .have) b d got)
     (r : Rounded (ended (p .next) got) p got s d u x v q) where

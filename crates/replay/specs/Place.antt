@@ -5,6 +5,7 @@ use mathlib.Core.List.{List}
 use mathlib.Core.Path.{_≡_}
 use Prim.Native.Nat.{ℕ, zero, suc, _+_, _-_, _≤_, _<_}
 use lib.ListN.{length, take, drop}
+use Rattle.wire_line.specs.Text.{Puts}
 use Rattle.replay_serve.specs.declared.serve.Found.{Found}
 use Rattle.replay_serve.specs.declared.serve.Found.the-variants.{Incomplete, Malformed, Answered}
 use Rattle.replay_serve.specs.declared.serve.Reached.{Reached}
@@ -12,7 +13,7 @@ use Rattle.replay_serve.specs.Calls.{Stores}
 use Rattle.replay.specs.declared.round.Next.{Next}
 use Rattle.replay.specs.declared.round.Next.the-variants.{Read, Again, Stop}
 use Rattle.replay.specs.declared.round.Place.{Place}
-use Rattle.replay.specs.Rounds.{Round, Last}
+use Rattle.replay.specs.Rounds.{cutLine, Round, Last}
 
 -- the bytes from one place of the buffer to another
 abbrev pub between : ℕ → ℕ → List ℕ → List ℕ
@@ -52,6 +53,14 @@ pub record Left (t : Reached) (have : ℕ) (b d : List ℕ) (p : Place) : Type 0
   pub end : p .end ≡ t .end
   pub long : length d ≡ length b
   pub does : LeftBy (t .found) (t .at) have b d p
+
+-- where the input has ended: the line that is due is put, and the program stops
+pub record Finished (p : Place) (text v : List ℕ) (q : Place) : Type 0 where
+  pub next : q .next ≡ Stop
+  pub at : q .at ≡ p .at
+  pub have : q .have ≡ p .have
+  pub put : Puts text 0 (cutLine (p .have - p .at)) v (q .end)
+  pub room : q .end ≤ 65536
 
 -- the last round where the input has ended, else a round over what was left and what came
 abbrev pub RoundBy : Bool → Stores → List ℕ → Stores → List ℕ → List ℕ → Next → Type 0

@@ -29,12 +29,7 @@ fn run(
     ensures { λ r. ⌜ Ran r (record { table = now (table .exit); rings = now (rings .exit); out = now (out .exit) }) ⌝ }
 {
     let mut turns = u64::MAX;
-    let mut place = Place {
-        next: Next::Read,
-        at: 0,
-        have: 0,
-        end: 0,
-    };
+    let mut place = Place::new(Next::Read, 0, 0, 0);
     while turns > 0 {
         turns -= 1;
         let came = input::fetch(place, buffer);

@@ -5,7 +5,7 @@ ghost use lib.ListN.{length, take, drop};
 ghost use Rattle.wire_line.specs.Text.{Puts};
 ghost use mathlib.Core.Bool.{false};
 ghost use Rattle.replay.specs.Rounds.{cutLine};
-ghost use Rattle.replay.specs.Place.{Sized, InBuffer, Left, ended, Rounded};
+ghost use Rattle.replay.specs.Place.{Sized, InBuffer, Left, Finished, ended, Rounded};
 use model::Answer;
 use model::Refusal;
 use replay_serve::serve;
@@ -26,6 +26,19 @@ pub struct Place {
     pub at: usize,
     pub have: usize,
     pub end: usize,
+}
+
+impl Place {
+    pub fn new(next: Next, at: usize, have: usize, end: usize) -> Place
+        ensures { λ p. ⌜ p ≡ record { next = next; at = at; have = have; end = end } ⌝ }
+    {
+        Place {
+            next: next,
+            at: at,
+            have: have,
+            end: end,
+        }
+    }
 }
 
 // Moves the bytes from one place to another to the front; answers how many there are.
@@ -64,26 +77,11 @@ fn leave(t: Reached, buffer: &mut [u8; 65536], have: usize) -> Place
     let at = t.at;
     let end = t.end;
     match found {
-        Found::Malformed => Place {
-            next: Next::Stop,
-            at: at,
-            have: have,
-            end: end,
-        },
-        Found::Answered => Place {
-            next: Next::Again,
-            at: at,
-            have: have,
-            end: end,
-        },
+        Found::Malformed => Place::new(Next::Stop, at, have, end),
+        Found::Answered => Place::new(Next::Again, at, have, end),
         Found::Incomplete => {
             let left = shift(buffer, at, have);
-            Place {
-                next: Next::Read,
-                at: 0,
-                have: left,
-                end: end,
-            }
+            Place::new(Next::Read, 0, left, end)
         }
     }
 }
@@ -105,17 +103,12 @@ fn ended(next: Next, got: usize) -> bool
 // The line that is due where the input has ended.
 fn finish(place: Place, text: &mut [u8; 65536]) -> Place
     requires { ⌜ InBuffer place ⌝ }
-    ensures { λ p. ⌜ (p .next ≡ Next.Stop) × (p .at ≡ place .at) × (p .have ≡ place .have) × Puts (now (text .entry)) 0 (cutLine (place .have - place .at)) (now (text .exit)) (p .end) × (p .end ≤ 65536) ⌝ }
+    ensures { λ p. ⌜ Finished place (now (text .entry)) (now (text .exit)) p ⌝ }
 {
     let at = place.at;
     let have = place.have;
     let end = ending(text, have - at);
-    Place {
-        next: Next::Stop,
-        at: at,
-        have: have,
-        end: end,
-    }
+    Place::new(Next::Stop, at, have, end)
 }
 
 // Answers what came, and what was left before it.

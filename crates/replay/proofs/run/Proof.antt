@@ -40,7 +40,8 @@ run-spec =
     (tie.spec
     Inv-loop
     μ-loop
-    (λ c. running-start (c .pre))
+    (λ c κs. search needs)
+    (λ c. running-start (c .before .pre) (c .new .ensures))
     (λ c. search needs)
     fetch-requires
     (λ c. ran-so-far (c .before .before .before .before .loop .inv) tt)
