@@ -117,8 +117,8 @@ unasked-stop got e = ap (λ (n : Next). ended n got) (sym e)
 
 -- ---- a round
 
-pub left-as : {t : Reached} {have : ℕ} {b d : List ℕ} {p q : Place} {f : Found} → t .found ≡ f → p ≡ q → q .end ≡ t .end → length d ≡ length b → LeftBy f (t .at) have b d q → Left t have b d p
-left-as {t} {have} {b} {d} {p} {q} e g w l r =
+pub left-as : (t : Reached) {have : ℕ} {b d : List ℕ} {p q : Place} {f : Found} → t .found ≡ f → p ≡ q → q .end ≡ t .end → length d ≡ length b → LeftBy f (t .at) have b d q → Left t have b d p
+left-as t {have} {b} {d} {p} {q} e g w l r =
     subst (λ (x : Place). Left t have b d x) (sym g) (record { end = w; long = l; does = subst (λ (f : Found). LeftBy f (t .at) have b d q) (sym e) r })
 
 -- what was served, and how the program goes on

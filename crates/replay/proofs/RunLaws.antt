@@ -1,4 +1,4 @@
--- What the loop of `run` carries from one round to the next.
+-- What the loop of `run` carries from one round to the next, and what a run comes to.
 -- Assumes nothing.
 use mathlib.Core.Logic.{inl, inr}
 use mathlib.Core.Path.{_≡_, refl, sym, ap, _∙_, subst}
@@ -19,7 +19,8 @@ use Rattle.replay.specs.declared.Outcome.the-variants.{Answered, TurnsOv
 use Rattle.replay.specs.Rounds.{Round, Last, Rounds}
 use Rattle.replay.specs.Rounds as Rounds
 use Rattle.replay.specs.Place.{Sized, between, InBuffer, Fetched, ended, RoundBy, Rounded}
-use Rattle.replay.specs.Ran.{EndsAs, Ran}
+use Rattle.replay.specs.Ran.{EndsAs, Ran, RunsAnswer}
+use Rattle.replay.proofs.RoundLaws.{parts-answered}
 use Rattle.replay.proofs.PlaceLaws.{between-kept, between-more}
 
 -- so many rounds from the start, and the bytes that are left are those of the buffer
@@ -118,3 +119,16 @@ not-stopped {n} k e = go k (ap (tagOf Next.the-type) e)
     go : {n : ℕ} → OneOf (0 ∷ 1 ∷ []) n → n ≡ 2 → ⊥
     go (inl a) z = omega (arith, a, z)
     go (inr b) z = omega (arith, b, z)
+
+-- ---- the claims
+
+stopped : {s : Stores} (r : Ran Answered s) → Rounds (r .count) (r .parts) (r .texts) s (r .rest) Stop
+stopped {s} r = subst (λ (n : Next). Rounds (r .count) (r .parts) (r .texts) s (r .rest) n) (r .ends) (r .rounds)
+
+pub runs-answer : RunsAnswer
+runs-answer =
+    record {
+      lines = λ r c h. parts-answered .whole (stopped r) c h;
+      stores = λ r. parts-answered .stores (stopped r);
+      long = λ r. omega (arith, r .ends, parts-answered .few (r .rounds));
+    }
