@@ -1,4 +1,4 @@
-// Standard input and output.
+// Standard input, in a buffer.
 ghost use mathlib.Core.Path.{_≡_};
 ghost use Prim.Native.Nat.{_+_, _-_, _≤_, _<_};
 ghost use lib.ListN.{length, take};
@@ -43,16 +43,4 @@ pub fn fetch(place: Place, buffer: &mut [u8; 65536]) -> Came
             size: 0,
         },
     }
-}
-
-// Writes the first bytes of the text; answers whether all were taken.
-pub fn flush(text: &[u8], end: usize) -> bool
-    requires { ⌜ end ≤ length (now text) ⌝ }
-{
-    io::write_all(1, &text[..end])
-}
-
-// A line on standard error.
-pub fn complain(line: &[u8]) {
-    io::write_all(2, line);
 }

@@ -3,6 +3,8 @@ mod input;
 mod round;
 
 ghost use mathlib.Core.Path.{_≡_};
+ghost use Prim.Native.Nat.{_≤_};
+ghost use lib.ListN.{length};
 ghost use Rattle.replay_serve.specs.Calls.{started};
 ghost use Rattle.replay.specs.Place.{Sized};
 ghost use Rattle.replay.specs.Ran.{Ran};
@@ -15,6 +17,18 @@ pub enum Outcome {
     ReadFailed,
     WriteFailed,
     TurnsOver,
+}
+
+// Writes the first bytes of the text; answers whether all were taken.
+fn flush(text: &[u8], end: usize) -> bool
+    requires { ⌜ end ≤ length (now text) ⌝ }
+{
+    io::write_all(1, &text[..end])
+}
+
+// A line on standard error.
+fn complain(line: &[u8]) {
+    io::write_all(2, line);
 }
 
 // Reads, answers and writes until the input ends or is malformed. A proved loop has to end, and nothing says that the input does: the turns are counted down from a number that no run uses up.
@@ -38,7 +52,7 @@ fn run(
         }
         place = round::round(place, came.size, buffer, table, rings, out, text);
         let end = place.end;
-        let written = input::flush(text, end);
+        let written = flush(text, end);
         if !written {
             return Outcome::WriteFailed;
         }
@@ -58,8 +72,8 @@ fn main() {
     let mut text = [0u8; 65536];
     match run(&mut table, &mut rings, &mut out, &mut buffer, &mut text) {
         Outcome::Answered => {}
-        Outcome::ReadFailed => input::complain(b"replay: standard input cannot be read\n"),
-        Outcome::WriteFailed => input::complain(b"replay: standard output cannot be written\n"),
-        Outcome::TurnsOver => input::complain(b"replay: the input is too long\n"),
+        Outcome::ReadFailed => complain(b"replay: standard input cannot be read\n"),
+        Outcome::WriteFailed => complain(b"replay: standard output cannot be written\n"),
+        Outcome::TurnsOver => complain(b"replay: the input is too long\n"),
     }
 }

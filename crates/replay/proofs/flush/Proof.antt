@@ -1,10 +1,10 @@
--- `replay::input::flush` meets its contract.
+-- `replay::flush` meets its contract.
 -- Assumes nothing.
 use mathlib.Core.Path.{sym}
 use lib.Seq.{length-take-le}
 use borrow.Author.Needs.{needs}
-use Rattle.replay.proofs.input.flush.Statement.{statement}
-use Rattle.replay.proofs.input.flush.Tie as tie
+use Rattle.replay.proofs.flush.Statement.{statement}
+use Rattle.replay.proofs.flush.Tie as tie
 
 pub flush-spec : {M : Type 1} → statement M
 flush-spec = tie.close (tie.spec (λ c. sym (length-take-le _ _ (c .before .before .pre))) (λ c κs. search needs) (λ c. search needs))
