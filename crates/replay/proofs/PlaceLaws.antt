@@ -29,7 +29,7 @@ use Rattle.replay.specs.declared.round.Next.the-variants.{Read, Again, S
 use Rattle.replay.specs.declared.round.Place.{Place}
 use Rattle.replay.specs.Rounds.{cutLine, lastLine, GoesOn, Round, Last, Rounds}
 use Rattle.replay.specs.Rounds as Rounds
-use Rattle.replay.specs.Place.{Sized, between, InBuffer, Fetched, ended, LeftBy, Left, Finished, RoundBy, Rounded}
+use Rattle.replay.specs.Place.{Sized, between, InBuffer, Fetched, Flushed, ended, LeftBy, Left, Finished, RoundBy, Rounded}
 
 -- ---- the text
 
@@ -93,6 +93,11 @@ module _ (b : List ℕ) where
       go : (x : Bool) → ltb (length b) 4 ≡ x → cond x Parsed.Incomplete (parseAs (kindOf b) b) ≡ Parsed.Incomplete → length b < 44
       go true m f = omega (arith, ltb-true (length b) 4 m)
       go false m f = short-as (kindOf b) refl f
+
+-- ---- a write
+
+pub flushed : {p q : Place} {end : ℕ} → q ≡ record { next = p .next; at = p .at; have = p .have; end = end } → Flushed p q
+flushed {p} e = subst (λ (q : Place). Flushed p q) (sym e) (record { next = refl; at = refl; have = refl })
 
 -- ---- whether the input has ended, as the code tests it
 

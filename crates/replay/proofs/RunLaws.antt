@@ -18,7 +18,7 @@ use Rattle.replay.specs.declared.Outcome.{Outcome}
 use Rattle.replay.specs.declared.Outcome.the-variants.{Answered, TurnsOver}
 use Rattle.replay.specs.Rounds.{Round, Last, Rounds}
 use Rattle.replay.specs.Rounds as Rounds
-use Rattle.replay.specs.Place.{Sized, between, InBuffer, Fetched, ended, RoundBy, Rounded}
+use Rattle.replay.specs.Place.{Sized, between, InBuffer, Fetched, Flushed, ended, RoundBy, Rounded}
 use Rattle.replay.specs.Ran.{EndsAs, Ran, RunsAnswer}
 use Rattle.replay.proofs.RoundLaws.{parts-answered}
 use Rattle.replay.proofs.PlaceLaws.{between-kept, between-more}
@@ -79,6 +79,7 @@ pub record Running (turns : ℕ) (s : Stores) (b text : List ℕ) (p : Place) : 
   pub sized : Sized b × Sized text
   pub in-buffer : InBuffer p
   pub goes : p .next ≡ Stop → ⊥
+  pub written : p .end ≡ 0
 
 pub running-start : {s : Stores} {b text : List ℕ} {p : Place} → (s ≡ started) × Sized b × Sized text → p ≡ record { next = Read; at = 0; have = 0; end = 0 } → Running (2 ^ 64 - 1) s b text p
 running-start {s} {b} {text} h g =
@@ -89,19 +90,48 @@ running-start {s} {b} {text} h g =
       sized = (h .1, h .2);
       in-buffer = record { forward = omega arith; inside = omega arith; room = λ r. omega arith };
       goes = λ r. (let z : _≡_ {A = ℕ} 0 1 = cc in absurd (omega arith));
+      written = refl;
     })
 
-module _ {turns got : ℕ} {s u : Stores} {b text d x v : List ℕ} {p q : Place} (c : Running turns s b text p) (f : Fetched (p .next) (p .have) b d got)
-    (r : Rounded (ended (p .next) got) p got s d u x v q) where
-  next-round : Carried (c .count + 1) u x q
-  next-round = carried-on (f .long ∙ c .sized .0) (c .in-buffer) (c .goes) (c .carried) f r
+-- what a write leaves
+flushed-buffer : {p q : Place} → Flushed p q → InBuffer p → InBuffer q
+flushed-buffer f i =
+    record {
+      forward = omega (arith, f .at, f .have, i .forward);
+      inside = omega (arith, f .have, i .inside);
+      room = λ e. omega (arith, f .have, i .room (sym (f .next) ∙ e));
+    }
 
-  pub running-on : {left : ℕ} → 0 < turns → left ≡ turns - 1 → (q .next ≡ Stop → ⊥) → Running left u x v q
-  running-on h e w = record { count = c .count + 1; counted = omega (arith, h, e, c .counted); carried = next-round; sized = r .sized; in-buffer = r .in-buffer; goes = w }
+flushed-carried : {k : ℕ} {s : Stores} {b : List ℕ} {p q : Place} → Flushed p q → Carried k s b p → Carried k s b q
+flushed-carried {k} {s} {b} {p} {q} f c =
+    record {
+      parts = c .parts;
+      texts = c .texts;
+      rounds = subst (λ (n : Next). Rounds k (c .parts) (c .texts) s (between (q .at) (q .have) b) n) (sym (f .next))
+          (subst (λ (l : List ℕ). Rounds k (c .parts) (c .texts) s l (p .next)) (sym (ap (λ (x : ℕ). between x (q .have) b) (f .at) ∙ ap (λ (x : ℕ). between (p .at) x b) (f .have))) (c .rounds));
+    }
+
+-- a round and its write
+module _ {turns got : ℕ} {s u : Stores} {b text d x v : List ℕ} {p q w : Place} (c : Running turns s b text p) (f : Fetched (p .next) (p .have) b d got)
+    (r : Rounded (ended (p .next) got) p got s d u x v q) (g : Flushed q w) where
+  next-round : Carried (c .count + 1) u x w
+  next-round = flushed-carried g (carried-on (f .long ∙ c .sized .0) (c .in-buffer) (c .goes) (c .carried) f r)
+
+  pub running-on : {left : ℕ} → 0 < turns → left ≡ turns - 1 → (w .next ≡ Stop → ⊥) → w .end ≡ 0 → Running left u x v w
+  running-on h e n z =
+      record {
+        count = c .count + 1;
+        counted = omega (arith, h, e, c .counted);
+        carried = next-round;
+        sized = r .sized;
+        in-buffer = flushed-buffer g (r .in-buffer);
+        goes = n;
+        written = z;
+      }
 
   -- where the program ends after a round
-  pub ran-on : {o : Outcome} → ((k : ℕ) → EndsAs o k (q .next)) → Ran o u
-  ran-on e = let w = next-round in record { count = c .count + 1; parts = w .parts; texts = w .texts; rest = between (q .at) (q .have) x; next = q .next; rounds = w .rounds; ends = e (c .count + 1) }
+  pub ran-on : {o : Outcome} → ((k : ℕ) → EndsAs o k (w .next)) → Ran o u
+  ran-on e = let a = next-round in record { count = c .count + 1; parts = a .parts; texts = a .texts; rest = between (w .at) (w .have) x; next = w .next; rounds = a .rounds; ends = e (c .count + 1) }
 
 -- where it ends before one
 pub ran-so-far : {o : Outcome} {turns : ℕ} {s : Stores} {b text : List ℕ} {p : Place} (c : Running turns s b text p) → EndsAs o (c .count) (p .next) → Ran o s

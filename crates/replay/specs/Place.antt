@@ -36,6 +36,12 @@ pub record Fetched (n : Next) (have : ℕ) (b d : List ℕ) (got : ℕ) : Type 0
   pub long : length d ≡ length b
   pub unasked : (n ≡ Read → ⊥) → got ≡ 0
 
+-- after a write of what is due: only that has changed
+pub record Flushed (p q : Place) : Type 0 where
+  pub next : q .next ≡ p .next
+  pub at : q .at ≡ p .at
+  pub have : q .have ≡ p .have
+
 -- bytes were asked for, and none came
 unfoldable pub ended : Next → ℕ → Bool
 ended Read zero = true

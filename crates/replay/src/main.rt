@@ -6,7 +6,7 @@ ghost use mathlib.Core.Path.{_≡_};
 ghost use Prim.Native.Nat.{_≤_};
 ghost use lib.ListN.{length};
 ghost use Rattle.replay_serve.specs.Calls.{started};
-ghost use Rattle.replay.specs.Place.{Sized};
+ghost use Rattle.replay.specs.Place.{Sized, Flushed};
 ghost use Rattle.replay.specs.Ran.{Ran};
 use round::Next;
 use round::Place;
@@ -19,11 +19,20 @@ pub enum Outcome {
     TurnsOver,
 }
 
-// Writes the first bytes of the text; answers whether all were taken.
-fn flush(text: &[u8], end: usize) -> bool
-    requires { ⌜ end ≤ length (now text) ⌝ }
+// Writes what is due of the text. Nothing is due then; where the write failed the place stays as it was.
+fn flush(place: Place, text: &[u8]) -> Place
+    requires { ⌜ place .end ≤ length (now text) ⌝ }
+    ensures { λ p. ⌜ Flushed place p ⌝ }
 {
-    io::write_all(1, &text[..end])
+    let next = place.next;
+    let at = place.at;
+    let have = place.have;
+    let end = place.end;
+    let written = io::write_all(1, &text[..end]);
+    if written {
+        return Place::new(next, at, have, 0);
+    }
+    Place::new(next, at, have, end)
 }
 
 // A line on standard error.
@@ -51,9 +60,8 @@ fn run(
             return Outcome::ReadFailed;
         }
         place = round::round(place, came.size, buffer, table, rings, out, text);
-        let end = place.end;
-        let written = flush(text, end);
-        if !written {
+        place = flush(place, text);
+        if place.end > 0 {
             return Outcome::WriteFailed;
         }
         let next = place.next;

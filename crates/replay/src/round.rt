@@ -20,7 +20,7 @@ pub enum Next {
     Stop,
 }
 
-// The bytes of the buffer from `at` to `have` are not answered yet, and the text has `end` bytes to be written.
+// The bytes of the buffer from `at` to `have` are not answered yet, and `end` bytes of the text are due to be written.
 pub struct Place {
     pub next: Next,
     pub at: usize,
@@ -130,7 +130,7 @@ fn answer_more(
     leave(t, buffer, have)
 }
 
-// One round, once so many bytes came behind those that the buffer has.
+// One round, once so many bytes came behind those that the buffer has, and nothing of the text is due.
 pub fn round(
     place: Place,
     got: usize,
@@ -140,7 +140,7 @@ pub fn round(
     out: &mut [u64; 64],
     text: &mut [u8; 65536],
 ) -> Place
-    requires { ⌜ InBuffer place × (place .have + got ≤ 65536) × Sized (now buffer) × Sized (now text) ⌝ }
+    requires { ⌜ InBuffer place × (place .have + got ≤ 65536) × Sized (now buffer) × Sized (now text) × (place .end ≡ 0) ⌝ }
     ensures { λ p. ⌜ Rounded (ended (place .next) got) place got (record { table = now (table .entry); rings = now (rings .entry); out = now (out .entry) }) (now (buffer .entry)) (record { table = now (table .exit); rings = now (rings .exit); out = now (out .exit) }) (now (buffer .exit)) (now (text .exit)) p ⌝ }
 {
     let next = place.next;

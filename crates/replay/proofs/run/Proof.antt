@@ -20,19 +20,21 @@ round-requires : tie.Need-round-requires Inv-loop μ-loop
 round-requires c κs =
     let inv = c .before .before .before .before .before .before .before .before .before .loop .inv in
     let got = c .before .before .before .before .before .before .fetch .ensures in
-    (inv .in-buffer, got .inside, got .long ∙ inv .sized .0, inv .sized .1)
+    (inv .in-buffer, got .inside, got .long ∙ inv .sized .0, inv .sized .1, inv .written)
 
 flush-requires : tie.Need-flush-requires Inv-loop μ-loop
 flush-requires c κs = omega (arith, c .before .before .round .ensures .room)
 
 returns-2 : tie.Need-returns-2 Inv-loop μ-loop
-returns-2 c = ran-on (c .before .before .before .before .before .before .before .before .before .before .before .before .before .before .loop .inv) (c .before .before .before .before .before .before .before .before .before .before .before .fetch .ensures) (c .before .before .before .before .round .ensures) (λ k. tt)
+returns-2 c = ran-on (c .before .before .before .before .before .before .before .before .before .before .before .before .before .before .before .loop .inv) (c .before .before .before .before .before .before .before .before .before .before .before .before .fetch .ensures) (c .before .before .before .before .before .round .ensures) (c .before .before .flush .ensures) (λ k. tt)
 
 returns-3 : tie.Need-returns-3 Inv-loop μ-loop
-returns-3 c = ran-on (c .before .before .before .before .before .before .before .before .before .before .before .before .before .before .before .before .loop .inv) (c .before .before .before .before .before .before .before .before .before .before .before .before .before .fetch .ensures) (c .before .before .before .before .before .before .round .ensures) (λ k. c .enum-told .given .1)
+returns-3 c = ran-on (c .before .before .before .before .before .before .before .before .before .before .before .before .before .before .before .before .before .loop .inv) (c .before .before .before .before .before .before .before .before .before .before .before .before .before .before .fetch .ensures) (c .before .before .before .before .before .before .before .round .ensures) (c .before .before .before .before .flush .ensures) (λ k. c .enum-told .given .1)
 
 loop-again : tie.Need-loop-again Inv-loop μ-loop
-loop-again c = running-on (c .before .before .before .before .before .before .before .before .before .before .before .before .before .before .before .loop .inv) (c .before .before .before .before .before .before .before .before .before .before .before .before .fetch .ensures) (c .before .before .before .before .before .round .ensures) (c .before .before .before .before .before .before .before .before .before .before .before .before .before .before .loop-test .taken) refl (not-stopped (c .match .keys2))
+loop-again c =
+    running-on (c .before .before .before .before .before .before .before .before .before .before .before .before .before .before .before .before .loop .inv) (c .before .before .before .before .before .before .before .before .before .before .before .before .before .fetch .ensures) (c .before .before .before .before .before .before .round .ensures) (c .before .before .before .flush .ensures)
+    (c .before .before .before .before .before .before .before .before .before .before .before .before .before .before .before .loop-test .taken) refl (not-stopped (c .match .keys2)) (omega (arith, c .before .if2 .left))
 
 pub run-spec : {M : Type 1} → statement M
 run-spec =
