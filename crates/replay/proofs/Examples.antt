@@ -19,7 +19,8 @@ use Rattle.wire_record.specs.Examples.{receive}
 use Rattle.wire_line.specs.Text.{codes, digitsIn, digits, decimal, spaced, answerText}
 use Rattle.replay_serve.specs.Calls.{Stores, lineOf, linesOf, storesAfter, started}
 use Rattle.replay_serve.proofs.ProgramLaws.{before-opening}
-use Rattle.replay.specs.declared.round.Next.the-variants.{Read, Again, Stop}
+use Rattle.replay.specs.declared.round.Next.the-variants.{Stop}
+use Rattle.replay.specs.declared.round.Next.the-variants as Next
 use Rattle.replay.specs.Rounds.{Rounds, none, more, again, end}
 use Rattle.replay.specs.Parts.{joined, endingLine, answers}
 use Rattle.replay.specs.Place.{between}
@@ -87,7 +88,7 @@ unfolding parse parseAs Record.number
 with-a-full-text =
     end
     (again
-    (more {n = Again} none (receive ++ receive) (omega arith) (record { records = plain ∷ []; reads = Stream.one refl Stream.none; stores = sym stay; lines = one-line; goes = omega arith }))
+    (more {n = Next.Answer} none (receive ++ receive) (omega arith) (record { records = plain ∷ []; reads = Stream.one refl Stream.none; stores = sym stay; lines = one-line; goes = omega arith }))
     (record { records = plain ∷ []; reads = Stream.one refl Stream.none; stores = sym stay; lines = one-line; goes = refl }))
     (record { stores = refl; same = refl; lines = refl; stops = refl })
 

@@ -1,6 +1,7 @@
 -- The bytes in the buffer: what a round over them is, and what is carried from one to the next.
 -- Assumes nothing.
 use mathlib.Core.Bool.{Bool, true, false, cond}
+use mathlib.Core.Logic.{inl, inr}
 use mathlib.Core.Option.{Option, none, some}
 use mathlib.Core.Path.{_≡_, refl, sym, ap, _∙_, subst}
 use mathlib.Core.List.{List, [], _∷_, _++_, append-nil}
@@ -24,12 +25,15 @@ use Rattle.replay_serve.specs.declared.serve.Reached.{Reached}
 use Rattle.replay_serve.specs.Calls.{Stores, linesOf, storesAfter, started}
 use Rattle.replay_serve.specs.Serve.{malformedLine, StopsAt, Served}
 use Rattle.replay_serve.specs.Serve as Serve
+use denote.Enum.Declared.{tagOf}
+use types.Run.{OneOf}
 use Rattle.replay.specs.declared.round.Next.{Next}
-use Rattle.replay.specs.declared.round.Next.the-variants.{Read, Again, Stop}
+use Rattle.replay.proofs.round.Next as Next
+use Rattle.replay.specs.declared.round.Next.the-variants.{Read, Answer, End, Stop}
 use Rattle.replay.specs.declared.round.Place.{Place}
 use Rattle.replay.specs.Rounds.{cutLine, lastLine, GoesOn, Round, Last, Rounds}
 use Rattle.replay.specs.Rounds as Rounds
-use Rattle.replay.specs.Place.{Sized, between, InBuffer, Fetched, Flushed, ended, LeftBy, Left, Finished, RoundBy, Rounded}
+use Rattle.replay.specs.Place.{Sized, between, InBuffer, TakenBy, FetchedBy, Fetched, Flushed, LeftBy, Left, Finished, RoundBy, Rounded}
 
 -- ---- the text
 
@@ -99,26 +103,48 @@ module _ (b : List ℕ) where
 pub flushed : {p q : Place} {end : ℕ} → q ≡ record { next = p .next; at = p .at; have = p .have; end = end } → Flushed p q
 flushed {p} e = subst (λ (q : Place). Flushed p q) (sym e) (record { next = refl; at = refl; have = refl })
 
--- ---- whether the input has ended, as the code tests it
+-- ---- a read
 
-pub some-came : (n : Next) (got : ℕ) → 0 < got → false ≡ ended n got
-unfolding ended
-some-came Read zero h = absurd (omega (arith, h))
-some-came Read (suc k) h = refl
-some-came Again got h = refl
-some-came Stop got h = refl
+pub taken-as : (p : Place) {q m : Place} (n : Next) → m ≡ q → q .next ≡ n → q .at ≡ p .at → q .end ≡ p .end → q .have ≤ 65536 → TakenBy n p q
+    → (m .at ≡ p .at) × (m .end ≡ p .end) × (m .have ≤ 65536) × TakenBy (m .next) p m
+taken-as p {q} n e f a z h t =
+    subst (λ (m : Place). (m .at ≡ p .at) × (m .end ≡ p .end) × (m .have ≤ 65536) × TakenBy (m .next) p m) (sym e) (a, z, h, subst (λ (x : Next). TakenBy x p q) (sym f) t)
 
-pub none-asked-for : {n : Next} {got : ℕ} → n ≡ Read → got ≡ 0 → true ≡ ended n got
-unfolding ended
-none-asked-for {n} e f = ap (λ (m : Next). ended m 0) (sym e) ∙ ap (λ (k : ℕ). ended n k) (sym f)
+-- a place that asks for bytes
+pub fetched-read : {p q : Place} {b d : List ℕ} → p .next ≡ Read → take (p .have) d ≡ take (p .have) b → length d ≡ length b
+    → (q .at ≡ p .at) × (q .end ≡ p .end) × (q .have ≤ 65536) × TakenBy (q .next) p q → Fetched p b d q
+fetched-read {p} {q} e k l w = record { at = w .0; end = w .1; inside = w .2; kept = k; long = l; takes = subst (λ (x : Next). FetchedBy x p q) (sym e) (w .3) }
 
-pub unasked-again : {n : Next} (got : ℕ) → n ≡ Again → false ≡ ended n got
-unfolding ended
-unasked-again got e = ap (λ (n : Next). ended n got) (sym e)
+-- and another
+pub fetched-none : {p q : Place} {b : List ℕ} → OneOf (1 ∷ 2 ∷ 3 ∷ []) (tagOf Next.the-type (p .next)) → InBuffer p → q ≡ p → Fetched p b b q
+fetched-none {p} {q} {b} k i e =
+    subst (λ (x : Place). Fetched p b b x) (sym e) (record { at = refl; end = refl; inside = i .inside; kept = refl; long = refl; takes = go (p .next) k })
+  where
+    not-first : OneOf (1 ∷ 2 ∷ 3 ∷ []) 0 → ⊥
+    not-first (inl a) = omega (arith, a)
+    not-first (inr (inl a)) = omega (arith, a)
+    not-first (inr (inr a)) = omega (arith, a)
 
-pub unasked-stop : {n : Next} (got : ℕ) → n ≡ Stop → false ≡ ended n got
-unfolding ended
-unasked-stop got e = ap (λ (n : Next). ended n got) (sym e)
+    go : (n : Next) → OneOf (1 ∷ 2 ∷ 3 ∷ []) (tagOf Next.the-type n) → FetchedBy n p p
+    go Read k = absurd (not-first k)
+    go Answer k = refl
+    go End k = refl
+    go Stop k = refl
+
+pub fetched-buffer : {p q : Place} {b d : List ℕ} → InBuffer p → Fetched p b d q → InBuffer q
+fetched-buffer {p} {q} i f = go (p .next) refl (f .takes)
+  where
+    taken : (n : Next) → q .next ≡ n → p .next ≡ Read → TakenBy n p q → InBuffer q
+    taken Read e a t = record { forward = omega (arith, f .at, t, i .forward); inside = f .inside; room = λ r. omega (arith, t, i .room a) }
+    taken Answer e a t = record { forward = omega (arith, f .at, t, i .forward); inside = f .inside; room = λ r. (let z : _≡_ {A = ℕ} 0 1 = cc in absurd (omega arith)) }
+    taken End e a t = record { forward = omega (arith, f .at, t, i .forward); inside = f .inside; room = λ r. (let z : _≡_ {A = ℕ} 0 1 = cc in absurd (omega arith)) }
+    taken Stop e a t = absurd t
+
+    go : (n : Next) → p .next ≡ n → FetchedBy n p q → InBuffer q
+    go Read e t = taken (q .next) refl e t
+    go Answer e t = subst InBuffer (sym t) i
+    go End e t = subst InBuffer (sym t) i
+    go Stop e t = subst InBuffer (sym t) i
 
 -- ---- a round
 
@@ -161,7 +187,7 @@ module _ {s u : Stores} {b d text v : List ℕ} {at have : ℕ} {t : Reached} {p
       go : (f : Found) → LeftBy f (t .at) have b d p → Puts text 0 (linesOf (g .records) s ++ Serve.lastLine f) v (t .end) → StopsAt f (parse (drop (t .at) (take have b))) (t .end)
           → Round s (between at have b) u (between (p .at) (p .have) d) (take (p .end) v) (p .next)
       go Malformed (e, f, x, y) w z = round-by Stop e (stays f x y) w (ap parse (sym rest-is) ∙ z)
-      go Answered (e, f, x, y) w z = round-by Again e (stays f x y) w (some-answered (g .records) w z)
+      go Answered (e, f, x, y) w z = round-by Answer e (stays f x y) w (some-answered (g .records) w z)
       go Incomplete (e, f, x, y) w z = round-by Read e (moves f x y) w (ap parse (sym rest-is) ∙ z)
 
   in-buffer : InBuffer p
@@ -177,15 +203,14 @@ module _ {s u : Stores} {b d text v : List ℕ} {at have : ℕ} {t : Reached} {p
             room = λ r. omega (arith, x, begun-short (drop (t .at) (take have b)) z, ap length rest-is, between-long (t .at) have b (omega (arith, i, j)));
           }
 
-pub served-rounded : {s u : Stores} {b d text v : List ℕ} {place p : Place} {got : ℕ} {t : Reached} → InBuffer place → place .have + got ≤ 65536 → Sized b → Sized text
-    → Served (take (place .have + got) b) (place .at) s u text v t → t .at ≤ place .have + got → Left t (place .have + got) b d p → Rounded false place got s b u d v p
-served-rounded {place = place} {got = got} w i j m g k q =
-    let h : place .at ≤ place .have + got = omega (arith, w .forward) in
+pub served-rounded : {s u : Stores} {b d text v : List ℕ} {place p : Place} {t : Reached} → InBuffer place → Sized b → Sized text
+    → Served (take (place .have) b) (place .at) s u text v t → t .at ≤ place .have → Left t (place .have) b d p → Rounded Answer place s b u d v p
+served-rounded w j m g k q =
     record {
       sized = (q .long ∙ j, g .put .long ∙ m);
-      in-buffer = in-buffer h i j m g k q;
+      in-buffer = in-buffer (w .forward) (w .inside) j m g k q;
       room = omega (arith, q .end, g .room);
-      does = round-served h i j m g k q;
+      does = round-served (w .forward) (w .inside) j m g k q;
     }
 
 pub finished : {place p q : Place} {text v : List ℕ} → p ≡ q → q .next ≡ Stop → q .at ≡ place .at → q .have ≡ place .have
@@ -193,34 +218,32 @@ pub finished : {place p q : Place} {text v : List ℕ} → p ≡ q → q .next �
 finished {place} {text = text} {v = v} e n a h w = subst (λ (x : Place). Finished place text v x) (sym e) (record { next = n; at = a; have = h; put = w .0; room = w .1 })
 
 -- the round in which nothing came
-pub last-rounded : {s : Stores} {b text v : List ℕ} {place p : Place} {got : ℕ} → InBuffer place → Sized b → Sized text → ended (place .next) got ≡ true
-    → Finished place text v p
-    → Rounded true place got s b s b v p
-unfolding ended
-last-rounded {s} {b} {text} {v} {place} {p} {got} w j m e g =
-    let n = g .next in
-    let nothing : got ≡ 0 = none-came (place .next) got e in
-    let same : between (p .at) (p .have) b ≡ between (place .at) (place .have + got) b =
-    ap (λ (k : ℕ). between k (p .have) b) (g .at) ∙ (let q : p .have ≡ place .have + got = omega (arith, g .have, nothing) in ap (λ (k : ℕ). between (place .at) k b) q)
-    in
+pub last-rounded : {s : Stores} {b text v : List ℕ} {place p : Place} → InBuffer place → Sized b → Sized text → place .next ≡ End → Finished place text v p → Rounded (place .next) place s b s b v p
+last-rounded {s} {b} {text} {v} {place} {p} w j m e g =
     record {
       sized = (j, g .put .long ∙ m);
-      in-buffer = record { forward = omega (arith, g .at, g .have, w .forward); inside = omega (arith, g .have, w .inside); room = λ r. (let z : _≡_ {A = ℕ} 0 1 = cc in absurd (omega arith)) };
+      in-buffer = record { forward = omega (arith, g .at, g .have, w .forward); inside = omega (arith, g .have, w .inside); room = λ r. (let n = g .next in let z : _≡_ {A = ℕ} 0 1 = cc in absurd (omega arith)) };
       room = g .room;
-      does = record {
+      does = subst (λ (n : Next). RoundBy n s (between (place .at) (place .have) b) s (between (p .at) (p .have) b) (take (p .end) v) (p .next)) (sym e) (record {
         stores = refl;
-        same = same;
-        lines = taken (g .put) (omega (arith, m, g .room))
-            ∙ (let q : place .have - place .at ≡ length (between (place .at) (place .have + got) b) = omega (arith, nothing, between-long (place .at) (place .have + got) b (omega (arith, nothing, w .inside, j))) in ap cutLine q);
-        stops = n;
-      };
+        same = ap (λ (k : ℕ). between k (p .have) b) (g .at) ∙ ap (λ (k : ℕ). between (place .at) k b) (g .have);
+        lines = taken (g .put) (omega (arith, m, g .room)) ∙ ap cutLine (sym (between-long (place .at) (place .have) b (omega (arith, w .inside, j))));
+        stops = g .next;
+      });
     }
-  where
-    none-came : (n : Next) (got : ℕ) → ended n got ≡ true → got ≡ 0
-    none-came Read zero e = refl
-    none-came Read (suc k) e = let z : _≡_ {A = ℕ} 0 1 = cc in absurd (omega arith)
-    none-came Again got e = let z : _≡_ {A = ℕ} 0 1 = cc in absurd (omega arith)
-    none-came Stop got e = let z : _≡_ {A = ℕ} 0 1 = cc in absurd (omega arith)
 
-pub rounded-as : {x y : Bool} {p q : Place} {got : ℕ} {s u : Stores} {b d text : List ℕ} → x ≡ y → Rounded y p got s b u d text q → Rounded x p got s b u d text q
-rounded-as {p = p} {q = q} {got = got} {s = s} {u = u} {b = b} {d = d} {text = text} e r = subst (λ (z : Bool). Rounded z p got s b u d text q) (sym e) r
+-- any other
+pub answer-rounded : {n : Next} {p q : Place} {s u : Stores} {b d text : List ℕ} → OneOf (0 ∷ 1 ∷ 3 ∷ []) (tagOf Next.the-type n) → Rounded Answer p s b u d text q → Rounded n p s b u d text q
+answer-rounded {n} {p} {q} {s} {u} {b} {d} {text} k r = record { sized = r .sized; in-buffer = r .in-buffer; room = r .room; does = go n k (r .does) }
+  where
+    not-third : OneOf (0 ∷ 1 ∷ 3 ∷ []) 2 → ⊥
+    not-third (inl a) = omega (arith, a)
+    not-third (inr (inl a)) = omega (arith, a)
+    not-third (inr (inr a)) = omega (arith, a)
+
+    go : (n : Next) → OneOf (0 ∷ 1 ∷ 3 ∷ []) (tagOf Next.the-type n) → Round s (between (p .at) (p .have) b) u (between (q .at) (q .have) d) (take (q .end) text) (q .next)
+        → RoundBy n s (between (p .at) (p .have) b) u (between (q .at) (q .have) d) (take (q .end) text) (q .next)
+    go Read k x = x
+    go Answer k x = x
+    go End k x = absurd (not-third k)
+    go Stop k x = x

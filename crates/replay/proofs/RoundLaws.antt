@@ -18,7 +18,7 @@ use Rattle.wire_record.proofs.StreamLaws.{reads-first, stream-malformed, stream
 use Rattle.replay_serve.specs.Calls.{Stores, answered, lineOf, linesOf, storesAfter, started}
 use Rattle.replay_serve.specs.Serve.{malformedLine}
 use Rattle.replay.specs.declared.round.Next.{Next}
-use Rattle.replay.specs.declared.round.Next.the-variants.{Read, Again, Stop}
+use Rattle.replay.specs.declared.round.Next.the-variants.{Read, Answer, End, Stop}
 use Rattle.replay.specs.Rounds.{cutLine, lastLine, GoesOn, Round, Last, Rounds, none, more, again, end}
 use Rattle.replay.specs.Parts.{joined, endingLine, answers, Ended, SoFar, PartsAnswered}
 
@@ -63,7 +63,8 @@ Stopped parts rest last = ((parse rest ≡ Parsed.Malformed) × (last ≡ malfor
 
 abbrev Stands : Next → List (List ℕ) → List ℕ → List ℕ → Type 0
 Stands Read parts rest last = (parse rest ≡ Parsed.Incomplete) × (last ≡ [])
-Stands Again parts rest last = last ≡ []
+Stands Answer parts rest last = last ≡ []
+Stands End parts rest last = ⊥
 Stands Stop parts rest last = Stopped parts rest last
 
 record Holds (parts texts : List (List ℕ)) (s : Stores) (rest : List ℕ) (n : Next) : Type 0 where
@@ -76,7 +77,8 @@ record Holds (parts texts : List (List ℕ)) (s : Stores) (rest : List ℕ) (n :
 
 stands-of : (n : Next) (parts : List (List ℕ)) (rs : List Record) (rest : List ℕ) → GoesOn n rs rest → Stands n parts rest (lastLine n)
 stands-of Read parts rs rest g = (g, refl)
-stands-of Again parts rs rest g = refl
+stands-of Answer parts rs rest g = refl
+stands-of End parts rs rest g = g
 stands-of Stop parts rs rest g = inl (g, refl)
 
 no-last : (b : List ℕ) {a : List ℕ} → a ≡ [] → b ++ a ≡ b
@@ -120,6 +122,10 @@ holds (again {parts = parts} {s = s} {u = u} {l = l} {rest = rest} {text = text}
     holds-more parts [] (sym (append-nil (joined parts))) g (g .stands) (subst (λ (b : List ℕ). Round s b u rest text n) (sym (append-nil l)) r)
 holds (end {parts = parts} {texts = texts} {s = s} {u = u} {l = l} {rest = rest} {text = text} {n = n} q r) =
     subst (λ (m : Next). Holds (parts ++ [] ∷ []) (texts ++ text ∷ []) u rest m) (sym (r .stops)) (holds-last (holds q) (subst (λ (m : Next). Last s l u rest text m) (r .stops) r))
+
+-- no round comes to the end of the input
+pub no-end : {k : ℕ} {parts texts : List (List ℕ)} {s : Stores} {rest : List ℕ} → Rounds k parts texts s rest End → ⊥
+no-end q = holds q .stands
 
 -- ---- the lines of a whole input
 
@@ -167,7 +173,8 @@ module _ {k : ℕ} {parts texts : List (List ℕ)} {s : Stores} {rest : List ℕ
     where
       go : (n : Next) → (n ≡ Stop → ⊥) → Holds parts texts s rest n → SoFar parts texts s rest n
       go Read h g = record { records = g .records; reads = g .reads; stores = g .stores; lines = g .lines ∙ no-last (linesOf (g .records) started) (g .stands .1); all = λ e. g .stands .0 }
-      go Again h g =
+      go End h g = absurd (g .stands)
+      go Answer h g =
           record {
             records = g .records;
             reads = g .reads;
@@ -212,12 +219,14 @@ stores-after {parts = parts} {rest = rest} q =
 -- what the rounds may be, by the bytes that came and those that are left
 abbrev Few : Next → ℕ → ℕ → ℕ → Type 0
 Few Read k left all = k + left ≤ 2 * all
-Few Again k left all = k + 1 + left ≤ 2 * all
+Few Answer k left all = k + 1 + left ≤ 2 * all
+Few End k left all = ⊥
 Few Stop k left all = k ≤ 2 * all + 1
 
 few-more : (k old all : ℕ) (n : Next) (c : ℕ) (rest : List ℕ) (rs : List Record) → GoesOn n rs rest → length rest + 4 * length rs ≤ old + c → k + 1 + old + c ≤ 2 * all → Few n (k + 1) (length rest) all
 few-more k old all Read c rest rs g h p = omega (arith, h, p)
-few-more k old all Again c rest rs g h p = omega (arith, g, h, p)
+few-more k old all Answer c rest rs g h p = omega (arith, g, h, p)
+few-more k old all End c rest rs g h p = g
 few-more k old all Stop c rest rs g h p = omega (arith, h, p)
 
 few-rounds : {k : ℕ} {parts texts : List (List ℕ)} {s : Stores} {rest : List ℕ} {n : Next} → Rounds k parts texts s rest n → Few n k (length rest) (length (joined parts))
@@ -234,7 +243,8 @@ few {k} {parts} {texts} {s} {rest} {n} q = go n (few-rounds q)
   where
     go : (n : Next) → Few n k (length rest) (length (joined parts)) → k ≤ 2 * length (joined parts) + 1
     go Read f = omega (arith, f)
-    go Again f = omega (arith, f)
+    go Answer f = omega (arith, f)
+    go End f = absurd f
     go Stop f = f
 
 alike : {k j : ℕ} {parts others texts lines : List (List ℕ)} {s u : Stores} {rest left : List ℕ} → Rounds k parts texts s rest Stop → Rounds j others lines u left Stop

@@ -12,15 +12,15 @@ use types.Run.{OneOf}
 use Rattle.replay_serve.specs.Calls.{Stores, started}
 use Rattle.replay.specs.declared.round.Next.{Next}
 use Rattle.replay.proofs.round.Next as Next
-use Rattle.replay.specs.declared.round.Next.the-variants.{Read, Again, Stop}
+use Rattle.replay.specs.declared.round.Next.the-variants.{Read, Answer, End, Stop}
 use Rattle.replay.specs.declared.round.Place.{Place}
 use Rattle.replay.specs.declared.Outcome.{Outcome}
 use Rattle.replay.specs.declared.Outcome.the-variants.{Answered, TurnsOver}
 use Rattle.replay.specs.Rounds.{Round, Last, Rounds}
 use Rattle.replay.specs.Rounds as Rounds
-use Rattle.replay.specs.Place.{Sized, between, InBuffer, Fetched, Flushed, ended, RoundBy, Rounded}
+use Rattle.replay.specs.Place.{Sized, between, InBuffer, TakenBy, FetchedBy, Fetched, Flushed, RoundBy, Rounded}
 use Rattle.replay.specs.Ran.{EndsAs, Ran, RunsAnswer}
-use Rattle.replay.proofs.RoundLaws.{parts-answered}
+use Rattle.replay.proofs.RoundLaws.{no-end, parts-answered}
 use Rattle.replay.proofs.PlaceLaws.{between-kept, between-more}
 
 -- so many rounds from the start, and the bytes that are left are those of the buffer
@@ -32,44 +32,62 @@ pub record Carried (k : ℕ) (s : Stores) (b : List ℕ) (p : Place) : Type 0 wh
 pub carried-start : {s : Stores} (b : List ℕ) → s ≡ started → (end : ℕ) → Carried 0 s b (record { next = Read; at = 0; have = 0; end = end })
 carried-start {s} b e end = record { parts = []; texts = []; rounds = subst (λ (x : Stores). Rounds 0 [] [] x [] Read) (sym e) Rounds.none }
 
-pub carried-on : {k got : ℕ} {s u : Stores} {b d x v : List ℕ} {p q : Place} → Sized d → InBuffer p → (p .next ≡ Stop → ⊥) → Carried k s b p
-    → Fetched (p .next) (p .have) b d got → Rounded (ended (p .next) got) p got s d u x v q → Carried (k + 1) u x q
-unfolding ended
-carried-on {k} {got} {s} {u} {b} {d} {x} {v} {p} {q} j i w c f r = go (p .next) got w (c .rounds) f (r .does)
+pub carried-on : {k : ℕ} {s u : Stores} {b d x v : List ℕ} {p m q : Place} → Sized d → InBuffer p → (p .next ≡ Stop → ⊥) → Carried k s b p
+    → Fetched p b d m → (m .next ≡ Read → ⊥) → Rounded (m .next) m s d u x v q → Carried (k + 1) u x q
+carried-on {k} {s} {u} {b} {d} {x} {v} {p} {m} {q} j i w c f y r = go (p .next) refl (f .takes) (c .rounds)
   where
+    rest : List ℕ
+    rest = between (q .at) (q .have) x
+
     here : between (p .at) (p .have) d ≡ between (p .at) (p .have) b
     here = between-kept (p .at) (p .have) b d (i .forward) (f .kept)
 
-    unmoved : (got : ℕ) → got ≡ 0 → between (p .at) (p .have + got) d ≡ between (p .at) (p .have) b
-    unmoved got e = let z : p .have + got ≡ p .have = omega (arith, e) in ap (λ (h : ℕ). between (p .at) h d) z ∙ here
+    -- where nothing came
+    same : m .have ≡ p .have → between (m .at) (m .have) d ≡ between (p .at) (p .have) b
+    same e = ap (λ (h : ℕ). between h (m .have) d) (f .at) ∙ ap (λ (h : ℕ). between (p .at) h d) e ∙ here
 
-    go : (n : Next) (got : ℕ) → (n ≡ Stop → ⊥) → Rounds k (c .parts) (c .texts) s (between (p .at) (p .have) b) n → Fetched n (p .have) b d got
-        → RoundBy (ended n got) s (between (p .at) (p .have + got) d) u (between (q .at) (q .have) x) (take (q .end) v) (q .next)
-        → Carried (k + 1) u x q
-    go Read zero w a f r =
+    -- where so many bytes came
+    got : ℕ
+    got = m .have - p .have
+
+    longer : p .have < m .have → between (m .at) (m .have) d ≡ between (p .at) (p .have) b ++ take got (drop (p .have) d)
+    longer h =
+        let e : m .have ≡ p .have + got = omega (arith, h) in
+        ap (λ (a : ℕ). between a (m .have) d) (f .at)
+        ∙ ap (λ (a : ℕ). between (p .at) a d) e
+        ∙ between-more (p .at) (p .have) got d (i .forward)
+        ∙ ap (λ (l : List ℕ). l ++ take got (drop (p .have) d)) here
+
+    taken : (n : Next) → m .next ≡ n → TakenBy n p m → RoundBy n s (between (m .at) (m .have) d) u rest (take (q .end) v) (q .next)
+        → Rounds k (c .parts) (c .texts) s (between (p .at) (p .have) b) Read → Carried (k + 1) u x q
+    taken Read e t r a = absurd (y e)
+    taken Answer e t r a =
+        record {
+          parts = c .parts ++ take got (drop (p .have) d) ∷ [];
+          texts = c .texts ++ take (q .end) v ∷ [];
+          rounds = Rounds.more a (take got (drop (p .have) d))
+              (omega (arith, t, f .inside, j, length-drop (p .have) d, length-take-le got (drop (p .have) d) (omega (arith, t, f .inside, j, length-drop (p .have) d))))
+              (subst (λ (l : List ℕ). Round s l u rest (take (q .end) v) (q .next)) (longer t) r);
+        }
+    taken End e t r a =
         record {
           parts = c .parts ++ [] ∷ [];
           texts = c .texts ++ take (q .end) v ∷ [];
-          rounds = Rounds.end a (subst (λ (l : List ℕ). Last s l u (between (q .at) (q .have) x) (take (q .end) v) (q .next)) (unmoved 0 refl) r);
+          rounds = Rounds.end a (subst (λ (l : List ℕ). Last s l u rest (take (q .end) v) (q .next)) (same t) r);
         }
-    go Read (suc m) w a f r =
-        record {
-          parts = c .parts ++ take (suc m) (drop (p .have) d) ∷ [];
-          texts = c .texts ++ take (q .end) v ∷ [];
-          rounds = Rounds.more a (take (suc m) (drop (p .have) d))
-              (omega (arith, f .inside, j, length-drop (p .have) d, length-take-le (suc m) (drop (p .have) d) (omega (arith, f .inside, j, length-drop (p .have) d))))
-              (subst (λ (l : List ℕ). Round s l u (between (q .at) (q .have) x) (take (q .end) v) (q .next))
-              (between-more (p .at) (p .have) (suc m) d (i .forward) ∙ ap (λ (l : List ℕ). l ++ take (suc m) (drop (p .have) d)) here)
-              r);
-        }
-    go Again got w a f r =
+    taken Stop e t r a = absurd t
+
+    go : (n : Next) → p .next ≡ n → FetchedBy n p m → Rounds k (c .parts) (c .texts) s (between (p .at) (p .have) b) n → Carried (k + 1) u x q
+    go Read e t a = taken (m .next) refl t (r .does) a
+    go Answer e t a =
         record {
           parts = c .parts;
           texts = c .texts ++ take (q .end) v ∷ [];
-          rounds = Rounds.again a (subst (λ (l : List ℕ). Round s l u (between (q .at) (q .have) x) (take (q .end) v) (q .next))
-              (unmoved got (f .unasked (λ e. (let z : _≡_ {A = ℕ} 0 1 = cc in absurd (omega arith))))) r);
+          rounds = Rounds.again a (subst (λ (l : List ℕ). Round s l u rest (take (q .end) v) (q .next)) (same (ap (λ (h : Place). h .have) t))
+              (subst (λ (n : Next). RoundBy n s (between (m .at) (m .have) d) u rest (take (q .end) v) (q .next)) (ap (λ (h : Place). h .next) t ∙ e) (r .does)));
         }
-    go Stop got w a f r = absurd (w refl)
+    go End e t a = absurd (no-end a)
+    go Stop e t a = absurd (w e)
 
 -- the rounds that were made and the turns that are left are all
 pub record Running (turns : ℕ) (s : Stores) (b text : List ℕ) (p : Place) : Type 0 where
@@ -111,11 +129,11 @@ flushed-carried {k} {s} {b} {p} {q} f c =
           (subst (λ (l : List ℕ). Rounds k (c .parts) (c .texts) s l (p .next)) (sym (ap (λ (x : ℕ). between x (q .have) b) (f .at) ∙ ap (λ (x : ℕ). between (p .at) x b) (f .have))) (c .rounds));
     }
 
--- a round and its write
-module _ {turns got : ℕ} {s u : Stores} {b text d x v : List ℕ} {p q w : Place} (c : Running turns s b text p) (f : Fetched (p .next) (p .have) b d got)
-    (r : Rounded (ended (p .next) got) p got s d u x v q) (g : Flushed q w) where
+-- a read, a round and a write
+module _ {turns : ℕ} {s u : Stores} {b text d x v : List ℕ} {p m q w : Place} (c : Running turns s b text p) (f : Fetched p b d m) (y : m .next ≡ Read → ⊥)
+    (r : Rounded (m .next) m s d u x v q) (g : Flushed q w) where
   next-round : Carried (c .count + 1) u x w
-  next-round = flushed-carried g (carried-on (f .long ∙ c .sized .0) (c .in-buffer) (c .goes) (c .carried) f r)
+  next-round = flushed-carried g (carried-on (f .long ∙ c .sized .0) (c .in-buffer) (c .goes) (c .carried) f y r)
 
   pub running-on : {left : ℕ} → 0 < turns → left ≡ turns - 1 → (w .next ≡ Stop → ⊥) → w .end ≡ 0 → Running left u x v w
   running-on h e n z =
@@ -142,13 +160,22 @@ ran-so-far {b = b} {p = p} c e =
 pub turns-over : {turns : ℕ} {s : Stores} {b text : List ℕ} {p : Place} → turns ≡ 0 → Running turns s b text p → Ran TurnsOver s
 turns-over {turns} e c = ran-so-far {o = TurnsOver} c (omega (arith, e, c .counted))
 
--- a round that left one of the first two did not stop
-pub not-stopped : {n : Next} → OneOf (0 ∷ 1 ∷ []) (tagOf Next.the-type n) → n ≡ Stop → ⊥
+-- by the tests of the code: a read did not fail, a round did not stop
+pub not-asking : {n : Next} → OneOf (1 ∷ 2 ∷ 3 ∷ []) (tagOf Next.the-type n) → n ≡ Read → ⊥
+not-asking {n} k e = go k (ap (tagOf Next.the-type) e)
+  where
+    go : {n : ℕ} → OneOf (1 ∷ 2 ∷ 3 ∷ []) n → n ≡ 0 → ⊥
+    go (inl a) z = omega (arith, a, z)
+    go (inr (inl a)) z = omega (arith, a, z)
+    go (inr (inr a)) z = omega (arith, a, z)
+
+pub not-stopped : {n : Next} → OneOf (0 ∷ 1 ∷ 2 ∷ []) (tagOf Next.the-type n) → n ≡ Stop → ⊥
 not-stopped {n} k e = go k (ap (tagOf Next.the-type) e)
   where
-    go : {n : ℕ} → OneOf (0 ∷ 1 ∷ []) n → n ≡ 2 → ⊥
+    go : {n : ℕ} → OneOf (0 ∷ 1 ∷ 2 ∷ []) n → n ≡ 3 → ⊥
     go (inl a) z = omega (arith, a, z)
-    go (inr b) z = omega (arith, b, z)
+    go (inr (inl a)) z = omega (arith, a, z)
+    go (inr (inr a)) z = omega (arith, a, z)
 
 -- ---- the claims
 

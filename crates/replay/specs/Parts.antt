@@ -11,7 +11,7 @@ use Rattle.wire_record.specs.Stream.{Reads, Ending, ended, malformed, stream}
 use Rattle.replay_serve.specs.Calls.{Stores, linesOf, storesAfter, started}
 use Rattle.replay_serve.specs.Serve.{malformedLine}
 use Rattle.replay.specs.declared.round.Next.{Next}
-use Rattle.replay.specs.declared.round.Next.the-variants.{Read, Again, Stop}
+use Rattle.replay.specs.declared.round.Next.the-variants.{Read, Stop}
 use Rattle.replay.specs.Rounds.{Rounds}
 
 -- parts, one behind the other
@@ -54,5 +54,5 @@ pub record PartsAnswered : Type 0 where
   -- The lines do not depend on the parts.
   pub alike : {k j : ℕ} {parts others texts lines : List (List ℕ)} {s u : Stores} {rest left : List ℕ} → Rounds k parts texts s rest Stop → Rounds j others lines u left Stop
       → joined parts ≡ joined others → joined texts ≡ joined lines
-  -- Each round reads a byte, answers a record or is the last.
+  -- Each round reads a byte, follows a full text or is the last.
   pub few : {k : ℕ} {parts texts : List (List ℕ)} {s : Stores} {rest : List ℕ} {n : Next} → Rounds k parts texts s rest n → k ≤ 2 * length (joined parts) + 1

@@ -1,9 +1,8 @@
 -- The bytes in the program's buffer, and a round over them.
 -- Assumes nothing.
-use mathlib.Core.Bool.{Bool, true, false}
 use mathlib.Core.List.{List}
 use mathlib.Core.Path.{_≡_}
-use Prim.Native.Nat.{ℕ, zero, suc, _+_, _-_, _≤_, _<_}
+use Prim.Native.Nat.{ℕ, _-_, _≤_, _<_}
 use lib.ListN.{length, take, drop}
 use Rattle.wire_line.specs.Text.{Puts}
 use Rattle.replay_serve.specs.declared.serve.Found.{Found}
@@ -11,7 +10,7 @@ use Rattle.replay_serve.specs.declared.serve.Found.the-variants.{Incomplete, Ma
 use Rattle.replay_serve.specs.declared.serve.Reached.{Reached}
 use Rattle.replay_serve.specs.Calls.{Stores}
 use Rattle.replay.specs.declared.round.Next.{Next}
-use Rattle.replay.specs.declared.round.Next.the-variants.{Read, Again, Stop}
+use Rattle.replay.specs.declared.round.Next.the-variants.{Read, Answer, End, Stop}
 use Rattle.replay.specs.declared.round.Place.{Place}
 use Rattle.replay.specs.Rounds.{cutLine, Round, Last}
 
@@ -29,12 +28,27 @@ pub record InBuffer (p : Place) : Type 0 where
   pub inside : p .have ≤ 65536
   pub room : p .next ≡ Read → p .have < 65536
 
--- after a read, or none where none was asked for: so many bytes came behind those that the buffer has, which stay
-pub record Fetched (n : Next) (have : ℕ) (b d : List ℕ) (got : ℕ) : Type 0 where
-  pub inside : have + got ≤ 65536
-  pub kept : take have d ≡ take have b
+-- A read of a place that asks for bytes, by what comes next: it failed, and the place still asks; bytes came behind those that the buffer has; none came, as the input has ended.
+abbrev pub TakenBy : Next → Place → Place → Type 0
+TakenBy Read p q = q .have ≡ p .have
+TakenBy Answer p q = p .have < q .have
+TakenBy End p q = q .have ≡ p .have
+TakenBy Stop p q = ⊥
+
+-- any other place stays as it is
+abbrev pub FetchedBy : Next → Place → Place → Type 0
+FetchedBy Read p q = TakenBy (q .next) p q
+FetchedBy Answer p q = q ≡ p
+FetchedBy End p q = q ≡ p
+FetchedBy Stop p q = q ≡ p
+
+pub record Fetched (p : Place) (b d : List ℕ) (q : Place) : Type 0 where
+  pub at : q .at ≡ p .at
+  pub end : q .end ≡ p .end
+  pub inside : q .have ≤ 65536
+  pub kept : take (p .have) d ≡ take (p .have) b
   pub long : length d ≡ length b
-  pub unasked : (n ≡ Read → ⊥) → got ≡ 0
+  pub takes : FetchedBy (p .next) p q
 
 -- after a write of what is due: only that has changed
 pub record Flushed (p q : Place) : Type 0 where
@@ -42,17 +56,10 @@ pub record Flushed (p q : Place) : Type 0 where
   pub at : q .at ≡ p .at
   pub have : q .have ≡ p .have
 
--- bytes were asked for, and none came
-unfoldable pub ended : Next → ℕ → Bool
-ended Read zero = true
-ended Read (suc k) = false
-ended Again got = false
-ended Stop got = false
-
 -- where the records up to a place are answered, by what was found there: the buffer stays, or what is left of it goes to the front
 abbrev pub LeftBy : Found → ℕ → ℕ → List ℕ → List ℕ → Place → Type 0
 LeftBy Malformed at have b d p = (p .next ≡ Stop) × (p .at ≡ at) × (p .have ≡ have) × (d ≡ b)
-LeftBy Answered at have b d p = (p .next ≡ Again) × (p .at ≡ at) × (p .have ≡ have) × (d ≡ b)
+LeftBy Answered at have b d p = (p .next ≡ Answer) × (p .at ≡ at) × (p .have ≡ have) × (d ≡ b)
 LeftBy Incomplete at have b d p = (p .next ≡ Read) × (p .at ≡ 0) × (p .have ≡ have - at) × (take (have - at) d ≡ between at have b)
 
 pub record Left (t : Reached) (have : ℕ) (b d : List ℕ) (p : Place) : Type 0 where
@@ -68,13 +75,15 @@ pub record Finished (p : Place) (text v : List ℕ) (q : Place) : Type 0 where
   pub put : Puts text 0 (cutLine (p .have - p .at)) v (q .end)
   pub room : q .end ≤ 65536
 
--- the last round where the input has ended, else a round over what was left and what came
-abbrev pub RoundBy : Bool → Stores → List ℕ → Stores → List ℕ → List ℕ → Next → Type 0
-RoundBy true s b u rest text n = Last s b u rest text n
-RoundBy false s b u rest text n = Round s b u rest text n
+-- the last round where the input has ended, else a round over what is not answered yet
+abbrev pub RoundBy : Next → Stores → List ℕ → Stores → List ℕ → List ℕ → Next → Type 0
+RoundBy End s b u rest text n = Last s b u rest text n
+RoundBy Read s b u rest text n = Round s b u rest text n
+RoundBy Answer s b u rest text n = Round s b u rest text n
+RoundBy Stop s b u rest text n = Round s b u rest text n
 
-pub record Rounded (last : Bool) (p : Place) (got : ℕ) (s : Stores) (b : List ℕ) (u : Stores) (d text : List ℕ) (q : Place) : Type 0 where
+pub record Rounded (asked : Next) (p : Place) (s : Stores) (b : List ℕ) (u : Stores) (d text : List ℕ) (q : Place) : Type 0 where
   pub sized : Sized d × Sized text
   pub in-buffer : InBuffer q
   pub room : q .end ≤ 65536
-  pub does : RoundBy last s (between (p .at) (p .have + got) b) u (between (q .at) (q .have) d) (take (q .end) text) (q .next)
+  pub does : RoundBy asked s (between (p .at) (p .have) b) u (between (q .at) (q .have) d) (take (q .end) text) (q .next)

@@ -11,7 +11,7 @@ use Rattle.wire_record.specs.Stream.{Reads}
 use Rattle.replay_serve.specs.Calls.{Stores, linesOf, storesAfter, started}
 use Rattle.replay_serve.specs.Serve.{malformedLine}
 use Rattle.replay.specs.declared.round.Next.{Next}
-use Rattle.replay.specs.declared.round.Next.the-variants.{Read, Again, Stop}
+use Rattle.replay.specs.declared.round.Next.the-variants.{Read, Answer, End, Stop}
 
 -- "input ending inside a record" is malformed: the line that is due where so many bytes are left
 abbrev pub cutLine : ℕ → List ℕ
@@ -19,16 +19,18 @@ cutLine zero = []
 cutLine (suc n) = malformedLine
 
 -- What comes after these records, by what stands behind them: too little to tell, so that more is read; anything, where the text was full, and a record at least was
--- answered; "malformed record; it stops".
+-- answered; "malformed record; it stops". That the input has ended is told by a read, and by no round.
 abbrev pub GoesOn : Next → List Record → List ℕ → Type 0
 GoesOn Read records rest = parse rest ≡ Parsed.Incomplete
-GoesOn Again records rest = 0 < length records
+GoesOn Answer records rest = 0 < length records
+GoesOn End records rest = ⊥
 GoesOn Stop records rest = parse rest ≡ Parsed.Malformed
 
 -- the line behind those of the records
 abbrev pub lastLine : Next → List ℕ
 lastLine Read = []
-lastLine Again = []
+lastLine Answer = []
+lastLine End = []
 lastLine Stop = malformedLine
 
 -- A round, from stores s and the bytes b at hand: records that they begin with are answered in their order, and the rest follows them. The stores are u then, and the text has the lines.
@@ -53,6 +55,6 @@ pub data Rounds : ℕ → List (List ℕ) → List (List ℕ) → Stores → Lis
   more : {k : ℕ} {parts texts : List (List ℕ)} {s u : Stores} {l rest text : List ℕ} {n : Next}
       → Rounds k parts texts s l Read → (part : List ℕ) → 0 < length part → Round s (l ++ part) u rest text n → Rounds (k + 1) (parts ++ part ∷ []) (texts ++ text ∷ []) u rest n
   again : {k : ℕ} {parts texts : List (List ℕ)} {s u : Stores} {l rest text : List ℕ} {n : Next}
-      → Rounds k parts texts s l Again → Round s l u rest text n → Rounds (k + 1) parts (texts ++ text ∷ []) u rest n
+      → Rounds k parts texts s l Answer → Round s l u rest text n → Rounds (k + 1) parts (texts ++ text ∷ []) u rest n
   end : {k : ℕ} {parts texts : List (List ℕ)} {s u : Stores} {l rest text : List ℕ} {n : Next}
       → Rounds k parts texts s l Read → Last s l u rest text n → Rounds (k + 1) (parts ++ [] ∷ []) (texts ++ text ∷ []) u rest n

@@ -2,7 +2,7 @@
 ghost use mathlib.Core.Path.{_≡_};
 ghost use Prim.Native.Nat.{_+_, _-_, _≤_, _<_};
 ghost use lib.ListN.{length, take};
-ghost use Rattle.replay.specs.Place.{InBuffer, Fetched};
+ghost use Rattle.replay.specs.Place.{InBuffer, TakenBy, Fetched};
 use crate::round::Next;
 use crate::round::Place;
 
@@ -25,22 +25,33 @@ fn fill(buffer: &mut [u8], have: usize) -> Came
     }
 }
 
-// Reads where the place asks for it.
-pub fn fetch(place: Place, buffer: &mut [u8; 65536]) -> Came
+// What comes next after a read. Where it failed, the place still asks for bytes.
+fn taken(place: Place, came: Came) -> Place
+    requires { ⌜ place .have + came .size ≤ 65536 ⌝ }
+    ensures { λ p. ⌜ (p .at ≡ place .at) × (p .end ≡ place .end) × (p .have ≤ 65536) × TakenBy (p .next) place p ⌝ }
+{
+    let at = place.at;
+    let have = place.have;
+    let end = place.end;
+    if came.failed {
+        return Place::new(Next::Read, at, have, end);
+    }
+    if came.size == 0 {
+        return Place::new(Next::End, at, have, end);
+    }
+    Place::new(Next::Answer, at, have + came.size, end)
+}
+
+// Reads, once, where the place asks for bytes.
+pub fn fetch(place: Place, buffer: &mut [u8; 65536]) -> Place
     requires { ⌜ InBuffer place ⌝ }
-    ensures { λ r. ⌜ Fetched (place .next) (place .have) (now (buffer .entry)) (now (buffer .exit)) (r .size) ⌝ }
+    ensures { λ p. ⌜ Fetched place (now (buffer .entry)) (now (buffer .exit)) p ⌝ }
 {
     let next = place.next;
     let have = place.have;
-    match next {
-        Next::Read => fill(buffer, have),
-        Next::Again => Came {
-            failed: false,
-            size: 0,
-        },
-        Next::Stop => Came {
-            failed: false,
-            size: 0,
-        },
+    if let Next::Read = next {
+        let came = fill(buffer, have);
+        return taken(place, came);
     }
+    Place::new(next, place.at, have, place.end)
 }

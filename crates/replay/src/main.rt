@@ -55,11 +55,12 @@ fn run(
     let mut place = Place::new(Next::Read, 0, 0, 0);
     while turns > 0 {
         turns -= 1;
-        let came = input::fetch(place, buffer);
-        if came.failed {
+        place = input::fetch(place, buffer);
+        let fetched = place.next;
+        if let Next::Read = fetched {
             return Outcome::ReadFailed;
         }
-        place = round::round(place, came.size, buffer, table, rings, out, text);
+        place = round::round(place, buffer, table, rings, out, text);
         place = flush(place, text);
         if place.end > 0 {
             return Outcome::WriteFailed;

@@ -1,11 +1,10 @@
 // A round of the program: what came is answered, and how the program goes on.
 ghost use mathlib.Core.Path.{_≡_};
-ghost use Prim.Native.Nat.{_+_, _-_, _≤_};
+ghost use Prim.Native.Nat.{_-_, _≤_};
 ghost use lib.ListN.{length, take, drop};
 ghost use Rattle.wire_line.specs.Text.{Puts};
-ghost use mathlib.Core.Bool.{false};
 ghost use Rattle.replay.specs.Rounds.{cutLine};
-ghost use Rattle.replay.specs.Place.{Sized, InBuffer, Left, Finished, ended, Rounded};
+ghost use Rattle.replay.specs.Place.{Sized, InBuffer, Left, Finished, Rounded};
 use model::Answer;
 use model::Refusal;
 use replay_serve::serve;
@@ -13,10 +12,11 @@ use replay_serve::serve::Found;
 use replay_serve::serve::Reached;
 use wire_line::line;
 
-// What comes next: a read; another round over what is left of the buffer, as the text was full; or nothing.
+// What comes next: a read; a round over the bytes in the buffer; the last round, as the input has ended; nothing.
 pub enum Next {
     Read,
-    Again,
+    Answer,
+    End,
     Stop,
 }
 
@@ -78,25 +78,11 @@ fn leave(t: Reached, buffer: &mut [u8; 65536], have: usize) -> Place
     let end = t.end;
     match found {
         Found::Malformed => Place::new(Next::Stop, at, have, end),
-        Found::Answered => Place::new(Next::Again, at, have, end),
+        Found::Answered => Place::new(Next::Answer, at, have, end),
         Found::Incomplete => {
             let left = shift(buffer, at, have);
             Place::new(Next::Read, 0, left, end)
         }
-    }
-}
-
-// Whether the input has ended: bytes were asked for, and none came.
-fn ended(next: Next, got: usize) -> bool
-    ensures { λ r. ⌜ r ≡ ended next got ⌝ }
-{
-    if got > 0 {
-        return false;
-    }
-    match next {
-        Next::Read => true,
-        Next::Again => false,
-        Next::Stop => false,
     }
 }
 
@@ -111,41 +97,39 @@ fn finish(place: Place, text: &mut [u8; 65536]) -> Place
     Place::new(Next::Stop, at, have, end)
 }
 
-// Answers what came, and what was left before it.
+// Answers records of the buffer.
 fn answer_more(
     place: Place,
-    got: usize,
     buffer: &mut [u8; 65536],
     table: &mut [u64; 4096],
     rings: &mut [u64; 2048],
     out: &mut [u64; 64],
     text: &mut [u8; 65536],
 ) -> Place
-    requires { ⌜ InBuffer place × (place .have + got ≤ 65536) × Sized (now buffer) × Sized (now text) ⌝ }
-    ensures { λ p. ⌜ Rounded false place got (record { table = now (table .entry); rings = now (rings .entry); out = now (out .entry) }) (now (buffer .entry)) (record { table = now (table .exit); rings = now (rings .exit); out = now (out .exit) }) (now (buffer .exit)) (now (text .exit)) p ⌝ }
+    requires { ⌜ InBuffer place × Sized (now buffer) × Sized (now text) ⌝ }
+    ensures { λ p. ⌜ Rounded Next.Answer place (record { table = now (table .entry); rings = now (rings .entry); out = now (out .entry) }) (now (buffer .entry)) (record { table = now (table .exit); rings = now (rings .exit); out = now (out .exit) }) (now (buffer .exit)) (now (text .exit)) p ⌝ }
 {
     let at = place.at;
-    let have = place.have + got;
+    let have = place.have;
     let t = serve::serve(buffer, at, have, table, rings, out, text);
     leave(t, buffer, have)
 }
 
-// One round, once so many bytes came behind those that the buffer has, and nothing of the text is due.
+// One round. Nothing of the text may be due, as it is put anew.
 pub fn round(
     place: Place,
-    got: usize,
     buffer: &mut [u8; 65536],
     table: &mut [u64; 4096],
     rings: &mut [u64; 2048],
     out: &mut [u64; 64],
     text: &mut [u8; 65536],
 ) -> Place
-    requires { ⌜ InBuffer place × (place .have + got ≤ 65536) × Sized (now buffer) × Sized (now text) × (place .end ≡ 0) ⌝ }
-    ensures { λ p. ⌜ Rounded (ended (place .next) got) place got (record { table = now (table .entry); rings = now (rings .entry); out = now (out .entry) }) (now (buffer .entry)) (record { table = now (table .exit); rings = now (rings .exit); out = now (out .exit) }) (now (buffer .exit)) (now (text .exit)) p ⌝ }
+    requires { ⌜ InBuffer place × Sized (now buffer) × Sized (now text) × (place .end ≡ 0) ⌝ }
+    ensures { λ p. ⌜ Rounded (place .next) place (record { table = now (table .entry); rings = now (rings .entry); out = now (out .entry) }) (now (buffer .entry)) (record { table = now (table .exit); rings = now (rings .exit); out = now (out .exit) }) (now (buffer .exit)) (now (text .exit)) p ⌝ }
 {
     let next = place.next;
-    if ended(next, got) {
+    if let Next::End = next {
         return finish(place, text);
     }
-    answer_more(place, got, buffer, table, rings, out, text)
+    answer_more(place, buffer, table, rings, out, text)
 }

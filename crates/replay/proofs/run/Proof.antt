@@ -2,7 +2,8 @@
 -- Assumes nothing.
 use mathlib.Core.Path.{refl, _∙_}
 use native.Mathlib.Omega.{arith}
-use Rattle.replay.proofs.RunLaws.{Running, running-start, running-on, ran-on, ran-so-far, turns-over, not-stopped}
+use Rattle.replay.proofs.PlaceLaws.{fetched-buffer}
+use Rattle.replay.proofs.RunLaws.{Running, running-start, running-on, ran-on, ran-so-far, turns-over, not-asking, not-stopped}
 use borrow.Author.Needs.{needs}
 use Rattle.replay.proofs.run.Statement.{statement}
 use Rattle.replay.proofs.run.Tie as tie
@@ -19,22 +20,22 @@ fetch-requires c κs = c .before .before .loop .inv .in-buffer
 round-requires : tie.Need-round-requires Inv-loop μ-loop
 round-requires c κs =
     let inv = c .before .before .before .before .before .before .before .before .before .loop .inv in
-    let got = c .before .before .before .before .before .before .fetch .ensures in
-    (inv .in-buffer, got .inside, got .long ∙ inv .sized .0, inv .sized .1, inv .written)
+    let fetched = c .before .before .before .before .before .before .fetch .ensures in
+    (fetched-buffer (inv .in-buffer) fetched, fetched .long ∙ inv .sized .0, inv .sized .1, fetched .end ∙ inv .written)
 
 flush-requires : tie.Need-flush-requires Inv-loop μ-loop
 flush-requires c κs = omega (arith, c .before .before .round .ensures .room)
 
 returns-2 : tie.Need-returns-2 Inv-loop μ-loop
-returns-2 c = ran-on (c .before .before .before .before .before .before .before .before .before .before .before .before .before .before .before .loop .inv) (c .before .before .before .before .before .before .before .before .before .before .before .before .fetch .ensures) (c .before .before .before .before .before .round .ensures) (c .before .before .flush .ensures) (λ k. tt)
+returns-2 c = ran-on (c .before .before .before .before .before .before .before .before .before .before .before .before .before .before .before .loop .inv) (c .before .before .before .before .before .before .before .before .before .before .before .before .fetch .ensures) (not-asking (c .before .before .before .before .before .before .before .before .before .before .before .match .keys2)) (c .before .before .before .before .before .round .ensures) (c .before .before .flush .ensures) (λ k. tt)
 
 returns-3 : tie.Need-returns-3 Inv-loop μ-loop
-returns-3 c = ran-on (c .before .before .before .before .before .before .before .before .before .before .before .before .before .before .before .before .before .loop .inv) (c .before .before .before .before .before .before .before .before .before .before .before .before .before .before .fetch .ensures) (c .before .before .before .before .before .before .before .round .ensures) (c .before .before .before .before .flush .ensures) (λ k. c .enum-told .given .1)
+returns-3 c = ran-on (c .before .before .before .before .before .before .before .before .before .before .before .before .before .before .before .before .before .loop .inv) (c .before .before .before .before .before .before .before .before .before .before .before .before .before .before .fetch .ensures) (not-asking (c .before .before .before .before .before .before .before .before .before .before .before .before .before .match .keys2)) (c .before .before .before .before .before .before .before .round .ensures) (c .before .before .before .before .flush .ensures) (λ k. c .enum-told2 .given .1)
 
 loop-again : tie.Need-loop-again Inv-loop μ-loop
 loop-again c =
-    running-on (c .before .before .before .before .before .before .before .before .before .before .before .before .before .before .before .before .loop .inv) (c .before .before .before .before .before .before .before .before .before .before .before .before .before .fetch .ensures) (c .before .before .before .before .before .before .round .ensures) (c .before .before .before .flush .ensures)
-    (c .before .before .before .before .before .before .before .before .before .before .before .before .before .before .before .loop-test .taken) refl (not-stopped (c .match .keys2)) (omega (arith, c .before .if2 .left))
+    running-on (c .before .before .before .before .before .before .before .before .before .before .before .before .before .before .before .before .loop .inv) (c .before .before .before .before .before .before .before .before .before .before .before .before .before .fetch .ensures) (not-asking (c .before .before .before .before .before .before .before .before .before .before .before .before .match .keys2)) (c .before .before .before .before .before .before .round .ensures) (c .before .before .before .flush .ensures)
+    (c .before .before .before .before .before .before .before .before .before .before .before .before .before .before .before .loop-test .taken) refl (not-stopped (c .match2 .keys2)) (omega (arith, c .before .if1 .left))
 
 pub run-spec : {M : Type 1} → statement M
 run-spec =
@@ -46,7 +47,8 @@ run-spec =
     (λ c. running-start (c .before .pre) (c .new .ensures))
     (λ c. search needs)
     fetch-requires
-    (λ c. ran-so-far (c .before .before .before .before .loop .inv) tt)
+    (λ c. search needs)
+    (λ c. ran-so-far (c .before .before .before .before .before .loop .inv) tt)
     round-requires
     flush-requires
     returns-2

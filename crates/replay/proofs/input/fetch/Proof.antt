@@ -1,6 +1,7 @@
 -- `replay::input::fetch` meets its contract.
 -- Assumes nothing.
 use native.Mathlib.Omega.{arith}
+use Rattle.replay.proofs.PlaceLaws.{fetched-read, fetched-none}
 use borrow.Author.Needs.{needs}
 use Rattle.replay.proofs.input.fetch.Statement.{statement}
 use Rattle.replay.proofs.input.fetch.Tie as tie
@@ -8,8 +9,11 @@ use Rattle.replay.proofs.input.fetch.Tie as tie
 fill-requires : tie.Need-fill-requires
 fill-requires c κs = omega (arith, c .before .before .before .pre .room (c .before .enum-told .given .1))
 
+taken-requires : tie.Need-taken-requires
+taken-requires c κs = omega (arith, c .fill .ensures .0, c .before .before .before .before .pre .inside)
+
 returns : tie.Need-returns
-returns c = record { inside = omega (arith, c .fill .ensures .0); kept = c .fill .ensures .1; long = c .fill .kept .0; unasked = λ h. absurd (h (c .before .before .enum-told .given .1)) }
+returns c = fetched-read (c .before .before .before .enum-told .given .1) (c .before .fill .ensures .1) (c .before .fill .kept .0) (c .taken .ensures)
 
 pub fetch-spec : {M : Type 1} → statement M
-fetch-spec = tie.close (tie.spec (λ c. search needs) fill-requires (λ c. search needs) (λ c. search needs) returns (λ c. search needs) (λ c. search needs))
+fetch-spec = tie.close (tie.spec (λ c. search needs) fill-requires taken-requires returns (λ c κs. search needs) (λ c. fetched-none (c .before .match .keys2) (c .before .before .pre) (c .new .ensures)))

@@ -1,7 +1,6 @@
 -- `replay::round::round` meets its contract.
 -- Assumes nothing.
-use mathlib.Core.Path.{sym, _∙_}
-use Rattle.replay.proofs.PlaceLaws.{last-rounded, rounded-as}
+use Rattle.replay.proofs.PlaceLaws.{last-rounded, answer-rounded}
 use borrow.Author.Needs.{needs}
 use Rattle.replay.proofs.round.round.Statement.{statement}
 use Rattle.replay.proofs.round.round.Tie as tie
@@ -9,11 +8,10 @@ use Rattle.replay.proofs.round.round.Tie as tie
 returns : tie.Need-returns
 returns c =
     let entry = c .before .before .before .before in
-    let e = sym (c .before .before .before .ended .ensures) ∙ c .before .before .if1 .taken in
-    rounded-as e (last-rounded (entry .pre .0) (entry .pre .2) (entry .pre .3) e (c .finish .ensures))
+    last-rounded (entry .pre .0) (entry .pre .1) (entry .pre .2) (c .before .before .enum-told .given .1) (c .finish .ensures)
 
 returns-2 : tie.Need-returns-2
-returns-2 c = rounded-as (sym (c .before .before .before .before .before .before .before .ended .ensures) ∙ c .before .before .before .before .before .before .if1 .left) (c .answer-more .ensures)
+returns-2 c = answer-rounded (c .before .before .before .before .before .before .match .keys2) (c .answer-more .ensures)
 
 pub round-spec : {M : Type 1} → statement M
-round-spec = tie.close (tie.spec (λ c κs. search needs) (λ c κs. search needs) returns (λ c κs. search needs) returns-2)
+round-spec = tie.close (tie.spec (λ c. search needs) (λ c κs. search needs) returns (λ c κs. search needs) returns-2)
