@@ -1,7 +1,7 @@
 -- The bytes in the buffer: what a round over them is, and what is carried from one to the next.
 -- Assumes nothing.
 use mathlib.Core.Bool.{Bool, true, false, cond}
-use mathlib.Core.Logic.{inl, inr}
+use mathlib.Core.Logic.{_⊎_, inl, inr}
 use mathlib.Core.Option.{Option, none, some}
 use mathlib.Core.Path.{_≡_, refl, sym, ap, _∙_, subst}
 use mathlib.Core.List.{List, [], _∷_, _++_, append-nil}
@@ -27,13 +27,14 @@ use Rattle.replay_serve.specs.Serve.{malformedLine, StopsAt, Served}
 use Rattle.replay_serve.specs.Serve as Serve
 use denote.Enum.Declared.{tagOf}
 use types.Run.{OneOf}
+use Rattle.replay.specs.declared.input.Came.{Came}
 use Rattle.replay.specs.declared.round.Next.{Next}
 use Rattle.replay.proofs.round.Next as Next
 use Rattle.replay.specs.declared.round.Next.the-variants.{Read, Answer, End, Stop}
 use Rattle.replay.specs.declared.round.Place.{Place}
 use Rattle.replay.specs.Rounds.{cutLine, lastLine, GoesOn, Round, Last, Rounds}
 use Rattle.replay.specs.Rounds as Rounds
-use Rattle.replay.specs.Place.{Sized, between, InBuffer, TakenBy, FetchedBy, Fetched, Flushed, LeftBy, Left, Finished, RoundBy, Rounded}
+use Rattle.replay.specs.Place.{Sized, between, InBuffer, afterRead, Received, FetchedBy, Fetched, Flushed, LeftBy, Left, Finished, RoundBy, Rounded}
 
 -- ---- the text
 
@@ -45,8 +46,8 @@ cut-line zero n = absurd (n refl)
 cut-line (suc k) n = refl
 
 -- the first bytes of a text, where lines were put
-taken : {t l u : List ℕ} {r : ℕ} → Puts t 0 l u r → r ≤ length t → take r u ≡ l
-taken {t} {l} {u} {r} p h =
+put-taken : {t l u : List ℕ} {r : ℕ} → Puts t 0 l u r → r ≤ length t → take r u ≡ l
+put-taken {t} {l} {u} {r} p h =
     let long : length l ≡ r = omega (arith, p .end) in
     ap (take r) (p .bytes ∙ sets-eq l t 0 (omega (arith, long, h))) ∙ take-at l (drop (0 + length l) t) r long
 
@@ -100,25 +101,51 @@ module _ (b : List ℕ) where
 
 -- ---- a write
 
-pub flushed : {p q : Place} {end : ℕ} → q ≡ record { next = p .next; at = p .at; have = p .have; end = end } → Flushed p q
-flushed {p} e = subst (λ (q : Place). Flushed p q) (sym e) (record { next = refl; at = refl; have = refl })
+pub flushed : {p q : Place} {end : ℕ} → q ≡ record { next = p .next; at = p .at; have = p .have; end = end } → (end ≡ 0) ⊎ (end ≡ p .end) → Flushed p q
+flushed {p} e d = subst (λ (q : Place). Flushed p q) (sym e) (record { next = refl; at = refl; have = refl; due = d })
 
 -- ---- a read
 
-pub taken-as : (p : Place) {q m : Place} (n : Next) → m ≡ q → q .next ≡ n → q .at ≡ p .at → q .end ≡ p .end → q .have ≤ 65536 → TakenBy n p q
-    → (m .at ≡ p .at) × (m .end ≡ p .end) × (m .have ≤ 65536) × TakenBy (m .next) p m
-taken-as p {q} n e f a z h t =
-    subst (λ (m : Place). (m .at ≡ p .at) × (m .end ≡ p .end) × (m .have ≤ 65536) × TakenBy (m .next) p m) (sym e) (a, z, h, subst (λ (x : Next). TakenBy x p q) (sym f) t)
+-- the place that `after_read` makes, by what it tests
+pub after-failed : (p : Place) {q : Place} {failed : Bool} (size : ℕ) → failed ≡ true → q ≡ record { next = Read; at = p .at; have = p .have; end = p .end } → q ≡ afterRead p failed size
+after-failed p size e f = f ∙ ap (λ (x : Bool). afterRead p x size) (sym e)
 
--- a place that asks for bytes
-pub fetched-read : {p q : Place} {b d : List ℕ} → p .next ≡ Read → take (p .have) d ≡ take (p .have) b → length d ≡ length b
-    → (q .at ≡ p .at) × (q .end ≡ p .end) × (q .have ≤ 65536) × TakenBy (q .next) p q → Fetched p b d q
-fetched-read {p} {q} e k l w = record { at = w .0; end = w .1; inside = w .2; kept = k; long = l; takes = subst (λ (x : Next). FetchedBy x p q) (sym e) (w .3) }
+pub after-none : (p : Place) {q : Place} {failed : Bool} {size : ℕ} → failed ≡ false → size ≡ 0 → q ≡ record { next = End; at = p .at; have = p .have; end = p .end } → q ≡ afterRead p failed size
+after-none p {failed = failed} e z f = f ∙ ap (λ (x : Bool). afterRead p x 0) (sym e) ∙ ap (λ (k : ℕ). afterRead p failed k) (sym z)
 
--- and another
-pub fetched-none : {p q : Place} {b : List ℕ} → OneOf (1 ∷ 2 ∷ 3 ∷ []) (tagOf Next.the-type (p .next)) → InBuffer p → q ≡ p → Fetched p b b q
-fetched-none {p} {q} {b} k i e =
-    subst (λ (x : Place). Fetched p b b x) (sym e) (record { at = refl; end = refl; inside = i .inside; kept = refl; long = refl; takes = go (p .next) k })
+pub after-some : (p : Place) {q : Place} {failed : Bool} (size : ℕ) → failed ≡ false → (size ≡ 0 → ⊥) → q ≡ record { next = Answer; at = p .at; have = p .have + size; end = p .end }
+    → q ≡ afterRead p failed size
+after-some p zero e n f = absurd (n refl)
+after-some p (suc k) e n f = f ∙ ap (λ (x : Bool). afterRead p x (suc k)) (sym e)
+
+-- what is known of the place, by what comes next
+abbrev pub TakenBy : Next → Place → Place → Type 0
+TakenBy Read p q = q .have ≡ p .have
+TakenBy Answer p q = p .have < q .have
+TakenBy End p q = q .have ≡ p .have
+TakenBy Stop p q = ⊥
+
+pub record Taken (p q : Place) : Type 0 where
+  pub at : q .at ≡ p .at
+  pub end : q .end ≡ p .end
+  pub inside : q .have ≤ 65536
+  pub takes : TakenBy (q .next) p q
+
+pub taken-read : {p q : Place} → Received p q → Taken p q
+taken-read {p} {q} r = subst (λ (x : Place). Taken p x) (sym (r .taken)) (go (r .came .failed) (r .came .size) (r .inside))
+  where
+    go : (failed : Bool) (size : ℕ) → p .have + size ≤ 65536 → Taken p (afterRead p failed size)
+    go true size h = record { at = refl; end = refl; inside = omega (arith, h); takes = refl }
+    go false zero h = record { at = refl; end = refl; inside = omega (arith, h); takes = refl }
+    go false (suc k) h = record { at = refl; end = refl; inside = h; takes = omega arith }
+
+pub fetched-read : {p q : Place} {b d : List ℕ} (came : Came) → p .next ≡ Read → take (p .have) d ≡ take (p .have) b → length d ≡ length b → p .have + came .size ≤ 65536
+    → q ≡ afterRead p (came .failed) (came .size) → Fetched p b d q
+fetched-read {p} {q} came e k l h t = record { kept = k; long = l; takes = subst (λ (x : Next). FetchedBy x p q) (sym e) (record { came = came; inside = h; taken = t }) }
+
+-- a place that asks for nothing
+pub fetched-none : {p q : Place} {b : List ℕ} → OneOf (1 ∷ 2 ∷ 3 ∷ []) (tagOf Next.the-type (p .next)) → q ≡ p → Fetched p b b q
+fetched-none {p} {q} {b} k e = subst (λ (x : Place). Fetched p b b x) (sym e) (record { kept = refl; long = refl; takes = go (p .next) k })
   where
     not-first : OneOf (1 ∷ 2 ∷ 3 ∷ []) 0 → ⊥
     not-first (inl a) = omega (arith, a)
@@ -131,17 +158,27 @@ fetched-none {p} {q} {b} k i e =
     go End k = refl
     go Stop k = refl
 
+-- what every place keeps
+pub fetched-end : {p q : Place} {b d : List ℕ} → Fetched p b d q → q .end ≡ p .end
+fetched-end {p} {q} f = go (p .next) (f .takes)
+  where
+    go : (n : Next) → FetchedBy n p q → q .end ≡ p .end
+    go Read t = taken-read t .end
+    go Answer t = ap (λ (x : Place). x .end) t
+    go End t = ap (λ (x : Place). x .end) t
+    go Stop t = ap (λ (x : Place). x .end) t
+
 pub fetched-buffer : {p q : Place} {b d : List ℕ} → InBuffer p → Fetched p b d q → InBuffer q
 fetched-buffer {p} {q} i f = go (p .next) refl (f .takes)
   where
-    taken : (n : Next) → q .next ≡ n → p .next ≡ Read → TakenBy n p q → InBuffer q
-    taken Read e a t = record { forward = omega (arith, f .at, t, i .forward); inside = f .inside; room = λ r. omega (arith, t, i .room a) }
-    taken Answer e a t = record { forward = omega (arith, f .at, t, i .forward); inside = f .inside; room = λ r. (let z : _≡_ {A = ℕ} 0 1 = cc in absurd (omega arith)) }
-    taken End e a t = record { forward = omega (arith, f .at, t, i .forward); inside = f .inside; room = λ r. (let z : _≡_ {A = ℕ} 0 1 = cc in absurd (omega arith)) }
-    taken Stop e a t = absurd t
+    by : (n : Next) → q .next ≡ n → p .next ≡ Read → q .at ≡ p .at → q .have ≤ 65536 → TakenBy n p q → InBuffer q
+    by Read e a x h t = record { forward = omega (arith, x, t, i .forward); inside = h; room = λ r. omega (arith, t, i .room a) }
+    by Answer e a x h t = record { forward = omega (arith, x, t, i .forward); inside = h; room = λ r. (let z : _≡_ {A = ℕ} 0 1 = cc in absurd (omega arith)) }
+    by End e a x h t = record { forward = omega (arith, x, t, i .forward); inside = h; room = λ r. (let z : _≡_ {A = ℕ} 0 1 = cc in absurd (omega arith)) }
+    by Stop e a x h t = absurd t
 
     go : (n : Next) → p .next ≡ n → FetchedBy n p q → InBuffer q
-    go Read e t = taken (q .next) refl e t
+    go Read e t = let w = taken-read t in by (q .next) refl e (w .at) (w .inside) (w .takes)
     go Answer e t = subst InBuffer (sym t) i
     go End e t = subst InBuffer (sym t) i
     go Stop e t = subst InBuffer (sym t) i
@@ -177,7 +214,7 @@ module _ {s u : Stores} {b d text v : List ℕ} {at have : ℕ} {t : Reached} {p
         records = g .records;
         reads = subst (λ (l : List ℕ). Reads l (g .records) (between (p .at) (p .have) d)) (window at have b h) (subst (λ (l : List ℕ). Reads (drop at (take have b)) (g .records) l) (rest-is ∙ sym f) (g .reads));
         stores = g .stores;
-        lines = ap (λ (x : ℕ). take x v) (q .end) ∙ taken w (omega (arith, m, g .room)) ∙ ap (λ (x : Next). linesOf (g .records) s ++ lastLine x) (sym e);
+        lines = ap (λ (x : ℕ). take x v) (q .end) ∙ put-taken w (omega (arith, m, g .room)) ∙ ap (λ (x : Next). linesOf (g .records) s ++ lastLine x) (sym e);
         goes = subst (λ (x : Next). GoesOn x (g .records) (between (p .at) (p .have) d)) (sym e) (subst (λ (l : List ℕ). GoesOn n (g .records) l) (sym f) z);
       }
 
@@ -227,7 +264,7 @@ last-rounded {s} {b} {text} {v} {place} {p} w j m e g =
       does = subst (λ (n : Next). RoundBy n s (between (place .at) (place .have) b) s (between (p .at) (p .have) b) (take (p .end) v) (p .next)) (sym e) (record {
         stores = refl;
         same = ap (λ (k : ℕ). between k (p .have) b) (g .at) ∙ ap (λ (k : ℕ). between (place .at) k b) (g .have);
-        lines = taken (g .put) (omega (arith, m, g .room)) ∙ ap cutLine (sym (between-long (place .at) (place .have) b (omega (arith, w .inside, j))));
+        lines = put-taken (g .put) (omega (arith, m, g .room)) ∙ ap cutLine (sym (between-long (place .at) (place .have) b (omega (arith, w .inside, j))));
         stops = g .next;
       });
     }

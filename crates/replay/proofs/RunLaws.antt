@@ -3,7 +3,7 @@
 use mathlib.Core.Logic.{inl, inr}
 use mathlib.Core.Path.{_≡_, refl, sym, ap, _∙_, subst}
 use mathlib.Core.List.{List, [], _∷_, _++_}
-use Prim.Native.Nat.{ℕ, zero, suc, _+_, _-_, _<_, _^_}
+use Prim.Native.Nat.{ℕ, _+_, _-_, _≤_, _<_, _^_}
 use native.Mathlib.Omega.{arith}
 use lib.ListN.{length, take, drop, length-drop}
 use lib.Seq.{length-take-le}
@@ -18,10 +18,10 @@ use Rattle.replay.specs.declared.Outcome.{Outcome}
 use Rattle.replay.specs.declared.Outcome.the-variants.{Answered, TurnsOver}
 use Rattle.replay.specs.Rounds.{Round, Last, Rounds}
 use Rattle.replay.specs.Rounds as Rounds
-use Rattle.replay.specs.Place.{Sized, between, InBuffer, TakenBy, FetchedBy, Fetched, Flushed, RoundBy, Rounded}
+use Rattle.replay.specs.Place.{Sized, between, InBuffer, FetchedBy, Fetched, Flushed, RoundBy, Rounded}
 use Rattle.replay.specs.Ran.{EndsAs, Ran, RunsAnswer}
 use Rattle.replay.proofs.RoundLaws.{no-end, parts-answered}
-use Rattle.replay.proofs.PlaceLaws.{between-kept, between-more}
+use Rattle.replay.proofs.PlaceLaws.{between-kept, between-more, TakenBy, taken-read}
 
 -- so many rounds from the start, and the bytes that are left are those of the buffer
 pub record Carried (k : ℕ) (s : Stores) (b : List ℕ) (p : Place) : Type 0 where
@@ -43,47 +43,47 @@ carried-on {k} {s} {u} {b} {d} {x} {v} {p} {m} {q} j i w c f y r = go (p .next) 
     here = between-kept (p .at) (p .have) b d (i .forward) (f .kept)
 
     -- where nothing came
-    same : m .have ≡ p .have → between (m .at) (m .have) d ≡ between (p .at) (p .have) b
-    same e = ap (λ (h : ℕ). between h (m .have) d) (f .at) ∙ ap (λ (h : ℕ). between (p .at) h d) e ∙ here
+    same : m .at ≡ p .at → m .have ≡ p .have → between (m .at) (m .have) d ≡ between (p .at) (p .have) b
+    same g e = ap (λ (h : ℕ). between h (m .have) d) g ∙ ap (λ (h : ℕ). between (p .at) h d) e ∙ here
 
     -- where so many bytes came
     got : ℕ
     got = m .have - p .have
 
-    longer : p .have < m .have → between (m .at) (m .have) d ≡ between (p .at) (p .have) b ++ take got (drop (p .have) d)
-    longer h =
+    longer : m .at ≡ p .at → p .have < m .have → between (m .at) (m .have) d ≡ between (p .at) (p .have) b ++ take got (drop (p .have) d)
+    longer g h =
         let e : m .have ≡ p .have + got = omega (arith, h) in
-        ap (λ (a : ℕ). between a (m .have) d) (f .at)
+        ap (λ (a : ℕ). between a (m .have) d) g
         ∙ ap (λ (a : ℕ). between (p .at) a d) e
         ∙ between-more (p .at) (p .have) got d (i .forward)
         ∙ ap (λ (l : List ℕ). l ++ take got (drop (p .have) d)) here
 
-    taken : (n : Next) → m .next ≡ n → TakenBy n p m → RoundBy n s (between (m .at) (m .have) d) u rest (take (q .end) v) (q .next)
+    taken : (n : Next) → m .next ≡ n → m .at ≡ p .at → m .have ≤ 65536 → TakenBy n p m → RoundBy n s (between (m .at) (m .have) d) u rest (take (q .end) v) (q .next)
         → Rounds k (c .parts) (c .texts) s (between (p .at) (p .have) b) Read → Carried (k + 1) u x q
-    taken Read e t r a = absurd (y e)
-    taken Answer e t r a =
+    taken Read e g h t r a = absurd (y e)
+    taken Answer e g h t r a =
         record {
           parts = c .parts ++ take got (drop (p .have) d) ∷ [];
           texts = c .texts ++ take (q .end) v ∷ [];
           rounds = Rounds.more a (take got (drop (p .have) d))
-              (omega (arith, t, f .inside, j, length-drop (p .have) d, length-take-le got (drop (p .have) d) (omega (arith, t, f .inside, j, length-drop (p .have) d))))
-              (subst (λ (l : List ℕ). Round s l u rest (take (q .end) v) (q .next)) (longer t) r);
+              (omega (arith, t, h, j, length-drop (p .have) d, length-take-le got (drop (p .have) d) (omega (arith, t, h, j, length-drop (p .have) d))))
+              (subst (λ (l : List ℕ). Round s l u rest (take (q .end) v) (q .next)) (longer g t) r);
         }
-    taken End e t r a =
+    taken End e g h t r a =
         record {
           parts = c .parts ++ [] ∷ [];
           texts = c .texts ++ take (q .end) v ∷ [];
-          rounds = Rounds.end a (subst (λ (l : List ℕ). Last s l u rest (take (q .end) v) (q .next)) (same t) r);
+          rounds = Rounds.end a (subst (λ (l : List ℕ). Last s l u rest (take (q .end) v) (q .next)) (same g t) r);
         }
-    taken Stop e t r a = absurd t
+    taken Stop e g h t r a = absurd t
 
     go : (n : Next) → p .next ≡ n → FetchedBy n p m → Rounds k (c .parts) (c .texts) s (between (p .at) (p .have) b) n → Carried (k + 1) u x q
-    go Read e t a = taken (m .next) refl t (r .does) a
+    go Read e t a = let g = taken-read t in taken (m .next) refl (g .at) (g .inside) (g .takes) (r .does) a
     go Answer e t a =
         record {
           parts = c .parts;
           texts = c .texts ++ take (q .end) v ∷ [];
-          rounds = Rounds.again a (subst (λ (l : List ℕ). Round s l u rest (take (q .end) v) (q .next)) (same (ap (λ (h : Place). h .have) t))
+          rounds = Rounds.again a (subst (λ (l : List ℕ). Round s l u rest (take (q .end) v) (q .next)) (same (ap (λ (h : Place). h .at) t) (ap (λ (h : Place). h .have) t))
               (subst (λ (n : Next). RoundBy n s (between (m .at) (m .have) d) u rest (take (q .end) v) (q .next)) (ap (λ (h : Place). h .next) t ∙ e) (r .does)));
         }
     go End e t a = absurd (no-end a)

@@ -1,14 +1,17 @@
 -- The bytes in the program's buffer, and a round over them.
 -- Assumes nothing.
+use mathlib.Core.Bool.{Bool, true, false}
 use mathlib.Core.List.{List}
+use mathlib.Core.Logic.{_⊎_}
 use mathlib.Core.Path.{_≡_}
-use Prim.Native.Nat.{ℕ, _-_, _≤_, _<_}
+use Prim.Native.Nat.{ℕ, zero, suc, _+_, _-_, _≤_, _<_}
 use lib.ListN.{length, take, drop}
 use Rattle.wire_line.specs.Text.{Puts}
 use Rattle.replay_serve.specs.declared.serve.Found.{Found}
 use Rattle.replay_serve.specs.declared.serve.Found.the-variants.{Incomplete, Malformed, Answered}
 use Rattle.replay_serve.specs.declared.serve.Reached.{Reached}
 use Rattle.replay_serve.specs.Calls.{Stores}
+use Rattle.replay.specs.declared.input.Came.{Came}
 use Rattle.replay.specs.declared.round.Next.{Next}
 use Rattle.replay.specs.declared.round.Next.the-variants.{Read, Answer, End, Stop}
 use Rattle.replay.specs.declared.round.Place.{Place}
@@ -28,33 +31,37 @@ pub record InBuffer (p : Place) : Type 0 where
   pub inside : p .have ≤ 65536
   pub room : p .next ≡ Read → p .have < 65536
 
--- A read of a place that asks for bytes, by what comes next: it failed, and the place still asks; bytes came behind those that the buffer has; none came, as the input has ended.
-abbrev pub TakenBy : Next → Place → Place → Type 0
-TakenBy Read p q = q .have ≡ p .have
-TakenBy Answer p q = p .have < q .have
-TakenBy End p q = q .have ≡ p .have
-TakenBy Stop p q = ⊥
+-- A place that asks for bytes, after a read. It failed, and the place still asks; it brought none, as the input has ended; or so many bytes came behind those that the buffer has.
+abbrev pub afterRead : Place → Bool → ℕ → Place
+afterRead p true size = record { next = Read; at = p .at; have = p .have; end = p .end }
+afterRead p false zero = record { next = End; at = p .at; have = p .have; end = p .end }
+afterRead p false (suc k) = record { next = Answer; at = p .at; have = p .have + suc k; end = p .end }
 
--- any other place stays as it is
+-- a read brought no more than there is room for
+pub record Received (p q : Place) : Type 0 where
+  pub came : Came
+  pub inside : p .have + came .size ≤ 65536
+  pub taken : q ≡ afterRead p (came .failed) (came .size)
+
+-- only a place that asks for bytes gets any
 abbrev pub FetchedBy : Next → Place → Place → Type 0
-FetchedBy Read p q = TakenBy (q .next) p q
+FetchedBy Read p q = Received p q
 FetchedBy Answer p q = q ≡ p
 FetchedBy End p q = q ≡ p
 FetchedBy Stop p q = q ≡ p
 
+-- the bytes that the buffer had stay where they are
 pub record Fetched (p : Place) (b d : List ℕ) (q : Place) : Type 0 where
-  pub at : q .at ≡ p .at
-  pub end : q .end ≡ p .end
-  pub inside : q .have ≤ 65536
   pub kept : take (p .have) d ≡ take (p .have) b
   pub long : length d ≡ length b
   pub takes : FetchedBy (p .next) p q
 
--- after a write of what is due: only that has changed
+-- after a write of what is due of the text: nothing is due, or all of it still where the write failed
 pub record Flushed (p q : Place) : Type 0 where
   pub next : q .next ≡ p .next
   pub at : q .at ≡ p .at
   pub have : q .have ≡ p .have
+  pub due : (q .end ≡ 0) ⊎ (q .end ≡ p .end)
 
 -- where the records up to a place are answered, by what was found there: the buffer stays, or what is left of it goes to the front
 abbrev pub LeftBy : Found → ℕ → ℕ → List ℕ → List ℕ → Place → Type 0

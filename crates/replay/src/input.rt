@@ -2,7 +2,7 @@
 ghost use mathlib.Core.Path.{_≡_};
 ghost use Prim.Native.Nat.{_+_, _-_, _≤_, _<_};
 ghost use lib.ListN.{length, take};
-ghost use Rattle.replay.specs.Place.{InBuffer, TakenBy, Fetched};
+ghost use Rattle.replay.specs.Place.{InBuffer, afterRead, Fetched};
 use crate::round::Next;
 use crate::round::Place;
 
@@ -25,10 +25,10 @@ fn fill(buffer: &mut [u8], have: usize) -> Came
     }
 }
 
-// What comes next after a read. Where it failed, the place still asks for bytes.
-fn taken(place: Place, came: Came) -> Place
+// The place after a read. Where it failed, the place still asks for bytes.
+fn after_read(place: Place, came: Came) -> Place
     requires { ⌜ place .have + came .size ≤ 65536 ⌝ }
-    ensures { λ p. ⌜ (p .at ≡ place .at) × (p .end ≡ place .end) × (p .have ≤ 65536) × TakenBy (p .next) place p ⌝ }
+    ensures { λ p. ⌜ p ≡ afterRead place (came .failed) (came .size) ⌝ }
 {
     let at = place.at;
     let have = place.have;
@@ -51,7 +51,7 @@ pub fn fetch(place: Place, buffer: &mut [u8; 65536]) -> Place
     let have = place.have;
     if let Next::Read = next {
         let came = fill(buffer, have);
-        return taken(place, came);
+        return after_read(place, came);
     }
     Place::new(next, place.at, have, place.end)
 }

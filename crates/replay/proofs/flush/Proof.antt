@@ -1,6 +1,7 @@
 -- `replay::flush` meets its contract.
 -- Assumes nothing.
-use mathlib.Core.Path.{sym}
+use mathlib.Core.Logic.{inl, inr}
+use mathlib.Core.Path.{refl, sym}
 use lib.Seq.{length-take-le}
 use Rattle.replay.proofs.PlaceLaws.{flushed}
 use borrow.Author.Needs.{needs}
@@ -14,6 +15,6 @@ flush-spec =
     (λ c. sym (length-take-le _ _ (c .before .before .pre)))
     (λ c κs. search needs)
     (λ c κs. search needs)
-    (λ c. flushed (c .new .ensures))
+    (λ c. flushed (c .new .ensures) (inl refl))
     (λ c κs. search needs)
-    (λ c. flushed (c .new2 .ensures)))
+    (λ c. flushed (c .new2 .ensures) (inr refl)))

@@ -2,7 +2,7 @@
 -- Assumes nothing.
 use mathlib.Core.Path.{refl, _∙_}
 use native.Mathlib.Omega.{arith}
-use Rattle.replay.proofs.PlaceLaws.{fetched-buffer}
+use Rattle.replay.proofs.PlaceLaws.{fetched-buffer, fetched-end}
 use Rattle.replay.proofs.RunLaws.{Running, running-start, running-on, ran-on, ran-so-far, turns-over, not-asking, not-stopped}
 use borrow.Author.Needs.{needs}
 use Rattle.replay.proofs.run.Statement.{statement}
@@ -21,7 +21,7 @@ round-requires : tie.Need-round-requires Inv-loop μ-loop
 round-requires c κs =
     let inv = c .before .before .before .before .before .before .before .before .before .loop .inv in
     let fetched = c .before .before .before .before .before .before .fetch .ensures in
-    (fetched-buffer (inv .in-buffer) fetched, fetched .long ∙ inv .sized .0, inv .sized .1, fetched .end ∙ inv .written)
+    (fetched-buffer (inv .in-buffer) fetched, fetched .long ∙ inv .sized .0, inv .sized .1, fetched-end fetched ∙ inv .written)
 
 flush-requires : tie.Need-flush-requires Inv-loop μ-loop
 flush-requires c κs = omega (arith, c .before .before .round .ensures .room)
