@@ -1,2 +1,5 @@
 pub mod ShiftLaws
-pub mod InputLaws
+pub mod RoundLaws
+pub mod PlaceLaws
+pub mod RunLaws
+pub mod Examples

@@ -1,1 +1,4 @@
-pub mod Input
+pub mod Rounds
+pub mod Parts
+pub mod Place
+pub mod Ran

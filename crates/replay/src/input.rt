@@ -1,96 +1,57 @@
-// The bytes of standard input, in a buffer.
+// Standard input, in a buffer.
 ghost use mathlib.Core.Path.{_≡_};
-ghost use Prim.Native.Nat.{_-_, _≤_};
-ghost use lib.ListN.{length, take, drop};
-ghost use Rattle.wire_line.specs.Text.{Puts};
-ghost use Rattle.replay.specs.Input.{cutLine, Kept, Awaited, GoneOn};
-use model::Answer;
-use model::Refusal;
-use replay_serve::serve::Found;
-use wire_line::line;
+ghost use Prim.Native.Nat.{_+_, _-_, _≤_, _<_};
+ghost use lib.ListN.{length, take};
+ghost use Rattle.replay.specs.Place.{InBuffer, afterRead, Fetched};
+use crate::round::Next;
+use crate::round::Place;
 
-// What the program goes on with: nothing, once a last text is written; or a place of the buffer and how many bytes it has.
-pub enum Next {
-    Stop { end: usize },
-    Go { at: usize, have: usize },
+// What a read brought: so many bytes, 0 where the input has ended; or that it failed.
+pub struct Came {
+    pub failed: bool,
+    pub size: usize,
 }
 
-// One read, behind the bytes that the buffer has; answers how many came, 0 where the input has ended.
-fn fill(buffer: &mut [u8], have: usize) -> usize
-    requires { ⌜ have ≤ length (now buffer) ⌝ }
-    ensures { λ r. ⌜ r ≤ length (now (buffer .entry)) - have ⌝ }
-    ensures { λ r. ⌜ take have (now (buffer .exit)) ≡ take have (now (buffer .entry)) ⌝ }
+// One read, behind the bytes that the buffer has. There is room for one at least: a read that asks for none would look like the end of the input.
+fn fill(buffer: &mut [u8], have: usize) -> Came
+    requires { ⌜ have < length (now buffer) ⌝ }
+    ensures { λ r. ⌜ (r .size ≤ length (now (buffer .entry)) - have) × (take have (now (buffer .exit)) ≡ take have (now (buffer .entry))) ⌝ }
 {
     let part = &mut buffer[have..];
     let got = libc::read(0, part);
-    io::count(got, part)
-}
-
-// Moves the bytes from one place to another to the front; answers how many there are.
-fn shift(buffer: &mut [u8], from: usize, to: usize) -> usize
-    requires { ⌜ (from ≤ to) × (to ≤ length (now buffer)) ⌝ }
-    ensures { λ r. ⌜ (r ≡ to - from) × (take (to - from) (now (buffer .exit)) ≡ take (to - from) (drop from (now (buffer .entry)))) ⌝ }
-{
-    let n = to - from;
-    let mut i = 0;
-    while i < n {
-        buffer[i] = buffer[from + i];
-        i += 1;
+    Came {
+        failed: got < 0,
+        size: io::count(got, part),
     }
-    n
 }
 
-// Reads more behind the bytes that are left, which go to the front; answers how many there are then.
-fn refill(buffer: &mut [u8; 65536], at: usize, have: usize) -> usize
-    requires { ⌜ (at ≤ have) × (have ≤ 65536) ⌝ }
-    ensures { λ r. ⌜ (have - at ≤ r) × (r ≤ 65536) × Kept (now (buffer .entry)) (now (buffer .exit)) at have ⌝ }
+// The place after a read. Where it failed, the place still asks for bytes.
+fn after_read(place: Place, came: Came) -> Place
+    requires { ⌜ place .have + came .size ≤ 65536 ⌝ }
+    ensures { λ p. ⌜ p ≡ afterRead place (came .failed) (came .size) ⌝ }
 {
-    let left = shift(buffer, at, have);
-    let got = fill(buffer, left);
-    left + got
-}
-
-// Input that ends inside a record is malformed.
-fn ending(text: &mut [u8; 65536], left: usize) -> usize
-    ensures { λ r. ⌜ Puts (now (text .entry)) 0 (cutLine left) (now (text .exit)) r × (r ≤ 65536) ⌝ }
-{
-    if left == 0 {
-        return 0;
+    let at = place.at;
+    let have = place.have;
+    let end = place.end;
+    if came.failed {
+        return Place::new(Next::Read, at, have, end);
     }
-    let refused = Answer::Refused {
-        why: Refusal::Malformed,
-    };
-    line::put_line(text, 0, refused, &[])
+    if came.size == 0 {
+        return Place::new(Next::End, at, have, end);
+    }
+    Place::new(Next::Answer, at, have + came.size, end)
 }
 
-fn await_more(buffer: &mut [u8; 65536], at: usize, have: usize, text: &mut [u8; 65536]) -> Next
-    requires { ⌜ (at ≤ have) × (have ≤ 65536) ⌝ }
-    ensures { λ n. ⌜ Awaited (now (buffer .entry)) (now (buffer .exit)) at have (now (text .entry)) (now (text .exit)) n ⌝ }
+// Reads, once, where the place asks for bytes.
+pub fn fetch(place: Place, buffer: &mut [u8; 65536]) -> Place
+    requires { ⌜ InBuffer place ⌝ }
+    ensures { λ p. ⌜ Fetched place (now (buffer .entry)) (now (buffer .exit)) p ⌝ }
 {
-    let left = have - at;
-    let more = refill(buffer, at, have);
-    if more == left {
-        return Next::Stop {
-            end: ending(text, left),
-        };
+    let next = place.next;
+    let have = place.have;
+    if let Next::Read = next {
+        let came = fill(buffer, have);
+        return after_read(place, came);
     }
-    Next::Go { at: 0, have: more }
-}
-
-// How to go on from a place of the buffer, by what was found there.
-pub fn go_on(
-    found: Found,
-    buffer: &mut [u8; 65536],
-    at: usize,
-    have: usize,
-    text: &mut [u8; 65536],
-) -> Next
-    requires { ⌜ (at ≤ have) × (have ≤ 65536) ⌝ }
-    ensures { λ n. ⌜ GoneOn found (now (buffer .entry)) (now (buffer .exit)) at have (now (text .entry)) (now (text .exit)) n ⌝ }
-{
-    match found {
-        Found::Malformed => Next::Stop { end: 0 },
-        Found::Answered => Next::Go { at: at, have: have },
-        Found::Incomplete => await_more(buffer, at, have, text),
-    }
+    Place::new(next, place.at, have, place.end)
 }

@@ -1,23 +1,41 @@
 -- `replay::run` meets its contract.
 -- Assumes nothing.
-use Prim.Native.Nat.{_≤_}
+use mathlib.Core.Path.{refl, _∙_}
 use native.Mathlib.Omega.{arith}
-use Rattle.replay.proofs.InputLaws.{stops-inside, goes-inside}
+use Rattle.replay.proofs.PlaceLaws.{fetched-buffer, fetched-end}
+use Rattle.replay.proofs.RunLaws.{Running, running-start, running-on, ran-on, ran-so-far, turns-over, not-asking, not-stopped}
 use borrow.Author.Needs.{needs}
 use Rattle.replay.proofs.run.Statement.{statement}
 use Rattle.replay.proofs.run.Tie as tie
 
 abbrev Inv-loop : tie.InvT-loop
-Inv-loop table₀ rings₀ out₀ buffer₀ text₀ turns₀ at₀ have₀ table rings out buffer text turns at have = (at ≤ have) × (have ≤ 65536)
+Inv-loop table₀ rings₀ out₀ buffer₀ text₀ turns₀ place₀ table rings out buffer text turns place = Running turns (record { table = table; rings = rings; out = out }) buffer text place
 
 abbrev μ-loop : tie.MeasureT-loop
-μ-loop table₀ rings₀ out₀ buffer₀ text₀ turns₀ at₀ have₀ table rings out buffer text turns at have = turns
+μ-loop table₀ rings₀ out₀ buffer₀ text₀ turns₀ place₀ table rings out buffer text turns place = turns
 
-flush-requires-2 : tie.Need-flush-requires-2 Inv-loop μ-loop
-flush-requires-2 c κs = omega (arith, stops-inside (c .before .before .before .end .given .1) (c .before .before .before .before .before .go-on .ensures), c .flush-arg4 .given)
+fetch-requires : tie.Need-fetch-requires Inv-loop μ-loop
+fetch-requires c κs = c .before .before .loop .inv .in-buffer
+
+round-requires : tie.Need-round-requires Inv-loop μ-loop
+round-requires c κs =
+    let inv = c .before .before .before .before .before .before .before .before .before .loop .inv in
+    let fetched = c .before .before .before .before .before .before .fetch .ensures in
+    (fetched-buffer (inv .in-buffer) fetched, fetched .long ∙ inv .sized .0, inv .sized .1, fetched-end fetched ∙ inv .written)
+
+flush-requires : tie.Need-flush-requires Inv-loop μ-loop
+flush-requires c κs = omega (arith, c .before .before .round .ensures .room)
+
+returns-2 : tie.Need-returns-2 Inv-loop μ-loop
+returns-2 c = ran-on (c .before .before .before .before .before .before .before .before .before .before .before .before .before .before .before .loop .inv) (c .before .before .before .before .before .before .before .before .before .before .before .before .fetch .ensures) (not-asking (c .before .before .before .before .before .before .before .before .before .before .before .match .keys2)) (c .before .before .before .before .before .round .ensures) (c .before .before .flush .ensures) (λ k. tt)
+
+returns-3 : tie.Need-returns-3 Inv-loop μ-loop
+returns-3 c = ran-on (c .before .before .before .before .before .before .before .before .before .before .before .before .before .before .before .before .before .loop .inv) (c .before .before .before .before .before .before .before .before .before .before .before .before .before .before .fetch .ensures) (not-asking (c .before .before .before .before .before .before .before .before .before .before .before .before .before .match .keys2)) (c .before .before .before .before .before .before .before .round .ensures) (c .before .before .before .before .flush .ensures) (λ k. c .enum-told2 .given .1)
 
 loop-again : tie.Need-loop-again Inv-loop μ-loop
-loop-again c = goes-inside (c .before .before .before .before .before .before .before .before .before .serve .ensures .1 .0) (c .before .before .before .before .before .before .before .before .before .before .before .before .before .before .before .before .before .loop .inv .1) (c .before .a .given .1) (c .before .before .before .go-on .ensures)
+loop-again c =
+    running-on (c .before .before .before .before .before .before .before .before .before .before .before .before .before .before .before .before .loop .inv) (c .before .before .before .before .before .before .before .before .before .before .before .before .before .fetch .ensures) (not-asking (c .before .before .before .before .before .before .before .before .before .before .before .before .match .keys2)) (c .before .before .before .before .before .before .round .ensures) (c .before .before .before .flush .ensures)
+    (c .before .before .before .before .before .before .before .before .before .before .before .before .before .before .before .loop-test .taken) refl (not-stopped (c .match2 .keys2)) (omega (arith, c .before .if1 .left))
 
 pub run-spec : {M : Type 1} → statement M
 run-spec =
@@ -25,15 +43,17 @@ run-spec =
     (tie.spec
     Inv-loop
     μ-loop
-    (λ c. search needs)
-    (λ c. search needs)
     (λ c κs. search needs)
-    (λ c κs. search needs)
-    (λ c κs. search needs)
+    (λ c. running-start (c .before .pre) (c .new .ensures))
     (λ c. search needs)
-    flush-requires-2
+    fetch-requires
     (λ c. search needs)
+    (λ c. ran-so-far (c .before .before .before .before .before .loop .inv) tt)
+    round-requires
+    flush-requires
+    returns-2
     (λ c. search needs)
+    returns-3
     (λ c. search needs)
     loop-again
-    (λ c. search needs))
+    (λ c. turns-over (omega arith) (c .before .loop .inv)))

@@ -1,12 +1,12 @@
--- `replay::input::ending` meets its contract.
+-- `replay::round::ending` meets its contract.
 -- Assumes nothing.
 use native.Mathlib.Omega.{arith}
 use Rattle.model.specs.Answers.{line}
 use Rattle.wire_line.proofs.PutLaws.{puts-as}
-use Rattle.replay.proofs.InputLaws.{puts-no-line, cut-line}
+use Rattle.replay.proofs.PlaceLaws.{puts-no-line, cut-line}
 use borrow.Author.Needs.{needs}
-use Rattle.replay.proofs.input.ending.Statement.{statement}
-use Rattle.replay.proofs.input.ending.Tie as tie
+use Rattle.replay.proofs.round.ending.Statement.{statement}
+use Rattle.replay.proofs.round.ending.Tie as tie
 
 returns : tie.Need-returns
 returns c = (puts-no-line _ (c .if1 .taken), omega arith)

@@ -1,12 +1,12 @@
--- `replay::input::shift` meets its contract.
+-- `replay::round::shift` meets its contract.
 -- Assumes nothing.
 use Prim.Native.Nat.{_-_, _≤_}
 use mathlib.Core.Path.{refl}
 use native.Mathlib.Omega.{arith}
 use Rattle.replay.proofs.ShiftLaws.{Shifted, shift-start, shift-more, shift-end}
 use borrow.Author.Needs.{needs}
-use Rattle.replay.proofs.input.shift.Statement.{statement}
-use Rattle.replay.proofs.input.shift.Tie as tie
+use Rattle.replay.proofs.round.shift.Statement.{statement}
+use Rattle.replay.proofs.round.shift.Tie as tie
 
 abbrev Inv-loop : tie.InvT-loop
 Inv-loop buffer₀ from to n i₀ buffer i = (i ≤ n) × Shifted buffer₀ buffer from i

@@ -1,0 +1,191 @@
+-- What the loop of `run` carries from one round to the next, and what a run comes to.
+-- Assumes nothing.
+use mathlib.Core.Logic.{inl, inr}
+use mathlib.Core.Path.{_≡_, refl, sym, ap, _∙_, subst}
+use mathlib.Core.List.{List, [], _∷_, _++_}
+use Prim.Native.Nat.{ℕ, _+_, _-_, _≤_, _<_, _^_}
+use native.Mathlib.Omega.{arith}
+use lib.ListN.{length, take, drop, length-drop}
+use lib.Seq.{length-take-le}
+use denote.Enum.Declared.{tagOf}
+use types.Run.{OneOf}
+use Rattle.replay_serve.specs.Calls.{Stores, started}
+use Rattle.replay.specs.declared.round.Next.{Next}
+use Rattle.replay.proofs.round.Next as Next
+use Rattle.replay.specs.declared.round.Next.the-variants.{Read, Answer, End, Stop}
+use Rattle.replay.specs.declared.round.Place.{Place}
+use Rattle.replay.specs.declared.Outcome.{Outcome}
+use Rattle.replay.specs.declared.Outcome.the-variants.{Answered, TurnsOver}
+use Rattle.replay.specs.Rounds.{Round, Last, Rounds}
+use Rattle.replay.specs.Rounds as Rounds
+use Rattle.replay.specs.Place.{Sized, between, InBuffer, FetchedBy, Fetched, Flushed, RoundBy, Rounded}
+use Rattle.replay.specs.Ran.{EndsAs, Ran, RunsAnswer}
+use Rattle.replay.proofs.RoundLaws.{no-end, parts-answered}
+use Rattle.replay.proofs.PlaceLaws.{between-kept, between-more, TakenBy, taken-read}
+
+-- so many rounds from the start, and the bytes that are left are those of the buffer
+pub record Carried (k : ℕ) (s : Stores) (b : List ℕ) (p : Place) : Type 0 where
+  pub parts : List (List ℕ)
+  pub texts : List (List ℕ)
+  pub rounds : Rounds k parts texts s (between (p .at) (p .have) b) (p .next)
+
+pub carried-start : {s : Stores} (b : List ℕ) → s ≡ started → (end : ℕ) → Carried 0 s b (record { next = Read; at = 0; have = 0; end = end })
+carried-start {s} b e end = record { parts = []; texts = []; rounds = subst (λ (x : Stores). Rounds 0 [] [] x [] Read) (sym e) Rounds.none }
+
+pub carried-on : {k : ℕ} {s u : Stores} {b d x v : List ℕ} {p m q : Place} → Sized d → InBuffer p → (p .next ≡ Stop → ⊥) → Carried k s b p
+    → Fetched p b d m → (m .next ≡ Read → ⊥) → Rounded (m .next) m s d u x v q → Carried (k + 1) u x q
+carried-on {k} {s} {u} {b} {d} {x} {v} {p} {m} {q} j i w c f y r = go (p .next) refl (f .takes) (c .rounds)
+  where
+    rest : List ℕ
+    rest = between (q .at) (q .have) x
+
+    here : between (p .at) (p .have) d ≡ between (p .at) (p .have) b
+    here = between-kept (p .at) (p .have) b d (i .forward) (f .kept)
+
+    -- where nothing came
+    same : m .at ≡ p .at → m .have ≡ p .have → between (m .at) (m .have) d ≡ between (p .at) (p .have) b
+    same g e = ap (λ (h : ℕ). between h (m .have) d) g ∙ ap (λ (h : ℕ). between (p .at) h d) e ∙ here
+
+    -- where so many bytes came
+    got : ℕ
+    got = m .have - p .have
+
+    longer : m .at ≡ p .at → p .have < m .have → between (m .at) (m .have) d ≡ between (p .at) (p .have) b ++ take got (drop (p .have) d)
+    longer g h =
+        let e : m .have ≡ p .have + got = omega (arith, h) in
+        ap (λ (a : ℕ). between a (m .have) d) g
+        ∙ ap (λ (a : ℕ). between (p .at) a d) e
+        ∙ between-more (p .at) (p .have) got d (i .forward)
+        ∙ ap (λ (l : List ℕ). l ++ take got (drop (p .have) d)) here
+
+    taken : (n : Next) → m .next ≡ n → m .at ≡ p .at → m .have ≤ 65536 → TakenBy n p m → RoundBy n s (between (m .at) (m .have) d) u rest (take (q .end) v) (q .next)
+        → Rounds k (c .parts) (c .texts) s (between (p .at) (p .have) b) Read → Carried (k + 1) u x q
+    taken Read e g h t r a = absurd (y e)
+    taken Answer e g h t r a =
+        record {
+          parts = c .parts ++ take got (drop (p .have) d) ∷ [];
+          texts = c .texts ++ take (q .end) v ∷ [];
+          rounds = Rounds.more a (take got (drop (p .have) d))
+              (omega (arith, t, h, j, length-drop (p .have) d, length-take-le got (drop (p .have) d) (omega (arith, t, h, j, length-drop (p .have) d))))
+              (subst (λ (l : List ℕ). Round s l u rest (take (q .end) v) (q .next)) (longer g t) r);
+        }
+    taken End e g h t r a =
+        record {
+          parts = c .parts ++ [] ∷ [];
+          texts = c .texts ++ take (q .end) v ∷ [];
+          rounds = Rounds.end a (subst (λ (l : List ℕ). Last s l u rest (take (q .end) v) (q .next)) (same g t) r);
+        }
+    taken Stop e g h t r a = absurd t
+
+    go : (n : Next) → p .next ≡ n → FetchedBy n p m → Rounds k (c .parts) (c .texts) s (between (p .at) (p .have) b) n → Carried (k + 1) u x q
+    go Read e t a = let g = taken-read t in taken (m .next) refl (g .at) (g .inside) (g .takes) (r .does) a
+    go Answer e t a =
+        record {
+          parts = c .parts;
+          texts = c .texts ++ take (q .end) v ∷ [];
+          rounds = Rounds.again a (subst (λ (l : List ℕ). Round s l u rest (take (q .end) v) (q .next)) (same (ap (λ (h : Place). h .at) t) (ap (λ (h : Place). h .have) t))
+              (subst (λ (n : Next). RoundBy n s (between (m .at) (m .have) d) u rest (take (q .end) v) (q .next)) (ap (λ (h : Place). h .next) t ∙ e) (r .does)));
+        }
+    go End e t a = absurd (no-end a)
+    go Stop e t a = absurd (w e)
+
+-- the rounds that were made and the turns that are left are all
+pub record Running (turns : ℕ) (s : Stores) (b text : List ℕ) (p : Place) : Type 0 where
+  pub count : ℕ
+  pub counted : count + turns ≡ 2 ^ 64 - 1
+  pub carried : Carried count s b p
+  pub sized : Sized b × Sized text
+  pub in-buffer : InBuffer p
+  pub goes : p .next ≡ Stop → ⊥
+  pub written : p .end ≡ 0
+
+pub running-start : {s : Stores} {b text : List ℕ} {p : Place} → (s ≡ started) × Sized b × Sized text → p ≡ record { next = Read; at = 0; have = 0; end = 0 } → Running (2 ^ 64 - 1) s b text p
+running-start {s} {b} {text} h g =
+    subst (λ (p : Place). Running (2 ^ 64 - 1) s b text p) (sym g) (record {
+      count = 0;
+      counted = refl;
+      carried = carried-start b (h .0) 0;
+      sized = (h .1, h .2);
+      in-buffer = record { forward = omega arith; inside = omega arith; room = λ r. omega arith };
+      goes = λ r. (let z : _≡_ {A = ℕ} 0 1 = cc in absurd (omega arith));
+      written = refl;
+    })
+
+-- what a write leaves
+flushed-buffer : {p q : Place} → Flushed p q → InBuffer p → InBuffer q
+flushed-buffer f i =
+    record {
+      forward = omega (arith, f .at, f .have, i .forward);
+      inside = omega (arith, f .have, i .inside);
+      room = λ e. omega (arith, f .have, i .room (sym (f .next) ∙ e));
+    }
+
+flushed-carried : {k : ℕ} {s : Stores} {b : List ℕ} {p q : Place} → Flushed p q → Carried k s b p → Carried k s b q
+flushed-carried {k} {s} {b} {p} {q} f c =
+    record {
+      parts = c .parts;
+      texts = c .texts;
+      rounds = subst (λ (n : Next). Rounds k (c .parts) (c .texts) s (between (q .at) (q .have) b) n) (sym (f .next))
+          (subst (λ (l : List ℕ). Rounds k (c .parts) (c .texts) s l (p .next)) (sym (ap (λ (x : ℕ). between x (q .have) b) (f .at) ∙ ap (λ (x : ℕ). between (p .at) x b) (f .have))) (c .rounds));
+    }
+
+-- a read, a round and a write
+module _ {turns : ℕ} {s u : Stores} {b text d x v : List ℕ} {p m q w : Place} (c : Running turns s b text p) (f : Fetched p b d m) (y : m .next ≡ Read → ⊥)
+    (r : Rounded (m .next) m s d u x v q) (g : Flushed q w) where
+  next-round : Carried (c .count + 1) u x w
+  next-round = flushed-carried g (carried-on (f .long ∙ c .sized .0) (c .in-buffer) (c .goes) (c .carried) f y r)
+
+  pub running-on : {left : ℕ} → 0 < turns → left ≡ turns - 1 → (w .next ≡ Stop → ⊥) → w .end ≡ 0 → Running left u x v w
+  running-on h e n z =
+      record {
+        count = c .count + 1;
+        counted = omega (arith, h, e, c .counted);
+        carried = next-round;
+        sized = r .sized;
+        in-buffer = flushed-buffer g (r .in-buffer);
+        goes = n;
+        written = z;
+      }
+
+  -- where the program ends after a round
+  pub ran-on : {o : Outcome} → ((k : ℕ) → EndsAs o k (w .next)) → Ran o u
+  ran-on e = let a = next-round in record { count = c .count + 1; parts = a .parts; texts = a .texts; rest = between (w .at) (w .have) x; next = w .next; rounds = a .rounds; ends = e (c .count + 1) }
+
+-- where it ends before one
+pub ran-so-far : {o : Outcome} {turns : ℕ} {s : Stores} {b text : List ℕ} {p : Place} (c : Running turns s b text p) → EndsAs o (c .count) (p .next) → Ran o s
+ran-so-far {b = b} {p = p} c e =
+    let w = c .carried in
+    record { count = c .count; parts = w .parts; texts = w .texts; rest = between (p .at) (p .have) b; next = p .next; rounds = w .rounds; ends = e }
+
+pub turns-over : {turns : ℕ} {s : Stores} {b text : List ℕ} {p : Place} → turns ≡ 0 → Running turns s b text p → Ran TurnsOver s
+turns-over {turns} e c = ran-so-far {o = TurnsOver} c (omega (arith, e, c .counted))
+
+-- by the tests of the code: a read did not fail, a round did not stop
+pub not-asking : {n : Next} → OneOf (1 ∷ 2 ∷ 3 ∷ []) (tagOf Next.the-type n) → n ≡ Read → ⊥
+not-asking {n} k e = go k (ap (tagOf Next.the-type) e)
+  where
+    go : {n : ℕ} → OneOf (1 ∷ 2 ∷ 3 ∷ []) n → n ≡ 0 → ⊥
+    go (inl a) z = omega (arith, a, z)
+    go (inr (inl a)) z = omega (arith, a, z)
+    go (inr (inr a)) z = omega (arith, a, z)
+
+pub not-stopped : {n : Next} → OneOf (0 ∷ 1 ∷ 2 ∷ []) (tagOf Next.the-type n) → n ≡ Stop → ⊥
+not-stopped {n} k e = go k (ap (tagOf Next.the-type) e)
+  where
+    go : {n : ℕ} → OneOf (0 ∷ 1 ∷ 2 ∷ []) n → n ≡ 3 → ⊥
+    go (inl a) z = omega (arith, a, z)
+    go (inr (inl a)) z = omega (arith, a, z)
+    go (inr (inr a)) z = omega (arith, a, z)
+
+-- ---- the claims
+
+stopped : {s : Stores} (r : Ran Answered s) → Rounds (r .count) (r .parts) (r .texts) s (r .rest) Stop
+stopped {s} r = subst (λ (n : Next). Rounds (r .count) (r .parts) (r .texts) s (r .rest) n) (r .ends) (r .rounds)
+
+pub runs-answer : RunsAnswer
+runs-answer =
+    record {
+      lines = λ r c h. parts-answered .whole (stopped r) c h;
+      stores = λ r. parts-answered .stores (stopped r);
+      long = λ r. omega (arith, r .ends, parts-answered .few (r .rounds));
+    }
