@@ -29,6 +29,7 @@ use Rattle.model.specs.Receive.{retireEmptyPausedLanes, emptyOrDrained, 
 use Rattle.model.specs.Control.{pause, resumeIf, resume, closeLane, releaseConsumed, pollAllLanes, closeReceiver, countHeld, controlOutcome}
 use Rattle.model.specs.Opening.{doubledUntil, openedState, openingOutcome}
 use Rattle.model.specs.Rules.{outcome, theRules}
+use Rattle.model.specs.Examples.Pairs.{Reads}
 
 -- All definitions of the rules, for computing with them.
 unfoldable pub compute : Unit {0}
@@ -474,8 +475,12 @@ outputOf limit =
     (TryRecvBatchInto limit 5) (90 ∷ 91 ∷ 92 ∷ 93 ∷ 94 ∷ [])
 
 outputs-computed :
-    map outputOf (0 ∷ 2 ∷ 4 ∷ 6 ∷ [])
-    ≡ (90 ∷ 91 ∷ 92 ∷ 93 ∷ 94 ∷ []) ∷ (1 ∷ 2 ∷ 92 ∷ 93 ∷ 94 ∷ []) ∷ (1 ∷ 2 ∷ 3 ∷ 93 ∷ 94 ∷ []) ∷ (90 ∷ 91 ∷ 92 ∷ 93 ∷ 94 ∷ []) ∷ []
+    Reads outputOf
+    ((0, 90 ∷ 91 ∷ 92 ∷ 93 ∷ 94 ∷ [])
+    ∷ (2, 1 ∷ 2 ∷ 92 ∷ 93 ∷ 94 ∷ [])
+    ∷ (4, 1 ∷ 2 ∷ 3 ∷ 93 ∷ 94 ∷ [])
+    ∷ (6, 90 ∷ 91 ∷ 92 ∷ 93 ∷ 94 ∷ [])
+    ∷ [])
 unfolding compute writtenTo outputAfter afterList keyAt registers sends outputOf
 outputs-computed = refl
 
@@ -484,7 +489,15 @@ opens : ℕ × ℕ × ℕ × ℕ → Answer
 opens a = (openingOutcome record { capacity = a .0; slots = a .1; channel = 7; cursor = 0; generation = 0 } record { rings = a .2; table = a .3 }) .1 .0
 
 openings-computed :
-    map opens ((0, 0, 0, 0) ∷ (65537, 2, 0, 0) ∷ (100, 0, 0, 0) ∷ (100, 8193, 0, 0) ∷ (100, 2, 255, 0) ∷ (100, 2, 256, 559) ∷ (100, 2, 256, 560) ∷ (65536, 8192, 536870912, 197120) ∷ [])
-    ≡ Refused CapacityOutOfRange ∷ Refused CapacityOutOfRange ∷ Refused SlotsOutOfRange ∷ Refused SlotsOutOfRange ∷ Refused RingStoreShort ∷ Refused TableStoreShort ∷ Done ∷ Done ∷ []
+    Reads opens
+    (((0, 0, 0, 0), Refused CapacityOutOfRange)
+    ∷ ((65537, 2, 0, 0), Refused CapacityOutOfRange)
+    ∷ ((100, 0, 0, 0), Refused SlotsOutOfRange)
+    ∷ ((100, 8193, 0, 0), Refused SlotsOutOfRange)
+    ∷ ((100, 2, 255, 0), Refused RingStoreShort)
+    ∷ ((100, 2, 256, 559), Refused TableStoreShort)
+    ∷ ((100, 2, 256, 560), Done)
+    ∷ ((65536, 8192, 536870912, 197120), Done)
+    ∷ [])
 unfolding compute opens
 openings-computed = refl
