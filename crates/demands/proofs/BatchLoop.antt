@@ -1,8 +1,8 @@
 -- The rounds of the Rust's batch loop, a chunk each and none at a budget of 0, end where the rules' batch ends, which takes item by item.
 -- Assumes nothing.
 use mathlib.Core.Path.{_≡_, refl, ap, sym, _∙_, subst}
-use mathlib.Core.Bool.{Bool, true, false}
-use mathlib.Core.List.{List, [], _∷_, _++_, append-nil}
+use mathlib.Core.Bool.{Bool, false}
+use mathlib.Core.List.{List, [], _∷_, _++_}
 use Prim.Native.Nat.{ℕ, zero, suc, _+_, _-_, _≤_, _<_, min}
 use native.Mathlib.Omega.{arith}
 use lib.ListN.{length, drop}
@@ -16,19 +16,19 @@ use Rattle.model.specs.Changes.{withBudget, popped}
 use Rattle.model.specs.Turn.{Took, settleEmpty, refill, beforeNextTurn, unreleasedAfterOne, giveItem, giveOldest, giveFront, polled, takeOne}
 use Rattle.model.specs.Receive.{andMore, takeUpTo}
 use Rattle.model.specs.Order.{InOrder}
-use Rattle.model.specs.PollLoop.{NothingReady, refreshed, refreshActive, Turns, nothing-queued, has-item, found-empty, PolledAsLoop, NothingReadyAtZero}
+use Rattle.model.specs.PollLoop.{refreshed, refreshActive, Turns, nothing-queued, has-item, found-empty, PolledAsLoop, NothingReadyAtZero}
 use Rattle.model.specs.BatchLoop.{chunkLength, chunkItems, chunkMoved, Rounds, limit-reached, nothing-left, front-empty, chunk-moved, BatchAsLoop, RoundsEndOnce}
 use Rattle.demands.proofs.Counting.{Same, equal, other, same?}
-use Rattle.demands.proofs.OrderKept.{front-registered, budget-ordered, polled-ordered, take-one-ordered}
+use Rattle.demands.proofs.OrderKept.{front-registered, budget-ordered, polled-ordered}
 use Rattle.demands.proofs.Quiet.{poll, poll-quiet}
 use Rattle.demands.proofs.WaitInReceive.{Settled, front, poll-settled}
 use Rattle.demands.proofs.WaitInReceive as settled
-use Rattle.demands.proofs.Moves.{Moves, takes, by-plain, TakeResult, took-none, took-one, take-one-taken}
+use Rattle.demands.proofs.Moves.{takes, by-plain, TakeResult, took-none, took-one, take-one-taken}
 use Rattle.demands.proofs.MovesKeepOrder.{move-ordered}
 use Rattle.demands.proofs.Capacity.{rings-fit-quiet, move-rings-fit}
 use Rattle.demands.proofs.Simulation.{state-path}
 use Rattle.demands.proofs.FrontItem.{polled-front}
-use Rattle.demands.proofs.WholeChunk.{firstOf, given, ChunkFits, onto, take-up-to-polled, take-up-to-none, take-up-to-chunk}
+use Rattle.demands.proofs.WholeChunk.{firstOf, given, ChunkFits, refill-some, onto, take-up-to-polled, take-up-to-none, take-up-to-chunk}
 use Rattle.demands.proofs.PollLoop.{refresh-unready, polled-as-loop, nothing-ready-at-zero, ends-unqueued, ends-with-item, goes-on-empty}
 
 -- ---- states in order, on the way too
@@ -61,11 +61,6 @@ full-in-order : (s : State) → InOrder s → InOrder (withBudget 64 s)
 full-in-order s i = record { ordered = budget-ordered 64 s (omega arith) (i .ordered); rings-fit = record { positive = i .rings-fit .positive; each-fits = i .rings-fit .each-fits } }
 
 -- ---- a chunk
-
-refill-some : (b : ℕ) → 1 ≤ b → refill b ≡ b
-unfolding refill
-refill-some zero h = absurd (omega arith)
-refill-some (suc b) h = refl
 
 -- with a budget that is not 0 the Rust's chunk is the rules' n items
 moved-given : (t : State) (y : ℕ) (q : List ℕ) (n : ℕ) → 1 ≤ t .budget → chunkMoved t y q n ≡ given t y q n

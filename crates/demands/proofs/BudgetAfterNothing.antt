@@ -1,8 +1,8 @@
 -- The poll budget after a receive that hands out nothing.
 -- Assumes nothing.
-use mathlib.Core.Path.{_≡_, refl, ap, sym, _∙_, subst}
+use mathlib.Core.Path.{_≡_, refl, ap, sym, _∙_}
 use mathlib.Core.Bool.{Bool, true, false}
-use mathlib.Core.List.{List, [], _∷_, _++_}
+use mathlib.Core.List.{List, [], _∷_}
 use Prim.Native.Nat.{ℕ, zero, suc, _+_, _-_, _≤_}
 use native.Mathlib.Omega.{arith}
 use native.Mathlib.Nat.{zero-add}
@@ -29,27 +29,22 @@ use Rattle.model.specs.Budget.{itemsCountedFrom, isTargeted}
 use Rattle.model.specs.Viewed.{Viewed, rulesViewed}
 use Rattle.model.specs.BudgetAfterNothing.{budgetLeftBy, budgetLeft, HandsNothing, BudgetAfterNothing, setsBudget, BudgetAsEventsSet}
 use Rattle.demands.proofs.Counting.{no}
-use Rattle.demands.proofs.OrderKept.{refill-pos, settle-empty-queue, before-next-turn-queue}
 use Rattle.demands.proofs.WaitInReceive.{settle-empty-budget}
 use Rattle.demands.proofs.Quiet.{poll}
+use Rattle.demands.proofs.WholeChunk.{refill-some}
 use Rattle.demands.proofs.Moves.{TakeResult, took-none, took-one, take-one-taken, take-fair-taken, unless-law}
-use Rattle.demands.proofs.Events.{Tally, collect-ready-alike, collect-ready-group-alike}
+use Rattle.demands.proofs.Events.{Tally, collect-ready-alike}
 use Rattle.demands.proofs.EventsOfRuns.{call-pass, fromBudget, from-budget-counted, answer-one-answered, answer-items-answered}
 use Rattle.demands.proofs.Budget.{counted-from, events-tell}
 use Rattle.model.specs.Simulation.{Simulation}
 
 -- ---- by the state before
 
-refill-same : (n : ℕ) → 1 ≤ n → refill n ≡ n
-unfolding refill
-refill-same zero h = absurd (omega arith)
-refill-same (suc n) h = refl
-
 -- what comes after the front lane was found empty, with the budget b
 next-budget : (q : List ℕ) (s : State) → 1 ≤ s .budget → (beforeNextTurn q s) .budget ≡ s .budget
 unfolding beforeNextTurn
 next-budget [] s h = refl
-next-budget (y ∷ q) s h = refill-same (s .budget) h
+next-budget (y ∷ q) s h = refill-some (s .budget) h
 
 -- a budget that is not 0 stays while empty lanes leave
 stays : (q : List ℕ) (s : State) → 1 ≤ s .budget → (runDownFrom q s) .budget ≡ s .budget

@@ -172,7 +172,7 @@ pub collect-ready-alike : (s : State) → Alike s (collectReady s)
 unfolding collectReady
 collect-ready-alike s = collect-each-alike (groupsRound s) s
 
-pub collect-ready-group-alike : (s : State) → Alike s (collectReadyGroup s)
+collect-ready-group-alike : (s : State) → Alike s (collectReadyGroup s)
 unfolding collectReadyGroup
 collect-ready-group-alike s = collect-first-alike (groupsRound s) s
 

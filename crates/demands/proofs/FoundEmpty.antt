@@ -12,20 +12,21 @@ use Rattle.model.specs.declared.ReceiveCall.{ReceiveCall}
 use Rattle.model.specs.declared.ReceiveCall.the-variants.{TryRecv, TryRecvFair, TryRecvFrom, TryRecvBatchInto}
 use Rattle.model.specs.declared.Call.the-variants.{Receive}
 use Rattle.model.specs.declared.Answer.the-variants.{Empty, Disconnected}
-use Rattle.model.specs.Lists.{if, either, nonEmpty, without, from}
-use Rattle.model.specs.State.{Slot, State, mayQueue, livingSenders, keyOf}
+use Rattle.model.specs.Lists.{if, either, nonEmpty, without}
+use Rattle.model.specs.State.{Slot, State, mayQueue, keyOf}
 use Rattle.model.specs.Changes.{withQueue, withBudget, put, signalled, popped, settledEmpty, retired, unmarked}
 use Rattle.model.specs.Ready.{groupOf, marks, collectMarks, collectGroup, groupsRound, collectFirst, collectEach, collectReadyGroup, collectReady}
 use Rattle.model.specs.Turn.{retireLane, retireLaneIf, settleEmpty, beforeNextTurn, runDownFrom, runDown, unreleasedAfterOne, giveItem, giveOldest, giveFront, collectIfDue, collectIfNoneQueued, polled, takeOne, takeFair}
-use Rattle.model.specs.Outcome.{Outcome, says}
+use Rattle.model.specs.Outcome.{Outcome}
 use Rattle.model.specs.Runs.{accepted}
-use Rattle.model.specs.Receive.{retireEmptyPausedLanes, emptyOrDrained, nothingTaken, answerOne, queueLaneIf, takeFrom, andMore, takeUpTo, releaseAll, answerItems, receiveOutcome, tryRecv, tryRecvFair, tryRecvFrom, tryRecvBatchInto}
+use Rattle.model.specs.Receive.{answerOne, queueLaneIf, takeFrom, andMore, takeUpTo, releaseAll, answerItems, receiveOutcome, tryRecv, tryRecvFair, tryRecvFrom, tryRecvBatchInto}
 use Rattle.model.specs.Rules.{outcome}
 use Rattle.model.specs.Events.{Event, budgetSet, foundEmpty, collectEvent, beforeNextTurnEvents, runDownFromEvents, runDownEvents, giveFrontEvents, collectIfDueEvents, collectIfNoneQueuedEvents, polledEvents, takeOneEvents, takeFairEvents, andMoreEvents, takeUpToEvents, takeFromEvents, receiveEvents, callEvents, findsEmpty, countEvents}
 use Rattle.demands.proofs.Counting.{equal, other, same?}
 use Rattle.demands.proofs.LedgerLaws.{alike, unlike, keys?}
 use Rattle.demands.proofs.Moves.{unless-law}
 use Rattle.demands.proofs.Events.{put-generations}
+use Rattle.demands.proofs.AnswersKeep.{answer-one-keeps, answer-items-keeps}
 use Rattle.demands.proofs.EventsOfRuns.{Answered, answer-one-answered, answer-items-answered}
 
 -- ---- what leaves every signal that is pending
@@ -105,33 +106,15 @@ give-front-pends f s (y ∷ q) = go (s .slotOf y .ring)
     go [] = unchanged s
     go (v ∷ vs) = let p = put-pends s y (popped vs (unreleasedAfterOne s y) (if (either f (leb 63 (s .slotOf y .burst))) 0 (s .slotOf y .burst + 1)) (s .slotOf y)) refl (λ h. h) in record { generations = p .generations; pendings = p .pendings }
 
-retire-empty-paused-pends : (xs : List ℕ) (s : State) → Pends s (retireEmptyPausedLanes xs s)
-unfolding retireEmptyPausedLanes
-retire-empty-paused-pends [] s = unchanged s
-retire-empty-paused-pends (x ∷ xs) s = trans (retire-lane-if-pends _ x s) (retire-empty-paused-pends xs _)
-
 release-all-pends : (s : State) → Pends s (releaseAll s)
 unfolding releaseAll
 release-all-pends s = record { generations = λ y. refl; pendings = λ y h. h }
 
-nothing-taken-pends : (s : State) → Pends s ((nothingTaken s) .1 .1)
-unfolding nothingTaken emptyOrDrained
-nothing-taken-pends s = go (leb 1 (livingSenders s))
-  where
-    go : (b : Bool) → Pends s ((if b (says Empty s) (emptyOrDrained (retireEmptyPausedLanes (from 0 (s .issued)) s))) .1 .1)
-    go true = unchanged s
-    go false = retire-empty-paused-pends (from 0 (s .issued)) s
-
 answer-one-pends : (l : List (LaneKey × ℕ)) (s : State) → Pends s ((answerOne l s) .1 .1)
-unfolding answerOne
-answer-one-pends [] s = nothing-taken-pends s
-answer-one-pends (g ∷ l) s = unchanged s
+answer-one-pends = answer-one-keeps Pends unchanged (λ s t u a b. trans a b) retire-lane-if-pends release-all-pends
 
 answer-items-pends : (m : ℕ) (l : List (LaneKey × ℕ)) (s : State) → Pends s ((answerItems m l (releaseAll s)) .1 .1)
-unfolding answerItems
-answer-items-pends zero l s = release-all-pends s
-answer-items-pends (suc m) [] s = trans (release-all-pends s) (nothing-taken-pends (releaseAll s))
-answer-items-pends (suc m) (g ∷ l) s = release-all-pends s
+answer-items-pends = answer-items-keeps Pends unchanged (λ s t u a b. trans a b) retire-lane-if-pends release-all-pends
 
 count-events-append : (p : Event → Bool) (es fs : List Event) → countEvents p (es ++ fs) ≡ countEvents p es + countEvents p fs
 unfolding countEvents

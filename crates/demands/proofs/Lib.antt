@@ -30,6 +30,7 @@ pub mod FrontItem
 pub mod WholeChunk
 pub mod Events
 pub mod EventsOfRuns
+pub mod AnswersKeep
 pub mod Budget
 pub mod OneTurn
 pub mod Round

@@ -18,13 +18,12 @@ use Rattle.model.specs.declared.Call.the-variants.{Sender, Receive, Control}
 use Rattle.model.specs.declared.Answer.{Answer}
 use Rattle.model.specs.declared.Answer.the-variants.{Empty, Disconnected}
 use Rattle.model.specs.Lists.{if, either, nonEmpty, keep, from, without}
-use Rattle.model.specs.State.{Slot, State, mayQueue, keyOf, livingSenders}
-use Rattle.model.specs.Changes.{withQueue, withBudget, put, newLane, signalled, pushed, popped, settledEmpty, credited, withPaused, senderDropped, retired}
-use Rattle.model.specs.Ready.{collectReady}
-use Rattle.model.specs.Turn.{Took, retireLane, retireLaneIf, settleEmpty, refill, beforeNextTurn, runDownFrom, runDown, unreleasedAfterOne, giveItem, giveOldest, giveFront, collectIfDue, collectIfNoneQueued, polled, takeOne, takeFair}
-use Rattle.model.specs.Outcome.{Outcome, says}
+use Rattle.model.specs.State.{Slot, State, mayQueue, keyOf}
+use Rattle.model.specs.Changes.{withQueue, put, newLane, signalled, pushed, popped, settledEmpty, credited, withPaused, senderDropped, retired}
+use Rattle.model.specs.Turn.{Took, retireLane, retireLaneIf, settleEmpty, beforeNextTurn, runDownFrom, runDown, unreleasedAfterOne, giveItem, giveOldest, giveFront, collectIfDue, collectIfNoneQueued, polled, takeOne, takeFair}
+use Rattle.model.specs.Outcome.{Outcome}
 use Rattle.model.specs.Runs.{accepted, ends, afterList}
-use Rattle.model.specs.Receive.{retireEmptyPausedLanes, emptyOrDrained, nothingTaken, answerOne, queueLaneIf, takeFrom, andMore, takeUpTo, releaseAll, answerItems, tryRecv, tryRecvFair, tryRecvFrom, tryRecvBatchInto, receiveOutcome}
+use Rattle.model.specs.Receive.{answerOne, queueLaneIf, takeFrom, andMore, takeUpTo, releaseAll, answerItems, tryRecv, tryRecvFair, tryRecvFrom, tryRecvBatchInto, receiveOutcome}
 use Rattle.model.specs.Rules.{outcome, theRules}
 use Rattle.model.specs.Order.{InOrder}
 use Rattle.model.specs.Events.{Event, budgetSet, collected, noneMarked, foundEmpty, itemTaken, wentToBack, anyMarked, collectEvent, refillEvents, beforeNextTurnEvents, runDownFromEvents, runDownEvents, backEvents, giveOldestEvents, giveFrontEvents, collectIfDueEvents, collectIfNoneQueuedEvents, polledEvents, takeOneEvents, takeFairEvents, andMoreEvents, takeUpToEvents, takeFromEvents, receiveEvents, callEvents, eventsFrom, collects, findsNoneMarked, takesItem, countEvents}
@@ -32,6 +31,7 @@ use Rattle.model.specs.Viewed.{Viewed, rulesViewed}
 use Rattle.model.specs.WhileMarked.{untilCollected, AtMost64WhileMarked, AtMost64WhileMarkedInBatch}
 use Rattle.demands.proofs.Counting.{equal, other, same?, no}
 use Rattle.demands.proofs.Moves.{Moves, stays-put, credits, registers-new, registers-old, sends, posts, drops-it, pauses-it, resumes, resumes-not, closes-it, polls-all, shuts-it, unless-law, sender-move, control-move}
+use Rattle.demands.proofs.AnswersKeep.{answer-one-keeps, answer-items-keeps}
 use Rattle.demands.proofs.Events.{Tally, Below}
 use Rattle.demands.proofs.EventsOfRuns.{calls-pass, fromBudget, from-budget-counted, part-most, Answered, answer-one-answered, answer-items-answered}
 use Rattle.demands.proofs.Collections.{reads, neither}
@@ -96,33 +96,15 @@ give-item-marked s y q vs back =
     let m = put-marked s y (popped vs (unreleasedAfterOne s y) (if back 0 (s .slotOf y .burst + 1)) (s .slotOf y)) (λ h. h) in
     record { issues = m .issues; bits = m .bits }
 
-retire-empty-paused-marked : (xs : List ℕ) (s : State) → Marked s (retireEmptyPausedLanes xs s)
-unfolding retireEmptyPausedLanes
-retire-empty-paused-marked [] s = unchanged s
-retire-empty-paused-marked (x ∷ xs) s = trans (retire-lane-if-marked _ x s) (retire-empty-paused-marked xs _)
-
 release-all-marked : (s : State) → Marked s (releaseAll s)
 unfolding releaseAll
 release-all-marked s = record { issues = omega arith; bits = λ y h. h }
 
-nothing-taken-marked : (s : State) → Marked s ((nothingTaken s) .1 .1)
-unfolding nothingTaken emptyOrDrained
-nothing-taken-marked s = go (leb 1 (livingSenders s))
-  where
-    go : (b : Bool) → Marked s ((if b (says Empty s) (emptyOrDrained (retireEmptyPausedLanes (from 0 (s .issued)) s))) .1 .1)
-    go true = unchanged s
-    go false = retire-empty-paused-marked (from 0 (s .issued)) s
-
 answer-one-marked : (l : List (LaneKey × ℕ)) (s : State) → Marked s ((answerOne l s) .1 .1)
-unfolding answerOne
-answer-one-marked [] s = nothing-taken-marked s
-answer-one-marked (g ∷ l) s = unchanged s
+answer-one-marked = answer-one-keeps Marked unchanged (λ s t u a b. trans a b) retire-lane-if-marked release-all-marked
 
 answer-items-marked : (m : ℕ) (l : List (LaneKey × ℕ)) (s : State) → Marked s ((answerItems m l (releaseAll s)) .1 .1)
-unfolding answerItems
-answer-items-marked zero l s = release-all-marked s
-answer-items-marked (suc m) [] s = trans (release-all-marked s) (nothing-taken-marked (releaseAll s))
-answer-items-marked (suc m) (g ∷ l) s = release-all-marked s
+answer-items-marked = answer-items-keeps Marked unchanged (λ s t u a b. trans a b) retire-lane-if-marked release-all-marked
 
 -- a send, a drop and a resume set bits; a new lane keeps its slot's
 signalled-marked : (l : Slot) → l .marked ≡ true → (signalled l) .marked ≡ true

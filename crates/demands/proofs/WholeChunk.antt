@@ -80,7 +80,7 @@ give-front-one s y v q vs e r b =
     ∙ ap (λ (u : State). ((keyOf s y, v) ∷ [], u)) (give-one s y v q vs r b)
 
 -- a budget of 1 or more stays
-refill-some : (b : ℕ) → 1 ≤ b → refill b ≡ b
+pub refill-some : (b : ℕ) → 1 ≤ b → refill b ≡ b
 unfolding refill
 refill-some zero h = absurd (omega arith)
 refill-some (suc b) h = refl

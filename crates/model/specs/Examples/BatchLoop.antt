@@ -1,11 +1,10 @@
 -- The rounds of the batch's loop, computed: how long a chunk is, what it leaves, and a loop with a chunk of no items.
 -- Assumes nothing.
-use mathlib.Core.Path.{_≡_, refl}
+use mathlib.Core.Path.{refl}
 use mathlib.Core.Bool.{true, false}
 use mathlib.Core.List.{List, [], _∷_}
 use Prim.Native.Nat.{ℕ}
 use native.Mathlib.Omega.{arith}
-use lib.ListN.{length}
 use lib.Dec.{leb}
 use Rattle.model.specs.declared.LaneKey.{LaneKey}
 use Rattle.model.specs.State.{State}

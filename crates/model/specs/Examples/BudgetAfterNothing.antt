@@ -1,6 +1,6 @@
 -- The poll budget after receives that hand out nothing, computed: by the call itself, by the state before it, and by its events.
 -- Assumes nothing.
-use mathlib.Core.Path.{_≡_, refl}
+use mathlib.Core.Path.{refl}
 use mathlib.Core.Bool.{Bool, true, false}
 use mathlib.Core.List.{List, [], _∷_, map}
 use Prim.Native.Nat.{ℕ}
@@ -14,7 +14,7 @@ use Rattle.model.specs.declared.Answer.the-variants.{Items, Empty, Disco
 use Rattle.model.specs.Lists.{if, count}
 use Rattle.model.specs.State.{State}
 use Rattle.model.specs.Receive.{receiveOutcome}
-use Rattle.model.specs.Events.{Event, budgetSet, collected, noneMarked, foundEmpty, itemTaken, wentToBack, callEvents, countEvents}
+use Rattle.model.specs.Events.{budgetSet, collected, noneMarked, foundEmpty, itemTaken, wentToBack, callEvents, countEvents}
 use Rattle.model.specs.BudgetAfterNothing.{budgetLeftBy, budgetLeft, setsBudget}
 use Rattle.model.specs.Examples.Pairs.{Reads, Always}
 use Rattle.model.specs.Examples.Events.{computeEvents}
