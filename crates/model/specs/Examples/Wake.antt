@@ -238,3 +238,21 @@ unwoken-read :
     ∷ [])
 unfolding computeWake lastAnswer answered
 unwoken-read = refl
+
+-- ---- what a drop does: it wakes nobody, and a look that has an item need not see it; one that answers Empty has
+
+drop-seen-read :
+    Reads answered
+    -- lane 1 is dropped and counts against the most lanes, 2, over a look that gives lane 0's item;
+    ((registers ∷ sends 0 ∷ sends 0 ∷ plain ∷ drops 1 ∷ plain ∷ Sender (RegisterSender 2) ∷ [], Refused AtCapacity)
+    -- the next look answers Empty, and the lane is retired
+    ∷ (registers ∷ sends 0 ∷ sends 0 ∷ plain ∷ drops 1 ∷ plain ∷ plain ∷ [], Empty)
+    ∷ (registers ∷ sends 0 ∷ sends 0 ∷ plain ∷ drops 1 ∷ plain ∷ plain ∷ Sender (RegisterSender 2) ∷ [], Registered (key 1 1))
+    -- all senders dropped: after a batch of fewer items the next look answers Disconnected; with an item in a paused lane every look answers Empty
+    ∷ (sends 0 ∷ drops 0 ∷ batch 3 ∷ [], Items 1)
+    ∷ (sends 0 ∷ drops 0 ∷ batch 3 ∷ plain ∷ [], Disconnected)
+    ∷ (sends 0 ∷ pauses 0 ∷ drops 0 ∷ batch 3 ∷ [], Empty)
+    ∷ (sends 0 ∷ pauses 0 ∷ drops 0 ∷ batch 3 ∷ plain ∷ fair ∷ [], Empty)
+    ∷ [])
+unfolding computeWake lastAnswer answered
+drop-seen-read = refl
