@@ -15,3 +15,4 @@ pub mod WhileMarked
 pub mod BatchLoop
 pub mod Wake
 pub mod Keys
+pub mod Numbers

@@ -106,6 +106,17 @@ rounds-with-none =
     chunk-moved 2 3 0 begins collected ends ((lane 0, 5) ∷ (lane 0, 6) ∷ []) 0 (1 ∷ []) (omega arith) refl refl (omega arith) (omega arith) refl
     (chunk-moved 2 3 2 none refilled ends [] 0 (1 ∷ []) (omega arith) refl refl (omega arith) (omega arith) refl (limit-reached 0 ends refl))
 
+-- the same where lane 0 has only one item cached each time: a chunk more, and the same end
+one : State
+one = chunkMoved refilled 0 (1 ∷ []) 1
+
+rounds-with-one-cached : Rounds 2 begins ((lane 0, 5) ∷ (lane 0, 6) ∷ []) (chunkMoved one 0 (1 ∷ []) 1)
+unfolding computeStates one
+rounds-with-one-cached =
+    chunk-moved 2 1 0 begins collected _ ((lane 0, 5) ∷ (lane 0, 6) ∷ []) 0 (1 ∷ []) (omega arith) refl refl (omega arith) (omega arith) refl
+    (chunk-moved 2 1 1 none refilled _ ((lane 0, 6) ∷ []) 0 (1 ∷ []) (omega arith) refl refl (omega arith) (omega arith) refl
+    (chunk-moved 1 1 1 one one _ [] 0 (1 ∷ []) (omega arith) refl refl (omega arith) (omega arith) refl (limit-reached 0 _ refl)))
+
 budgets-read :
     Reads (λ (s : State). s .budget)
     ((begins, 0)
@@ -113,7 +124,8 @@ budgets-read :
     ∷ (none, 0)
     ∷ (refilled, 64)
     ∷ (ends, 62)
+    ∷ (one, 63)
     ∷ ((takeUpTo 2 begins) .1, 62)
     ∷ [])
-unfolding computeStates
+unfolding computeStates one
 budgets-read = refl

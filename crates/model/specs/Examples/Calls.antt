@@ -3,7 +3,7 @@
 use mathlib.Core.Path.{_≡_, refl, ap}
 use mathlib.Core.Bool.{Bool, true, false}
 use mathlib.Core.List.{List, [], _∷_, _++_, map, tail}
-use Prim.Native.Nat.{ℕ, zero, suc, _<_}
+use Prim.Native.Nat.{ℕ, zero, suc, _-_, _<_}
 use native.Mathlib.Omega.{arith}
 use lib.ListN.{length, getD}
 use lib.Dec.{leb}
@@ -115,10 +115,27 @@ repeat : {A : Type 0} → ℕ → A → List A
 repeat zero a = []
 repeat (suc n) a = a ∷ repeat n a
 
+-- A ring of C places is filled; a send is still refused where one receive is left to the release batch, and is taken after it.
+creditAfter : ℕ → ℕ → ℕ → ℕ → Example
+creditAfter capacity C batch budget = record {
+  capacity = capacity;
+  slots = 1;
+  generation = 0;
+  budget = budget;
+  calls = registers ∷ repeat C (sends 0 5) ++ (sends 0 6 ∷ repeat (batch - 1) plain ++ (sends 0 6 ∷ plain ∷ sends 0 6 ∷ []));
+  answers = lane 0 0 ∷ Taken true ∷ repeat (C - 1) (Taken false) ++ (Refused Full ∷ repeat (batch - 1) (gave 5 0) ++ (Refused Full ∷ gave 5 0 ∷ Taken false ∷ []));
+}
+
 pub table : List Example
 table =
+    -- "P Capacity 1: batch 1. P 2: 2. P 64: 64. P 100: C 128, batch 64. P 256: 128."
+    creditAfter 1 1 1 63
+    ∷ creditAfter 2 2 2 62
+    ∷ creditAfter 64 64 64 0
+    ∷ creditAfter 100 128 64 0
+    ∷ creditAfter 256 256 128 0
     -- "P C 4, sends 1 to 4: taken; 5: refusal 11. After one to three plain receives still 11; after the fourth, taken."
-    record {
+    ∷ record {
       capacity = 4;
       slots = 2;
       generation = 0;
@@ -443,7 +460,7 @@ table =
 
 -- the computed test, over the whole table
 pub table-computed : map found table ≡ map expected table
-unfolding compute answers afterList found expected openingOf keyAt idOn idAt registers sends sendsUnsignalled drops plain fair batch targeted pauses resumes closes pollsAll held lane gave repeat table
+unfolding compute answers afterList found expected openingOf keyAt idOn idAt registers sends sendsUnsignalled drops plain fair batch targeted pauses resumes closes pollsAll held lane gave repeat creditAfter table
 table-computed = refl
 
 -- an opening takes the sizes of each row: "1 to 65,536", "1 to 8,192"
@@ -451,7 +468,7 @@ unfoldable pub sizesTaken : Example → Bool
 sizesTaken e = both (both (leb 1 (e .capacity)) (leb (e .capacity) 65536)) (both (leb 1 (e .slots)) (leb (e .slots) 8192))
 
 pub sizes-computed : map sizesTaken table ≡ map (λ e. true) table
-unfolding sizesTaken table
+unfolding sizesTaken creditAfter table
 sizes-computed = refl
 
 -- the law: at each row

@@ -90,6 +90,8 @@ sleeps-read :
     ∷ ((batch 3, Items 1), true)
     ∷ ((batch 3, Items 2), true)
     ∷ ((batch 3, Items 3), false)
+    ∷ ((batch 200, Items 199), true)
+    ∷ ((batch 200, Items 200), false)
     ∷ ((batch 3, Refused OutputShort), false)
     ∷ ((batch 0, Items 0), false)
     ∷ ((targeted 0, Empty), false)
@@ -115,6 +117,8 @@ sleep-ends-read :
     ∷ (ends (sends 0) (Taken true), false)
     ∷ (ends (sends 0) (Refused Full), false)
     ∷ (ends (unsignalled 0) (Taken false), false)
+    ∷ (ends (unsignalled 1) (Taken false), false)
+    ∷ (ends (unsignalled 0) (Refused Full), false)
     ∷ (ends (drops 0) Done, false)
     ∷ (ends (drops 0) (Refused NoSuchSender), false)
     ∷ (ends held (Held 1), false)
@@ -158,6 +162,8 @@ sent-to-one-read = refl
 paused-one-read :
     Reads (λ ts. pausedIn (key 1 0) ((ledgerAfter atOpening (ends registers (Registered (key 0 0)) ∷ ends registers (Registered (key 1 0)) ∷ ts)) .lanes))
     (([], false)
+    ∷ (ends (sends 1) (Taken true) ∷ [], false)
+    ∷ (ends (unsignalled 1) (Taken false) ∷ [], false)
     ∷ (ends (pauses 1) Done ∷ [], true)
     ∷ (ends (pauses 1) (Refused NoSuchLane) ∷ [], false)
     ∷ (ends (pauses 0) Done ∷ [], false)
@@ -227,6 +233,26 @@ unwoken-read :
     -- an unsignalled send, and a drop
     ∷ (plain ∷ unsignalled 0 ∷ [], Taken false)
     ∷ (plain ∷ drops 0 ∷ [], Done)
+    -- a send that is not accepted: unsignalled sends, which wake nobody, have filled the ring
+    ∷ (plain ∷ unsignalled 0 ∷ unsignalled 0 ∷ sends 0 ∷ [], Refused Full)
     ∷ [])
 unfolding computeWake lastAnswer answered
 unwoken-read = refl
+
+-- ---- what a drop does: it wakes nobody, and a look that has an item need not see it; one that answers Empty has
+
+drop-seen-read :
+    Reads answered
+    -- lane 1 is dropped and counts against the most lanes, 2, over a look that gives lane 0's item;
+    ((registers ∷ sends 0 ∷ sends 0 ∷ plain ∷ drops 1 ∷ plain ∷ Sender (RegisterSender 2) ∷ [], Refused AtCapacity)
+    -- the next look answers Empty, and the lane is retired
+    ∷ (registers ∷ sends 0 ∷ sends 0 ∷ plain ∷ drops 1 ∷ plain ∷ plain ∷ [], Empty)
+    ∷ (registers ∷ sends 0 ∷ sends 0 ∷ plain ∷ drops 1 ∷ plain ∷ plain ∷ Sender (RegisterSender 2) ∷ [], Registered (key 1 1))
+    -- all senders dropped: after a batch of fewer items the next look answers Disconnected; with an item in a paused lane every look answers Empty
+    ∷ (sends 0 ∷ drops 0 ∷ batch 3 ∷ [], Items 1)
+    ∷ (sends 0 ∷ drops 0 ∷ batch 3 ∷ plain ∷ [], Disconnected)
+    ∷ (sends 0 ∷ pauses 0 ∷ drops 0 ∷ batch 3 ∷ [], Empty)
+    ∷ (sends 0 ∷ pauses 0 ∷ drops 0 ∷ batch 3 ∷ plain ∷ fair ∷ [], Empty)
+    ∷ [])
+unfolding computeWake lastAnswer answered
+drop-seen-read = refl

@@ -13,7 +13,7 @@ use Rattle.model.specs.Receive.{takeUpTo}
 use Rattle.model.specs.Opening.{openingOutcome}
 use Rattle.model.specs.Rules.{theRules}
 use Rattle.model.specs.Viewed.{rulesViewed}
-use Rattle.model.specs.Events.{budgetSet, collected, noneMarked, itemTaken, wentToBack, anyMarked, takeUpToEvents, eventsFrom, collects, findsNoneMarked}
+use Rattle.model.specs.Events.{budgetSet, collected, noneMarked, foundEmpty, itemTaken, wentToBack, anyMarked, takeUpToEvents, eventsFrom, collects, findsNoneMarked}
 use Rattle.model.specs.WhileMarked.{untilCollected}
 use Rattle.model.specs.Examples.Pairs.{Reads}
 use Rattle.model.specs.Examples.Events.{twoSlots, lent, lane, repeat, registers, sends, plain, computeEvents}
@@ -26,6 +26,7 @@ until-collected-read :
     ∷ (itemTaken (lane 0) ∷ collected ∷ itemTaken (lane 1) ∷ [], itemTaken (lane 0) ∷ [])
     ∷ (noneMarked ∷ budgetSet ∷ itemTaken (lane 0) ∷ collected ∷ collected ∷ [], noneMarked ∷ budgetSet ∷ itemTaken (lane 0) ∷ [])
     ∷ (itemTaken (lane 0) ∷ wentToBack (lane 0) ∷ [], itemTaken (lane 0) ∷ wentToBack (lane 0) ∷ [])
+    ∷ (foundEmpty (lane 0) ∷ itemTaken (lane 1) ∷ collected ∷ [], foundEmpty (lane 0) ∷ itemTaken (lane 1) ∷ [])
     ∷ [])
 unfolding lane untilCollected collects findsNoneMarked
 until-collected-read = refl
