@@ -18,8 +18,10 @@
    made, the first fanring_try_send that is taken, to a lane that is not paused, answers woken 1.
    It may not sleep after a single item, a batch that reached its limit, a batch of limit 0 or a targeted receive: a lane may still be pending, and then
    its sends answer woken 0 until its ring is full. After the receiver's other calls it looks again first; made while it sleeps, they are to wake it.
-   A drop and an unsignalled send wake nobody. A drop is seen by the next look, so wake the receiver after it. Nor does a batch tell that its items were
-   the last: FANRING_DISCONNECTED comes with the look after it, for which nobody is woken. Once all senders are dropped, look until it is answered.
+   A drop, an unsignalled send and a send that is refused wake nobody. A drop is seen at the latest by a look that finds nothing, so wake the receiver
+   after it. Unsignalled sends may fill a ring while the receiver sleeps; ordinary ones are then refused 11, so wake it there too. Nor does a batch tell
+   that its items were the last: FANRING_DISCONNECTED comes with the look after it, for which nobody is woken. Once all senders are dropped, look until it
+   is answered; or until FANRING_EMPTY, where a paused lane still holds items, which is answered then until that lane is resumed, closed or emptied.
 
    CREDIT. The places of items handed out are free for the sender once the lane gives them back: when they are as many as the release batch (half of C or
    64, whichever is more, but at most C), when a receive finds the lane empty, and on pause; all lanes do on release_consumed and at the end of every batch,

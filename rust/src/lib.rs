@@ -41,9 +41,12 @@
 //! - It may not sleep after a single item, a batch that reached its limit, a batch of limit 0, or
 //!   [`try_recv_from`](Channel::try_recv_from): a lane may still be pending, and then its sends answer `false` until its
 //!   ring is full. After the receiver's other calls it looks again first; made while it sleeps, they are to wake it.
-//! - A drop and an unsignalled send wake nobody. A drop is seen by the next look, so wake the receiver after it. Nor does
-//!   a batch tell that its items were the last: `Disconnected` comes with the look after it, for which nobody is woken.
-//!   Once all senders are dropped, look until it is answered.
+//! - A drop, an unsignalled send and a send that is refused wake nobody. A drop is seen at the latest by a look that finds
+//!   nothing, so wake the receiver after it. Unsignalled sends may fill a ring while the receiver sleeps; ordinary ones are
+//!   then refused as `Full`, so wake it there too.
+//! - Nor does a batch tell that its items were the last: `Disconnected` comes with the look after it, for which nobody is
+//!   woken. Once all senders are dropped, look until it is answered; or until `Empty`, where a paused lane still holds
+//!   items, which is answered then until that lane is resumed, closed or emptied.
 //! - A sender that was refused as `Full` tries again after a batch or [`release_consumed`](Channel::release_consumed):
 //!   then all places of items that were taken are free again. No answer tells of it.
 //! - A batch names no lanes and keeps no order between them; a lane's own items are in the order sent. Where it matters

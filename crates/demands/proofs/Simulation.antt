@@ -23,7 +23,7 @@ use Rattle.model.specs.Demand2.{Demand2In, Demand2, shuts, values, outOf, into,
 use Rattle.model.specs.Demand3.{Demand3In, Demand3}
 use Rattle.model.specs.Closed.{NoneAfterCloseIn, NoneAfterClose}
 use Rattle.model.specs.Held.{HeldAsCountedIn, HeldAsCounted}
-use Rattle.model.specs.Wake.{NoLostWakeIn, NoLostWake}
+use Rattle.model.specs.Wake.{NoLostWakeIn, NoLostWake, NothingWaitsIn, NothingWaits}
 use Rattle.model.specs.Keys.{KeysNeverAgainIn, KeysNeverAgain, IssuedAsAnsweredIn, IssuedAsAnswered}
 use Rattle.model.specs.Simulation.{runsThatFit, Simulation, numbersOfCall, Fits, CallFits}
 use Rattle.demands.proofs.Demand2.{demand2}
@@ -32,7 +32,7 @@ use Rattle.demands.proofs.Closed.{none-after-close}
 use Rattle.demands.proofs.InOrder.{call-keeps-order, opening-in-order}
 use Rattle.demands.proofs.Held.{held-as-counted}
 use Rattle.demands.proofs.HandsAsAnswered.{hands-as-answered}
-use Rattle.demands.proofs.Wake.{no-lost-wake}
+use Rattle.demands.proofs.Wake.{no-lost-wake, nothing-waits}
 use Rattle.demands.proofs.Keys.{keys-never-again, issued-as-answered}
 
 -- two states are equal if their parts are, the slots one by one
@@ -190,6 +190,11 @@ module _ (W : Viewed) (sim : Simulation W) where
   transfer-wake h o lent d calls f before asleep rest c a t e =
       h o (W .rules .lengths lent) (accepted-too W sim o lent d) calls tt before asleep rest c a t (sym (opened-trace W sim o lent d calls f) ∙ e)
 
+  transfer-waits : NothingWaits theRules → NothingWaitsIn (W .rules) (W .runs)
+  unfolding NothingWaits NothingWaitsIn
+  transfer-waits h o lent d calls f before rest c a e =
+      h o (W .rules .lengths lent) (accepted-too W sim o lent d) calls tt before rest c a (sym (opened-trace W sim o lent d calls f) ∙ e)
+
   transfer-keys : KeysNeverAgain theRules → KeysNeverAgainIn (W .rules) (W .runs)
   unfolding KeysNeverAgain KeysNeverAgainIn
   transfer-keys h o lent d calls f before rest c k e =
@@ -202,6 +207,9 @@ module _ (W : Viewed) (sim : Simulation W) where
 
 pub words-no-lost-wake : (W : Viewed) → Simulation W → NoLostWakeIn (W .rules) (W .runs)
 words-no-lost-wake W sim = transfer-wake W sim no-lost-wake
+
+pub words-nothing-waits : (W : Viewed) → Simulation W → NothingWaitsIn (W .rules) (W .runs)
+words-nothing-waits W sim = transfer-waits W sim nothing-waits
 
 pub words-keys-never-again : (W : Viewed) → Simulation W → KeysNeverAgainIn (W .rules) (W .runs)
 words-keys-never-again W sim = transfer-keys W sim keys-never-again

@@ -32,9 +32,9 @@ use Rattle.model.specs.Opening.{openingOutcome}
 use Rattle.model.specs.Rules.{outcome, theRules}
 use Rattle.model.specs.Order.{Ordered, InOrder}
 use Rattle.model.specs.PollLoop.{NothingLeft, TakesUnlessNothingLeft, PlainUnlessNothingLeft, FairUnlessNothingLeft, BatchUnlessNothingLeft}
-use Rattle.model.specs.Ledger.{Lane, Ledger, atOpening, addRegistered, applyCall, note, ledgerAfter}
+use Rattle.model.specs.Ledger.{Lane, Ledger, atOpening, addRegistered, applyCall, note, ledgerAfter, waits}
 use Rattle.model.specs.Stretch.{looks, findsNothing, looksInVain}
-use Rattle.model.specs.Wake.{itemsBelow, belowLimit, maySleep, whileAsleep, endsSleep, sendsTo, saysWoken, wakes, pausedIn, NoLostWakeIn, NoLostWake}
+use Rattle.model.specs.Wake.{itemsBelow, belowLimit, maySleep, whileAsleep, endsSleep, sendsTo, saysWoken, wakes, pausedIn, NoLostWakeIn, NoLostWake, NothingWaitsIn, NothingWaits}
 use Rattle.demands.proofs.Counting.{Same, equal, other, same?, no, both-true, not-false}
 use Rattle.demands.proofs.OrderKept.{take-one-ordered, take-fair-ordered, take-up-to-ordered}
 use Rattle.demands.proofs.Moves.{unless-law, Moves, stays-put, credits, registers-new, registers-old, sends, posts, drops-it, pauses-it, resumes, resumes-not, closes-it, polls-all, shuts-it, takes, stops, aims, aims-none, Chain, stay, move, call-chain, trace-chain}
@@ -43,7 +43,7 @@ use Rattle.demands.proofs.MovesKeepOrder.{move-ordered}
 use Rattle.demands.proofs.LedgerLaws.{alike, unlike, keys?, look}
 use Rattle.demands.proofs.Demand2.{sender-parts, opens-as}
 use Rattle.demands.proofs.LedgerAgrees.{Agrees, move-agrees, key-path}
-use Rattle.demands.proofs.Demand3.{opened-agrees}
+use Rattle.demands.proofs.Demand3.{opened-agrees, hold-start}
 use Rattle.demands.proofs.InOrder.{opening-in-order, run-in-order}
 use Rattle.demands.proofs.PollLoop.{plain-unless-nothing-left, fair-unless-nothing-left, batch-unless-nothing-left}
 
@@ -281,3 +281,25 @@ no-lost-wake o lent d calls all before asleep rest c a t e m z k q n w =
     first-wakes k (p .left) ((outcome u c) .1 .1)
     (falls-asleep k (ledgerAfter L (ticks theRules u c)) _ g (ap (λ (M : Ledger). pausedIn k (M .lanes)) l ∙ q) (may-sleep-idle u c j y))
     asleep rest t (sym (p .goes-on)) z n w
+
+-- one that waits would be pending
+idle-waits-not : (L : Ledger) (s : State) (k : LaneKey) → Agrees L s → Idle s → waits k L ≡ false
+idle-waits-not L s k a h = go (waits k L) refl
+  where
+    go : (b : Bool) → waits k L ≡ b → b ≡ false
+    go true w = let f = hold-start L s k a w in absurd (no (f .is-pending) (h .idle (k .slot) (f .is-registered) (f .is-unpaused)))
+    go false w = refl
+
+pub nothing-waits : NothingWaits theRules
+unfolding NothingWaits NothingWaitsIn
+nothing-waits o lent d calls all before rest c a e m k =
+    let s = (openingOutcome o lent) .1 .1 in
+    let i = opening-in-order o lent d in
+    let p = ends-at calls s before rest c a e in
+    let u = afterList theRules s (p .made) in
+    let j = run-in-order o lent d (p .made) in
+    let y : maySleep c ((outcome u c) .1 .0) ≡ true = ap (maySleep c) (sym (p .answered)) ∙ m in
+    let L = ledgerAfter atOpening (trace theRules s (p .made)) in
+    let g = chain-agrees L (call-chain u c) (j .ordered) (chain-agrees atOpening (trace-chain s (p .made)) (i .ordered) (rw (opens-as o lent) (opened-agrees o))) in
+    let l = ledger-at atOpening u c (trace theRules s (p .made)) y ∙ ap (ledgerAfter atOpening) (sym (p .so-far)) in
+    ap (waits k) (sym l) ∙ idle-waits-not (ledgerAfter L (ticks theRules u c)) _ k g (may-sleep-idle u c j y)

@@ -9,7 +9,7 @@ use Rattle.model.specs.declared.Refusal.the-variants.{StoreNotInOrder}
 use Rattle.model.specs.declared.Answer.the-variants.{Refused}
 use Rattle.model.specs.Simulation.{Simulation}
 use Rattle.model.specs.Demand2.{Demand2In}
-use Rattle.demands.proofs.Simulation.{words-demand2, words-demand3, words-none-after-close, words-held-as-counted, words-hands-as-answered, words-no-lost-wake, words-keys-never-again, words-issued-as-answered}
+use Rattle.demands.proofs.Simulation.{words-demand2, words-demand3, words-none-after-close, words-held-as-counted, words-hands-as-answered, words-no-lost-wake, words-nothing-waits, words-keys-never-again, words-issued-as-answered}
 use Rattle.store.specs.View.{view}
 use Rattle.store.specs.Order.{StoreInOrder}
 use Rattle.store.specs.Words.{Words}
@@ -26,7 +26,7 @@ use Rattle.refinement.proofs.RulesKept.{keeps-rules}
 use Rattle.refinement.proofs.Simulation.{simulates}
 use Rattle.refinement.proofs.AsRules.{each-call-as-rules, lists-as-rules, examples-of}
 use Rattle.fanring.specs.Runs.{checkedWords, checkedCalls, theCalls}
-use Rattle.fanring.specs.Demands.{RefusalsChangeNothing, FiveExactly, CallsSimulate, CallsKeepOrder, OpensAsRules, OpensInOrder, runs, NeverFive, ItemsInOrder, AnswersTell, LanesWaitBounded, NoneAfterClose, HeldIsCounted, RulesKept, TraceAsRules, MixedAsChecked, ExamplesHold, NoLostWake, KeysNeverAgain, IssuedAsAnswered}
+use Rattle.fanring.specs.Demands.{RefusalsChangeNothing, FiveExactly, CallsSimulate, CallsKeepOrder, OpensAsRules, OpensInOrder, runs, NeverFive, ItemsInOrder, AnswersTell, LanesWaitBounded, NoneAfterClose, HeldIsCounted, RulesKept, TraceAsRules, MixedAsChecked, ExamplesHold, NoLostWake, NothingWaits, KeysNeverAgain, IssuedAsAnswered}
 use Rattle.fanring.proofs.CheckedLaws.{checked-five}
 use Rattle.fanring.proofs.CheckedCalls.{checked-as-inner, words-unmoved, output-left}
 use Rattle.fanring.proofs.NeverFive.{never-five}
@@ -108,6 +108,9 @@ examples-hold = examples-of checkedCalls checked-as-inner
 
 pub no-lost-wake : NoLostWake
 no-lost-wake = words-no-lost-wake (viewedOf checkedCalls) checked-simulate
+
+pub nothing-waits : NothingWaits
+nothing-waits = words-nothing-waits (viewedOf checkedCalls) checked-simulate
 
 pub keys-never-again : KeysNeverAgain
 keys-never-again = words-keys-never-again (viewedOf checkedCalls) checked-simulate

@@ -19,7 +19,7 @@ use Rattle.model.specs.Demand2.{Demand2In, HasRoom, HandsAsAnsweredIn}
 use Rattle.model.specs.Demand3.{Demand3In}
 use Rattle.model.specs.Closed.{NoneAfterCloseIn}
 use Rattle.model.specs.Held.{HeldAsCountedIn}
-use Rattle.model.specs.Wake.{NoLostWakeIn}
+use Rattle.model.specs.Wake.{NoLostWakeIn, NothingWaitsIn}
 use Rattle.model.specs.Keys.{KeysNeverAgainIn, IssuedAsAnsweredIn}
 use Rattle.queues.specs.Header.{issued}
 use Rattle.store.specs.View.{view}
@@ -113,6 +113,10 @@ ExamplesHold = ExamplesOf checkedCalls
 -- no wake-up is lost: after an answer on which a receiver may sleep, "the first accepted ordinary send to an unpaused lane answers woken 1"
 abbrev pub NoLostWake : Type 0
 NoLostWake = NoLostWakeIn theCalls runs
+
+-- and where it may sleep nothing waits for it: no unpaused lane holds an ordinarily sent item
+abbrev pub NothingWaits : Type 0
+NothingWaits = NothingWaitsIn theCalls runs
 
 -- a registration never answers a key that was answered before in the run: demands 2 and 3 tell lanes by their keys
 abbrev pub KeysNeverAgain : Type 0

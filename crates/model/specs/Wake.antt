@@ -16,7 +16,7 @@ use Rattle.model.specs.declared.Answer.{Answer}
 use Rattle.model.specs.declared.Answer.the-variants.{Done, Registered, Taken, Item, Items, Empty, Disconnected, Held, Refused}
 use Rattle.model.specs.Lists.{if, both, either}
 use Rattle.model.specs.Runs.{Rules, RunsOf, allRuns, accepted, Tick, gives, ends, trace, sameKey, countTicks}
-use Rattle.model.specs.Ledger.{Lane, atOpening, ledgerAfter}
+use Rattle.model.specs.Ledger.{Lane, atOpening, ledgerAfter, waits}
 use Rattle.model.specs.Stretch.{looksInVain}
 
 -- "fewer items than its limit"
@@ -109,3 +109,17 @@ NoLostWakeIn R runs =
 
 unfoldable pub NoLostWake : Rules → Type 0
 NoLostWake R = NoLostWakeIn R (allRuns R)
+
+-- Where a receiver may sleep nothing waits for it: no unpaused lane holds an ordinarily sent item.
+-- The claim is about all of `runs`.
+unfoldable pub NothingWaitsIn : (R : Rules) → RunsOf R → Type 0
+NothingWaitsIn R runs =
+    (o : Opening) (lent : R .Stores) → (R .opens o lent) .0 ≡ Done
+    → (calls : List Call) → runs o lent calls
+    → (before rest : List Tick) (c : Call) (a : Answer)
+    → trace R ((R .opens o lent) .1) calls ≡ before ++ (ends c a ∷ rest)
+    → maySleep c a ≡ true
+    → (k : LaneKey) → waits k (ledgerAfter atOpening before) ≡ false
+
+unfoldable pub NothingWaits : Rules → Type 0
+NothingWaits R = NothingWaitsIn R (allRuns R)

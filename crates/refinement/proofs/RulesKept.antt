@@ -6,7 +6,7 @@ use Rattle.demands.proofs.WhileMarked.{words-at-most-64-while-marked, words-at-
 use Rattle.demands.proofs.BudgetAfterNothing.{words-budget-after-nothing, words-budget-as-events-set}
 use Rattle.store.proofs.CollectedView.{view-collect-all, view-collect-group}
 use Rattle.refinement.specs.Runs.{StoreCalls, viewedOf, innerCalls}
-use Rattle.refinement.specs.RulesOnWords.{KeepsRules, collects, WordsCollecting}
+use Rattle.refinement.specs.RulesOnWords.{KeepsRules, afterCollecting, WordsCollecting}
 use Rattle.refinement.proofs.AsInner.{AsInner, inner-as-inner, stays-in-order, queued-keys-kept}
 use Rattle.refinement.proofs.Simulation.{simulates, stores-simulate}
 use Rattle.refinement.proofs.FirstCursorKept.{rings-start-at-first-cursor}
@@ -43,5 +43,5 @@ rules-kept = keeps-rules innerCalls inner-as-inner
 
 pub words-collect : WordsCollecting
 words-collect =
-    words-collecting (viewedOf innerCalls) stores-simulate (collects false) (collects true)
+    words-collecting (viewedOf innerCalls) stores-simulate (afterCollecting false) (afterCollecting true)
     (λ w o. view-collect-group (w .0) (w .1) (o .stores)) (λ w o. view-collect-all (w .0) (w .1) (o .stores))

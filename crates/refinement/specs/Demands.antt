@@ -19,7 +19,7 @@ use Rattle.model.specs.Demand2.{Demand2In, HasRoom, HandsAsAnsweredIn}
 use Rattle.model.specs.Demand3.{Demand3In}
 use Rattle.model.specs.Closed.{NoneAfterCloseIn}
 use Rattle.model.specs.Held.{HeldAsCountedIn}
-use Rattle.model.specs.Wake.{NoLostWakeIn}
+use Rattle.model.specs.Wake.{NoLostWakeIn, NothingWaitsIn}
 use Rattle.model.specs.Keys.{KeysNeverAgainIn, IssuedAsAnsweredIn}
 use Rattle.yring.specs.Ring.{newRing}
 use Rattle.lane.specs.Lane.{heldItems}
@@ -70,6 +70,10 @@ HeldIsCounted = HeldAsCountedIn theStores runs
 -- "the first accepted ordinary send to an unpaused lane answers woken 1" after an answer on which a receiver may sleep
 abbrev pub NoLostWake : Type 0
 NoLostWake = NoLostWakeIn theStores runs
+
+-- and where it may sleep nothing waits for it: no unpaused lane holds an ordinarily sent item
+abbrev pub NothingWaits : Type 0
+NothingWaits = NothingWaitsIn theStores runs
 
 -- a registration never answers a key that was answered before in the run
 abbrev pub KeysNeverAgain : Type 0

@@ -1,6 +1,6 @@
 -- Document 01's sentences on order kept, the poll budget, turns of 64, collections, Disconnected and Empty, signals, first cursors and queued keys, of calls on two
--- stores. Those that the rules have too are crate `model`'s (its specs/Budget.antt, OneTurn.antt, Collections.antt, Disconnected.antt, Signals.antt,
--- ReceivesEnd.antt), said of the state that the words show; those on words alone are here.
+-- stores. Those that the rules have too are crate `model`'s (its specs/Budget.antt, BudgetAfterNothing.antt, OneTurn.antt, Collections.antt, WhileMarked.antt,
+-- Disconnected.antt, Signals.antt, ReceivesEnd.antt), said of the state that the words show; those on words alone are here.
 -- Assumes nothing.
 use mathlib.Core.Path.{_≡_}
 use mathlib.Core.Bool.{Bool, true, false}
@@ -70,9 +70,9 @@ pub record KeepsRules (M : StoreCalls) : Type 0 where
   pub queued-keys-kept : QueuedKeysKept M
 
 -- The collections inside the receives: one group, or all.
-abbrev pub collects : Bool → List ℕ × List ℕ → List ℕ × List ℕ
-collects all w = (collectReady all (w .0), w .1)
+abbrev pub afterCollecting : Bool → List ℕ × List ℕ → List ℕ × List ℕ
+afterCollecting all w = (collectReady all (w .0), w .1)
 
 -- What they do to the words, as far as the rules see them.
 abbrev pub WordsCollecting : Type 0
-WordsCollecting = Collecting (viewedOf innerCalls) (collects false) (collects true)
+WordsCollecting = Collecting (viewedOf innerCalls) (afterCollecting false) (afterCollecting true)

@@ -135,7 +135,7 @@ events-set-read : Reads byEvents cases
 unfolding computeCases
 events-set-read = refl
 
--- all their senders dropped: the answers, so that lane 0 is seen to retire where nothing else is left
+-- the answers; where all senders are dropped, lane 0 is seen to retire with nothing else left
 answer : State × ReceiveCall → Answer
 answer c = (receiveOutcome (c .0) (c .1)) .1 .0
 
