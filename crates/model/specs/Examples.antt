@@ -2,6 +2,8 @@
 -- Assumes nothing.
 pub mod Pairs
 pub mod Answers
+pub mod Example
+pub mod Table
 pub mod Calls
 pub mod Ready
 pub mod Events

@@ -21,7 +21,9 @@ use Rattle.model.specs.Receive.{outputAfter}
 use Rattle.model.specs.Opening.{nextPowerOfTwo, openingOutcome}
 use Rattle.model.specs.Rules.{outcome, theRules}
 use Rattle.model.specs.Simulation.{runsThatFit}
-use Rattle.model.specs.Examples.Calls.{Example, openingOf, found, expected, table, table-computed, sizesTaken, sizes-computed}
+use Rattle.model.specs.Examples.Example.{Example, openingOf, saidCalls}
+use Rattle.model.specs.Examples.Table.{table}
+use Rattle.model.specs.Examples.Calls.{found, expected, table-computed, sizesTaken, sizes-computed}
 use Rattle.demands.proofs.Counting.{both-true}
 use Rattle.demands.proofs.Simulation.{same-after, opened-trace, opened-after}
 use Rattle.queues.specs.Header.{budget}
@@ -79,8 +81,8 @@ module _ (M : StoreCalls) (i : AsInner M) where
     unfolding end-of found expected view
     as-example = record {
       opens = d;
-      calls-answer = list-answers end-of (e .calls) in-order ∙ ap (λ (s : State). answers theRules s (e .calls)) (open-view (openingOf e) t r d) ∙ ap (λ (z : List Answer × ℕ). z .0) f;
-      leaves-budget = ap (λ (s : State). s .budget) (same-after (viewedOf M) (simulates M i) end-of (e .calls) in-order) ∙ ap (λ (s : State). (afterList theRules s (e .calls)) .budget) (open-view (openingOf e) t r d) ∙ ap (λ (z : List Answer × ℕ). z .1) f;
+      calls-answer = list-answers end-of (saidCalls e) in-order ∙ ap (λ (s : State). answers theRules s (saidCalls e)) (open-view (openingOf e) t r d) ∙ ap (λ (z : List Answer × ℕ). z .0) f;
+      leaves-budget = ap (λ (s : State). s .budget) (same-after (viewedOf M) (simulates M i) end-of (saidCalls e) in-order) ∙ ap (λ (s : State). (afterList theRules s (saidCalls e)) .budget) (open-view (openingOf e) t r d) ∙ ap (λ (z : List Answer × ℕ). z .1) f;
     }
 
 -- an opening with such sizes, lent enough, is accepted

@@ -17,7 +17,8 @@ use Rattle.model.specs.Receive.{outputAfter}
 use Rattle.model.specs.Opening.{nextPowerOfTwo, openingOutcome}
 use Rattle.model.specs.Rules.{outcome, theRules}
 use Rattle.model.specs.Demand2.{HasRoom}
-use Rattle.model.specs.Examples.Calls.{Example, openingOf, table}
+use Rattle.model.specs.Examples.Example.{Example, openingOf, saidCalls, saidAnswers}
+use Rattle.model.specs.Examples.Table.{table}
 use Rattle.queues.specs.Header.{budget}
 use Rattle.store.specs.View.{view}
 use Rattle.store.specs.Order.{StoreInOrder}
@@ -56,8 +57,8 @@ pub record ListsAsRules (M : StoreCalls) : Type 0 where
 -- accepted, the calls answer what the example says, and the poll budget is then its number.
 pub record AsExample (M : StoreCalls) (e : Example) (t r : List ℕ) : Type 0 where
   pub opens : (openStore (openingOf e) t r) .0 ≡ Done
-  pub calls-answer : let w = openStore (openingOf e) t r in answers (listsOf M) (w .1, w .2) (e .calls) ≡ e .answers
-  pub leaves-budget : let w = openStore (openingOf e) t r in budget ((afterList (listsOf M) (w .1, w .2) (e .calls)) .0) ≡ e .budget
+  pub calls-answer : let w = openStore (openingOf e) t r in answers (listsOf M) (w .1, w .2) (saidCalls e) ≡ saidAnswers e
+  pub leaves-budget : let w = openStore (openingOf e) t r in budget ((afterList (listsOf M) (w .1, w .2) (saidCalls e)) .0) ≡ e .budget
 
 -- "The examples marked P are proved in one go over a table": of all examples of the table, those marked P among them
 unfoldable pub ExamplesOf : StoreCalls → Type 0
