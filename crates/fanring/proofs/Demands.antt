@@ -16,7 +16,7 @@ use Rattle.store.specs.Words.{Words}
 use Rattle.opening.specs.Opening.{openStore}
 use Rattle.opening.proofs.OpeningLaws.{open-answers-alike, open-view, open-in-order}
 use Rattle.demands.proofs.Demand2.{opens-as}
-use Rattle.refinement.proofs.RefusedUnmoved.{Unmoved, open-unmoved}
+use Rattle.refinement.proofs.RefusedUnmoved.{all-left, open-unmoved}
 use Rattle.refinement.specs.Runs.{viewedOf}
 use Rattle.refinement.specs.RulesOnWords.{StaysInOrder}
 use Rattle.refinement.specs.AsRules.{lentOf}
@@ -33,10 +33,6 @@ use Rattle.fanring.proofs.NeverFive.{never-five}
 use Rattle.fanring.proofs.Mixed.{mixed-as}
 
 -- ---- one call
-
--- an answer and two stores that are as they were
-all-left : (t r : List ℕ) (w : Words) → Unmoved t r w → (why : Refusal) → w .0 ≡ Refused why → w ≡ (Refused why, t, r)
-all-left t r w u why e = λ i. (e i, u why e i .0, u why e i .1)
 
 pub refusals-change-nothing : RefusalsChangeNothing
 refusals-change-nothing = record {

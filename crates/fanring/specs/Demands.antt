@@ -6,16 +6,13 @@ use mathlib.Core.Path.{_≡_}
 use mathlib.Core.List.{List, map}
 use Prim.Native.Nat.{ℕ, _^_, _<_}
 use Rattle.model.specs.declared.Opening.{Opening}
-use Rattle.model.specs.declared.ReceiveCall.{ReceiveCall}
 use Rattle.model.specs.declared.Call.{Call}
-use Rattle.model.specs.declared.Call.the-variants.{Receive}
-use Rattle.model.specs.declared.Refusal.{Refusal}
 use Rattle.model.specs.declared.Refusal.the-variants.{StoreNotInOrder}
 use Rattle.model.specs.declared.Answer.the-variants.{Done, Refused}
 use Rattle.model.specs.Runs.{RunsOf}
 use Rattle.model.specs.Opening.{openingOutcome}
 use Rattle.model.specs.Simulation.{runsThatFit}
-use Rattle.model.specs.Demand2.{Demand2In, HasRoom, HandsAsAnsweredIn}
+use Rattle.model.specs.Demand2.{Demand2In, HandsAsAnsweredIn}
 use Rattle.model.specs.Demand3.{Demand3In}
 use Rattle.model.specs.Closed.{NoneAfterCloseIn}
 use Rattle.model.specs.Held.{HeldAsCountedIn}
@@ -28,17 +25,16 @@ use Rattle.opening.specs.Opening.{openStore}
 use Rattle.refinement.specs.Runs.{Run, storesAfter}
 use Rattle.refinement.specs.Demands.{itemsIn}
 use Rattle.refinement.specs.RulesOnWords.{KeepsRules}
+use Rattle.refinement.specs.Refusals.{RefusalsLeaveAll}
 use Rattle.refinement.specs.AsRules.{lentOf, EachCallAsRules, ListsAsRules, ExamplesOf}
-use Rattle.fanring.specs.Runs.{checkedWords, checkedOutput, checkedCalls, theCalls}
+use Rattle.fanring.specs.Runs.{checkedWords, checkedCalls, theCalls}
 use Rattle.fanring.specs.Mixed.{Way, MixedAs}
 
 -- ---- one call, on any two stores
 
 -- demand 1: "a refusal leaves state, both stores and the output unchanged", of stores in order or not
-pub record RefusalsChangeNothing : Type 0 where
-  pub of-calls : (t r : List ℕ) (c : Call) (why : Refusal) → (checkedWords t r c) .0 ≡ Refused why → checkedWords t r c ≡ (Refused why, t, r)
-  pub of-outputs : (t r out : List ℕ) (c : ReceiveCall) (why : Refusal) → HasRoom c out → (checkedWords t r (Receive c)) .0 ≡ Refused why → checkedOutput t r c out ≡ out
-  pub of-openings : (t r : List ℕ) (o : Opening) (why : Refusal) → (openStore o t r) .0 ≡ Refused why → openStore o t r ≡ (Refused why, t, r)
+abbrev pub RefusalsChangeNothing : Type 0
+RefusalsChangeNothing = RefusalsLeaveAll checkedCalls
 
 -- "every later call | 5 | store not in order": "When, and only then"
 pub record FiveExactly : Type 0 where

@@ -9,7 +9,6 @@ use Rattle.model.specs.declared.LaneKey.{LaneKey}
 use Rattle.model.specs.Lists.{if, both}
 use Rattle.model.specs.State as rules
 use Rattle.model.specs.State.{vacant, hasLane}
-use Rattle.model.specs.Demand1.{RefusalChangesNothing}
 use Rattle.model.specs.Demand2.{Demand2In}
 use Rattle.demands.proofs.Simulation.{words-demand2, words-demand3, words-none-after-close, words-held-as-counted, words-hands-as-answered, words-no-lost-wake, words-nothing-waits, words-keys-never-again, words-issued-as-answered}
 use Rattle.yring.specs.Ring.{newRing}
@@ -17,9 +16,10 @@ use Rattle.lane.specs.Lane.{heldItems}
 use Rattle.lane.specs.Table.{laneAt}
 use Rattle.queues.specs.Header.{issued, capacity}
 use Rattle.store.specs.View.{flag, slotAt, view}
-use Rattle.refinement.specs.Runs.{viewedOf, innerCalls, theStores}
+use Rattle.opening.specs.Opening.{openStore}
+use Rattle.refinement.specs.Runs.{callWords, viewedOf, innerCalls, theStores}
 use Rattle.refinement.specs.Demands.{itemsIn, runs, RefusalsChangeNothing, ItemsInOrder, AnswersTell, LanesWaitBounded, NoneAfterClose, HeldIsCounted, NoLostWake, NothingWaits, KeysNeverAgain, IssuedAsAnswered, CallsSimulate, TraceAsRules, ExamplesHold}
-use Rattle.refinement.proofs.RefusedUnmoved.{open-unmoved}
+use Rattle.refinement.proofs.RefusedUnmoved.{all-left, open-unmoved}
 use Rattle.refinement.proofs.CallLaws.{call-unmoved, output-unmoved}
 use Rattle.refinement.proofs.AsInner.{inner-as-inner}
 use Rattle.refinement.proofs.Simulation.{stores-simulate}
@@ -43,11 +43,10 @@ ring-seen t r k = go (ltb (k .slot) (issued t)) refl
     go false e = rw e
 
 pub refusals-change-nothing : RefusalsChangeNothing
-unfolding RefusalChangesNothing
 refusals-change-nothing = record {
-  of-calls = λ w c why e. call-unmoved (w .0) (w .1) c why e;
-  of-outputs = λ w c out h why e. output-unmoved (w .0) (w .1) c out h why e;
-  of-openings = λ o w why e. open-unmoved (w .0) (w .1) o why e;
+  of-calls = λ t r c. all-left t r (callWords t r c) (call-unmoved t r c);
+  of-outputs = λ t r out c why h. output-unmoved t r c out h why;
+  of-openings = λ t r o. all-left t r (openStore o t r) (open-unmoved t r o);
 }
 
 pub items-in-order : ItemsInOrder

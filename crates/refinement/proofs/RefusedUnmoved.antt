@@ -47,6 +47,10 @@ use Rattle.store.proofs.RefusalLaws.{unless-refused-case}
 abbrev pub Unmoved : List ℕ → List ℕ → Words → Type 0
 Unmoved t r w = (why : Refusal) → w .0 ≡ Refused why → _≡_ {A = List ℕ × List ℕ} (w .1, w .2) (t, r)
 
+-- an answer and two stores that are as they were
+pub all-left : (t r : List ℕ) (w : Words) → Unmoved t r w → (why : Refusal) → w .0 ≡ Refused why → w ≡ (Refused why, t, r)
+all-left t r w u why e = λ i. (e i, u why e i .0, u why e i .1)
+
 -- a call whose other answers are no refusals
 module _ (t r : List ℕ) where
   accepted-unmoved : (w : Words) → accepted (w .0) ≡ true → Unmoved t r w

@@ -1,21 +1,14 @@
 -- What is claimed of lists of calls on the two stores, made from an opening on, each on the words as the last one left them.
 -- The claims are crate `model`'s (its specs/Demand1.antt, Demand2.antt, Demand3.antt, Closed.antt, Held.antt, Wake.antt, Keys.antt), here of the words that the calls' contracts name.
 -- Assumes nothing.
-use mathlib.Core.Path.{_≡_}
 use mathlib.Core.Bool.{cond}
 use mathlib.Core.List.{List, []}
 use Prim.Native.Nat.{ℕ}
 use lib.Dec.{eqb, ltb}
 use Rattle.model.specs.declared.LaneKey.{LaneKey}
-use Rattle.model.specs.declared.Opening.{Opening}
-use Rattle.model.specs.declared.ReceiveCall.{ReceiveCall}
-use Rattle.model.specs.declared.Call.the-variants.{Receive}
-use Rattle.model.specs.declared.Refusal.{Refusal}
-use Rattle.model.specs.declared.Answer.the-variants.{Refused}
 use Rattle.model.specs.Runs.{RunsOf}
 use Rattle.model.specs.Simulation.{runsThatFit}
-use Rattle.model.specs.Demand1.{RefusalChangesNothing}
-use Rattle.model.specs.Demand2.{Demand2In, HasRoom, HandsAsAnsweredIn}
+use Rattle.model.specs.Demand2.{Demand2In, HandsAsAnsweredIn}
 use Rattle.model.specs.Demand3.{Demand3In}
 use Rattle.model.specs.Closed.{NoneAfterCloseIn}
 use Rattle.model.specs.Held.{HeldAsCountedIn}
@@ -26,6 +19,7 @@ use Rattle.lane.specs.Lane.{heldItems}
 use Rattle.lane.specs.Table.{laneAt}
 use Rattle.queues.specs.Header.{issued, capacity}
 use Rattle.refinement.specs.Runs.{innerCalls, theStores}
+use Rattle.refinement.specs.Refusals.{RefusalsLeaveAll}
 use Rattle.refinement.specs.AsRules.{EachCallAsRules, ListsAsRules, ExamplesOf}
 
 -- The items in the ring of the lane with this key, oldest first; none if no lane has it.
@@ -41,11 +35,9 @@ itemsIn t r k =
 abbrev pub runs : RunsOf theStores
 runs = runsThatFit theStores
 
--- "a refusal leaves state, both stores and the output unchanged", of any words, in order or not
-pub record RefusalsChangeNothing : Type 0 where
-  pub of-calls : RefusalChangesNothing theStores
-  pub of-outputs : (w : theStores .State) (c : ReceiveCall) (out : List ℕ) → HasRoom c out → (why : Refusal) → (theStores .step w (Receive c)) .0 ≡ Refused why → theStores .output w c out ≡ out
-  pub of-openings : (o : Opening) (w : theStores .Stores) (why : Refusal) → (theStores .opens o w) .0 ≡ Refused why → (theStores .opens o w) .1 ≡ w
+-- demand 1: "a refusal leaves state, both stores and the output unchanged", of any words, in order or not
+abbrev pub RefusalsChangeNothing : Type 0
+RefusalsChangeNothing = RefusalsLeaveAll innerCalls
 
 -- demand 2: "items handed out of a lane never closed and then items still in its ring are its accepted sends, in order"
 abbrev pub ItemsInOrder : Type 0

@@ -1,5 +1,6 @@
 pub mod Hands
 pub mod Runs
 pub mod AsRules
+pub mod Refusals
 pub mod Demands
 pub mod RulesOnWords
