@@ -4,6 +4,7 @@ use mathlib.Core.Path.{_≡_, refl, sym, ap}
 use mathlib.Core.List.{List, [], _∷_, _++_}
 use Prim.Native.Nat.{ℕ}
 use native.Mathlib.Omega.{arith}
+use lib.ListN.{length, length-append}
 use Rattle.model.specs.Answers.{line, number}
 use Rattle.model.specs.declared.Answer.{Answer}
 use Rattle.model.specs.declared.ReceiveCall.the-variants.{TryRecv}
@@ -24,6 +25,7 @@ use Rattle.replay.specs.declared.round.Next.the-variants as Next
 use Rattle.replay.specs.Rounds.{Rounds, none, more, again, end}
 use Rattle.replay.specs.Parts.{joined, endingLine, answers}
 use Rattle.replay.specs.Place.{between}
+use Rattle.replay.proofs.RoundLaws.{parts-answered}
 
 abbrev plain : Record
 plain = Call (Receive TryRecv)
@@ -91,6 +93,27 @@ with-a-full-text =
     (more {n = Next.Answer} none (receive ++ receive) (omega arith) (record { records = plain ∷ []; reads = Stream.one refl Stream.none; stores = sym stay; lines = one-line; goes = omega arith }))
     (record { records = plain ∷ []; reads = Stream.one refl Stream.none; stores = sym stay; lines = one-line; goes = refl }))
     (record { stores = refl; same = refl; lines = refl; stops = refl })
+
+-- A malformed record stops the program: whatever stands behind it in the part, and whatever would follow, is not answered.
+pub at-a-malformed-record :
+    Rounds 1 ((receive ++ (2 ∷ 0 ∷ 16 ∷ 0 ∷ []) ++ receive) ∷ []) (codes "refused 5\nrefused 15\n" ∷ []) started ((2 ∷ 0 ∷ 16 ∷ 0 ∷ []) ++ receive) Stop
+unfolding parse parseAs Record.number linesOf line number spaced decimal digits digitsIn
+at-a-malformed-record =
+    more none (receive ++ (2 ∷ 0 ∷ 16 ∷ 0 ∷ []) ++ receive) (omega arith)
+    (record {
+      records = plain ∷ [];
+      reads = Stream.one refl Stream.none;
+      stores = sym stay;
+      lines = sym (ap (λ (l : List ℕ). (l ++ []) ++ codes "refused 15\n") refused-5);
+      goes = refl;
+    })
+
+pub nothing-behind-it : (c : List ℕ) → codes "refused 5\nrefused 15\n" ++ [] ≡ answers (((receive ++ (2 ∷ 0 ∷ 16 ∷ 0 ∷ []) ++ receive) ++ []) ++ c) started
+nothing-behind-it c = parts-answered .whole at-a-malformed-record c (λ e. not-ended (e .before) (e .last))
+  where
+    not-ended : (before : List (List ℕ)) → (receive ++ (2 ∷ 0 ∷ 16 ∷ 0 ∷ []) ++ receive) ∷ [] ≡ before ++ [] ∷ [] → c ≡ []
+    not-ended [] e = absurd (omega (arith, ap (λ (l : List (List ℕ)). length (joined l)) e))
+    not-ended (b ∷ before) e = absurd (omega (arith, ap length e, length-append before ([] ∷ [])))
 
 -- ---- parts and places
 

@@ -141,11 +141,11 @@ taken-read {p} {q} r = subst (λ (x : Place). Taken p x) (sym (r .taken)) (go (r
 
 pub fetched-read : {p q : Place} {b d : List ℕ} (came : Came) → p .next ≡ Read → take (p .have) d ≡ take (p .have) b → length d ≡ length b → p .have + came .size ≤ 65536
     → q ≡ afterRead p (came .failed) (came .size) → Fetched p b d q
-fetched-read {p} {q} came e k l h t = record { kept = k; long = l; takes = subst (λ (x : Next). FetchedBy x p q) (sym e) (record { came = came; inside = h; taken = t }) }
+fetched-read {p} {q} came e k l h t = record { untouched = λ n. absurd (n e); kept = k; long = l; takes = subst (λ (x : Next). FetchedBy x p q) (sym e) (record { came = came; inside = h; taken = t }) }
 
 -- a place that asks for nothing
 pub fetched-none : {p q : Place} {b : List ℕ} → OneOf (1 ∷ 2 ∷ 3 ∷ []) (tagOf Next.the-type (p .next)) → q ≡ p → Fetched p b b q
-fetched-none {p} {q} {b} k e = subst (λ (x : Place). Fetched p b b x) (sym e) (record { kept = refl; long = refl; takes = go (p .next) k })
+fetched-none {p} {q} {b} k e = subst (λ (x : Place). Fetched p b b x) (sym e) (record { untouched = λ n. refl; kept = refl; long = refl; takes = go (p .next) k })
   where
     not-first : OneOf (1 ∷ 2 ∷ 3 ∷ []) 0 → ⊥
     not-first (inl a) = omega (arith, a)

@@ -2,7 +2,7 @@
 -- Assumes nothing.
 use mathlib.Core.Logic.{inl, inr}
 use mathlib.Core.Path.{_≡_, refl, sym, ap, _∙_, subst}
-use mathlib.Core.List.{List, [], _∷_, _++_}
+use mathlib.Core.List.{List, [], _∷_, _++_, append-nil}
 use Prim.Native.Nat.{ℕ, _+_, _-_, _≤_, _<_, _^_}
 use native.Mathlib.Omega.{arith}
 use lib.ListN.{length, take, drop, length-drop}
@@ -19,7 +19,7 @@ use Rattle.replay.specs.declared.Outcome.the-variants.{Answered, TurnsOv
 use Rattle.replay.specs.Rounds.{Round, Last, Rounds}
 use Rattle.replay.specs.Rounds as Rounds
 use Rattle.replay.specs.Place.{Sized, between, InBuffer, FetchedBy, Fetched, Flushed, RoundBy, Rounded}
-use Rattle.replay.specs.Ran.{EndsAs, Ran, RunsAnswer}
+use Rattle.replay.specs.Ran.{cameIn, TurnsAdd, EndsAs, Ran, RunsAnswer}
 use Rattle.replay.proofs.RoundLaws.{no-end, parts-answered}
 use Rattle.replay.proofs.PlaceLaws.{between-kept, between-more, TakenBy, taken-read}
 
@@ -32,12 +32,19 @@ pub record Carried (k : ℕ) (s : Stores) (b : List ℕ) (p : Place) : Type 0 wh
 pub carried-start : {s : Stores} (b : List ℕ) → s ≡ started → (end : ℕ) → Carried 0 s b (record { next = Read; at = 0; have = 0; end = end })
 carried-start {s} b e end = record { parts = []; texts = []; rounds = subst (λ (x : Stores). Rounds 0 [] [] x [] Read) (sym e) Rounds.none }
 
-pub carried-on : {k : ℕ} {s u : Stores} {b d x v : List ℕ} {p m q : Place} → Sized d → InBuffer p → (p .next ≡ Stop → ⊥) → Carried k s b p
-    → Fetched p b d m → (m .next ≡ Read → ⊥) → Rounded (m .next) m s d u x v q → Carried (k + 1) u x q
-carried-on {k} {s} {u} {b} {d} {x} {v} {p} {m} {q} j i w c f y r = go (p .next) refl (f .takes) (c .rounds)
+turn-adds : {k : ℕ} {parts texts : List (List ℕ)} {s u : Stores} {b d x v : List ℕ} {p m q : Place} → Sized b → InBuffer p → (p .next ≡ Stop → ⊥)
+    → Rounds k parts texts s (between (p .at) (p .have) b) (p .next) → Fetched p b d m → (m .next ≡ Read → ⊥) → Rounded (m .next) m s d u x v q
+    → Rounds (k + 1) (parts ++ cameIn (p .next) (m .next) (between (p .have) (m .have) d)) (texts ++ take (q .end) v ∷ []) u (between (q .at) (q .have) x) (q .next)
+turn-adds {k} {parts} {texts} {s} {u} {b} {d} {x} {v} {p} {m} {q} z i w c f y r = go (p .next) refl (f .takes) c
   where
+    j : Sized d
+    j = f .long ∙ z
+
     rest : List ℕ
     rest = between (q .at) (q .have) x
+
+    part : List ℕ
+    part = between (p .have) (m .have) d
 
     here : between (p .at) (p .have) d ≡ between (p .at) (p .have) b
     here = between-kept (p .at) (p .have) b d (i .forward) (f .kept)
@@ -59,35 +66,37 @@ carried-on {k} {s} {u} {b} {d} {x} {v} {p} {m} {q} j i w c f y r = go (p .next) 
         ∙ ap (λ (l : List ℕ). l ++ take got (drop (p .have) d)) here
 
     taken : (n : Next) → m .next ≡ n → m .at ≡ p .at → m .have ≤ 65536 → TakenBy n p m → RoundBy n s (between (m .at) (m .have) d) u rest (take (q .end) v) (q .next)
-        → Rounds k (c .parts) (c .texts) s (between (p .at) (p .have) b) Read → Carried (k + 1) u x q
+        → Rounds k parts texts s (between (p .at) (p .have) b) Read → Rounds (k + 1) (parts ++ cameIn Read n part) (texts ++ take (q .end) v ∷ []) u rest (q .next)
     taken Read e g h t r a = absurd (y e)
     taken Answer e g h t r a =
-        record {
-          parts = c .parts ++ take got (drop (p .have) d) ∷ [];
-          texts = c .texts ++ take (q .end) v ∷ [];
-          rounds = Rounds.more a (take got (drop (p .have) d))
-              (omega (arith, t, h, j, length-drop (p .have) d, length-take-le got (drop (p .have) d) (omega (arith, t, h, j, length-drop (p .have) d))))
-              (subst (λ (l : List ℕ). Round s l u rest (take (q .end) v) (q .next)) (longer g t) r);
-        }
-    taken End e g h t r a =
-        record {
-          parts = c .parts ++ [] ∷ [];
-          texts = c .texts ++ take (q .end) v ∷ [];
-          rounds = Rounds.end a (subst (λ (l : List ℕ). Last s l u rest (take (q .end) v) (q .next)) (same g t) r);
-        }
+        Rounds.more a part
+        (omega (arith, t, h, j, length-drop (p .have) d, length-take-le got (drop (p .have) d) (omega (arith, t, h, j, length-drop (p .have) d))))
+        (subst (λ (l : List ℕ). Round s l u rest (take (q .end) v) (q .next)) (longer g t) r)
+    taken End e g h t r a = Rounds.end a (subst (λ (l : List ℕ). Last s l u rest (take (q .end) v) (q .next)) (same g t) r)
     taken Stop e g h t r a = absurd t
 
-    go : (n : Next) → p .next ≡ n → FetchedBy n p m → Rounds k (c .parts) (c .texts) s (between (p .at) (p .have) b) n → Carried (k + 1) u x q
+    go : (n : Next) → p .next ≡ n → FetchedBy n p m → Rounds k parts texts s (between (p .at) (p .have) b) n
+        → Rounds (k + 1) (parts ++ cameIn n (m .next) part) (texts ++ take (q .end) v ∷ []) u rest (q .next)
     go Read e t a = let g = taken-read t in taken (m .next) refl (g .at) (g .inside) (g .takes) (r .does) a
     go Answer e t a =
-        record {
-          parts = c .parts;
-          texts = c .texts ++ take (q .end) v ∷ [];
-          rounds = Rounds.again a (subst (λ (l : List ℕ). Round s l u rest (take (q .end) v) (q .next)) (same (ap (λ (h : Place). h .at) t) (ap (λ (h : Place). h .have) t))
-              (subst (λ (n : Next). RoundBy n s (between (m .at) (m .have) d) u rest (take (q .end) v) (q .next)) (ap (λ (h : Place). h .next) t ∙ e) (r .does)));
-        }
+        subst (λ (l : List (List ℕ)). Rounds (k + 1) l (texts ++ take (q .end) v ∷ []) u rest (q .next)) (sym (append-nil parts))
+        (Rounds.again a
+        (subst (λ (l : List ℕ). Round s l u rest (take (q .end) v) (q .next)) (same (ap (λ (h : Place). h .at) t) (ap (λ (h : Place). h .have) t))
+        (subst (λ (n : Next). RoundBy n s (between (m .at) (m .have) d) u rest (take (q .end) v) (q .next)) (ap (λ (h : Place). h .next) t ∙ e) (r .does))))
     go End e t a = absurd (no-end a)
     go Stop e t a = absurd (w e)
+
+pub turns-add : TurnsAdd
+turns-add = record { turn = turn-adds }
+
+pub carried-on : {k : ℕ} {s u : Stores} {b d x v : List ℕ} {p m q : Place} → Sized b → InBuffer p → (p .next ≡ Stop → ⊥) → Carried k s b p
+    → Fetched p b d m → (m .next ≡ Read → ⊥) → Rounded (m .next) m s d u x v q → Carried (k + 1) u x q
+carried-on {d = d} {v = v} {p = p} {m = m} {q = q} z i w c f y r =
+    record {
+      parts = c .parts ++ cameIn (p .next) (m .next) (between (p .have) (m .have) d);
+      texts = c .texts ++ take (q .end) v ∷ [];
+      rounds = turn-adds z i w (c .rounds) f y r;
+    }
 
 -- the rounds that were made and the turns that are left are all
 pub record Running (turns : ℕ) (s : Stores) (b text : List ℕ) (p : Place) : Type 0 where
@@ -133,7 +142,7 @@ flushed-carried {k} {s} {b} {p} {q} f c =
 module _ {turns : ℕ} {s u : Stores} {b text d x v : List ℕ} {p m q w : Place} (c : Running turns s b text p) (f : Fetched p b d m) (y : m .next ≡ Read → ⊥)
     (r : Rounded (m .next) m s d u x v q) (g : Flushed q w) where
   next-round : Carried (c .count + 1) u x w
-  next-round = flushed-carried g (carried-on (f .long ∙ c .sized .0) (c .in-buffer) (c .goes) (c .carried) f y r)
+  next-round = flushed-carried g (carried-on (c .sized .0) (c .in-buffer) (c .goes) (c .carried) f y r)
 
   pub running-on : {left : ℕ} → 0 < turns → left ≡ turns - 1 → (w .next ≡ Stop → ⊥) → w .end ≡ 0 → Running left u x v w
   running-on h e n z =

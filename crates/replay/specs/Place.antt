@@ -50,8 +50,9 @@ FetchedBy Answer p q = q ≡ p
 FetchedBy End p q = q ≡ p
 FetchedBy Stop p q = q ≡ p
 
--- the bytes that the buffer had stay where they are
+-- the bytes that the buffer had stay where they are, and all of it where nothing is asked for
 pub record Fetched (p : Place) (b d : List ℕ) (q : Place) : Type 0 where
+  pub untouched : (p .next ≡ Read → ⊥) → d ≡ b
   pub kept : take (p .have) d ≡ take (p .have) b
   pub long : length d ≡ length b
   pub takes : FetchedBy (p .next) p q

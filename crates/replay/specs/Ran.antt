@@ -1,17 +1,36 @@
 -- How a run of the program ends, and what is claimed of it.
 -- Assumes nothing.
-use mathlib.Core.List.{List, [], _++_}
+use mathlib.Core.List.{List, [], _∷_, _++_}
 use mathlib.Core.Path.{_≡_}
-use Prim.Native.Nat.{ℕ, _-_, _^_, _≤_}
-use lib.ListN.{length}
+use Prim.Native.Nat.{ℕ, _+_, _-_, _^_, _≤_}
+use lib.ListN.{length, take}
 use Rattle.wire_record.specs.Stream.{stream}
 use Rattle.replay_serve.specs.Calls.{Stores, storesAfter, started}
 use Rattle.replay.specs.declared.round.Next.{Next}
-use Rattle.replay.specs.declared.round.Next.the-variants.{Stop}
+use Rattle.replay.specs.declared.round.Next.the-variants.{Read, Answer, End, Stop}
+use Rattle.replay.specs.declared.round.Place.{Place}
 use Rattle.replay.specs.declared.Outcome.{Outcome}
 use Rattle.replay.specs.declared.Outcome.the-variants.{Answered, ReadFailed, WriteFailed, TurnsOver}
 use Rattle.replay.specs.Rounds.{Rounds}
+use Rattle.replay.specs.Place.{between, Sized, InBuffer, Fetched, Rounded}
 use Rattle.replay.specs.Parts.{joined, answers, Ended}
+
+-- What a turn of the loop adds to the parts, by what came next before and after its read: the bytes that came, `[]` where a read brought none, nothing where none was asked for.
+abbrev pub cameIn : Next → Next → List ℕ → List (List ℕ)
+cameIn Read Answer part = part ∷ []
+cameIn Read End part = [] ∷ []
+cameIn Read Read part = []
+cameIn Read Stop part = []
+cameIn Answer n part = []
+cameIn End n part = []
+cameIn Stop n part = []
+
+-- A turn of the loop, from place p over m to q, where the buffer is b, then d, then x, and the text v: `fetch` and `round` make one round more, whose part is the bytes that
+-- then stand behind those that the buffer had, and whose text is what is due of v.
+pub record TurnsAdd : Type 0 where
+  pub turn : {k : ℕ} {parts texts : List (List ℕ)} {s u : Stores} {b d x v : List ℕ} {p m q : Place} → Sized b → InBuffer p → (p .next ≡ Stop → ⊥)
+      → Rounds k parts texts s (between (p .at) (p .have) b) (p .next) → Fetched p b d m → (m .next ≡ Read → ⊥) → Rounded (m .next) m s d u x v q
+      → Rounds (k + 1) (parts ++ cameIn (p .next) (m .next) (between (p .have) (m .have) d)) (texts ++ take (q .end) v ∷ []) u (between (q .at) (q .have) x) (q .next)
 
 -- The program stopped; or a read or a write failed, wherever it was; or all its turns were rounds.
 abbrev pub EndsAs : Outcome → ℕ → Next → Type 0
@@ -20,7 +39,7 @@ EndsAs ReadFailed k n = Unit {0}
 EndsAs WriteFailed k n = Unit {0}
 EndsAs TurnsOver k n = k ≡ 2 ^ 64 - 1
 
--- The stores at the end of a run are those after rounds from the start. The parts and texts are those of the rounds: what stood behind the bytes that the buffer had, and the text's first bytes.
+-- The stores at the end of a run are those after rounds from the start. That their parts and texts are what stood in the buffer and in the text is said of each turn, by `TurnsAdd`.
 pub record Ran (o : Outcome) (s : Stores) : Type 0 where
   pub count : ℕ
   pub parts : List (List ℕ)
