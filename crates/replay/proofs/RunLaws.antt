@@ -1,6 +1,6 @@
 -- What the loop of `run` carries from one round to the next, and what a run comes to.
 -- Assumes nothing.
-use mathlib.Core.Logic.{inl, inr}
+use mathlib.Core.Logic.{_⊎_, inl, inr}
 use mathlib.Core.Path.{_≡_, refl, sym, ap, _∙_, subst}
 use mathlib.Core.List.{List, [], _∷_, _++_, append-nil}
 use Prim.Native.Nat.{ℕ, _+_, _-_, _≤_, _<_, _^_}
@@ -15,7 +15,7 @@ use Rattle.replay.proofs.round.Next as Next
 use Rattle.replay.specs.declared.round.Next.the-variants.{Read, Answer, End, Stop}
 use Rattle.replay.specs.declared.round.Place.{Place}
 use Rattle.replay.specs.declared.Outcome.{Outcome}
-use Rattle.replay.specs.declared.Outcome.the-variants.{Answered, TurnsOver}
+use Rattle.replay.specs.declared.Outcome.the-variants.{Answered, ReadFailed, WriteFailed, TurnsOver}
 use Rattle.replay.specs.Rounds.{Round, Last, Rounds}
 use Rattle.replay.specs.Rounds as Rounds
 use Rattle.replay.specs.Place.{Sized, between, InBuffer, FetchedBy, Fetched, Flushed, RoundBy, Rounded}
@@ -89,15 +89,6 @@ turn-adds {k} {parts} {texts} {s} {u} {b} {d} {x} {v} {p} {m} {q} z i w c f y r 
 pub turns-add : TurnsAdd
 turns-add = record { turn = turn-adds }
 
-pub carried-on : {k : ℕ} {s u : Stores} {b d x v : List ℕ} {p m q : Place} → Sized b → InBuffer p → (p .next ≡ Stop → ⊥) → Carried k s b p
-    → Fetched p b d m → (m .next ≡ Read → ⊥) → Rounded (m .next) m s d u x v q → Carried (k + 1) u x q
-carried-on {d = d} {v = v} {p = p} {m = m} {q = q} z i w c f y r =
-    record {
-      parts = c .parts ++ cameIn (p .next) (m .next) (between (p .have) (m .have) d);
-      texts = c .texts ++ take (q .end) v ∷ [];
-      rounds = turn-adds z i w (c .rounds) f y r;
-    }
-
 -- the rounds that were made and the turns that are left are all
 pub record Running (turns : ℕ) (s : Stores) (b text : List ℕ) (p : Place) : Type 0 where
   pub count : ℕ
@@ -129,20 +120,26 @@ flushed-buffer f i =
       room = λ e. omega (arith, f .have, i .room (sym (f .next) ∙ e));
     }
 
-flushed-carried : {k : ℕ} {s : Stores} {b : List ℕ} {p q : Place} → Flushed p q → Carried k s b p → Carried k s b q
-flushed-carried {k} {s} {b} {p} {q} f c =
-    record {
-      parts = c .parts;
-      texts = c .texts;
-      rounds = subst (λ (n : Next). Rounds k (c .parts) (c .texts) s (between (q .at) (q .have) b) n) (sym (f .next))
-          (subst (λ (l : List ℕ). Rounds k (c .parts) (c .texts) s l (p .next)) (sym (ap (λ (x : ℕ). between x (q .have) b) (f .at) ∙ ap (λ (x : ℕ). between (p .at) x b) (f .have))) (c .rounds));
-    }
+flushed-rounds : {k : ℕ} {parts texts : List (List ℕ)} {s : Stores} (b : List ℕ) {p q : Place} → Flushed p q → Rounds k parts texts s (between (p .at) (p .have) b) (p .next)
+    → Rounds k parts texts s (between (q .at) (q .have) b) (q .next)
+flushed-rounds {k} {parts} {texts} {s} b {p} {q} f c =
+    subst (λ (n : Next). Rounds k parts texts s (between (q .at) (q .have) b) n) (sym (f .next))
+    (subst (λ (l : List ℕ). Rounds k parts texts s l (p .next)) (sym (ap (λ (x : ℕ). between x (q .have) b) (f .at) ∙ ap (λ (x : ℕ). between (p .at) x b) (f .have))) c)
 
 -- a read, a round and a write
 module _ {turns : ℕ} {s u : Stores} {b text d x v : List ℕ} {p m q w : Place} (c : Running turns s b text p) (f : Fetched p b d m) (y : m .next ≡ Read → ⊥)
     (r : Rounded (m .next) m s d u x v q) (g : Flushed q w) where
+  abbrev next-parts : List (List ℕ)
+  next-parts = c .carried .parts ++ cameIn (p .next) (m .next) (between (p .have) (m .have) d)
+
+  abbrev next-texts : List (List ℕ)
+  next-texts = c .carried .texts ++ take (q .end) v ∷ []
+
+  next-rounds : Rounds (c .count + 1) next-parts next-texts u (between (w .at) (w .have) x) (w .next)
+  next-rounds = flushed-rounds x g (turn-adds (c .sized .0) (c .in-buffer) (c .goes) (c .carried .rounds) f y r)
+
   next-round : Carried (c .count + 1) u x w
-  next-round = flushed-carried g (carried-on (c .sized .0) (c .in-buffer) (c .goes) (c .carried) f y r)
+  next-round = record { parts = next-parts; texts = next-texts; rounds = next-rounds }
 
   pub running-on : {left : ℕ} → 0 < turns → left ≡ turns - 1 → (w .next ≡ Stop → ⊥) → w .end ≡ 0 → Running left u x v w
   running-on h e n z =
@@ -157,17 +154,48 @@ module _ {turns : ℕ} {s u : Stores} {b text d x v : List ℕ} {p m q w : Place
       }
 
   -- where the program ends after a round
-  pub ran-on : {o : Outcome} → ((k : ℕ) → EndsAs o k (w .next)) → Ran o u
-  ran-on e = let a = next-round in record { count = c .count + 1; parts = a .parts; texts = a .texts; rest = between (w .at) (w .have) x; next = w .next; rounds = a .rounds; ends = e (c .count + 1) }
+  pub ran-stopped : w .next ≡ Stop → Ran Answered u
+  ran-stopped e = record { count = c .count + 1; parts = next-parts; texts = next-texts; rest = between (w .at) (w .have) x; next = w .next; rounds = next-rounds; ends = e }
+
+  -- a write that failed leaves all that was due
+  pub ran-unwritten : 0 < w .end → Ran WriteFailed u
+  ran-unwritten h =
+      record {
+        count = c .count + 1;
+        parts = next-parts;
+        texts = next-texts;
+        rest = between (w .at) (w .have) x;
+        next = w .next;
+        rounds = next-rounds;
+        ends = record { before = c .carried .texts; text = take (q .end) v; last = refl; due = omega (arith, due (g .due), length-take-le (q .end) v (omega (arith, r .room, r .sized .1))) };
+      }
+    where
+      due : (w .end ≡ 0) ⊎ (w .end ≡ q .end) → 0 < q .end
+      due (inl e) = absurd (omega (arith, h, e))
+      due (inr e) = omega (arith, h, e)
 
 -- where it ends before one
-pub ran-so-far : {o : Outcome} {turns : ℕ} {s : Stores} {b text : List ℕ} {p : Place} (c : Running turns s b text p) → EndsAs o (c .count) (p .next) → Ran o s
-ran-so-far {b = b} {p = p} c e =
-    let w = c .carried in
-    record { count = c .count; parts = w .parts; texts = w .texts; rest = between (p .at) (p .have) b; next = p .next; rounds = w .rounds; ends = e }
+module _ {turns : ℕ} {s : Stores} {b text : List ℕ} {p : Place} (c : Running turns s b text p) where
+  ran-so-far : {o : Outcome} → EndsAs o (c .count) (c .carried .texts) (p .next) → Ran o s
+  ran-so-far e =
+      let w = c .carried in
+      record { count = c .count; parts = w .parts; texts = w .texts; rest = between (p .at) (p .have) b; next = p .next; rounds = w .rounds; ends = e }
 
-pub turns-over : {turns : ℕ} {s : Stores} {b text : List ℕ} {p : Place} → turns ≡ 0 → Running turns s b text p → Ran TurnsOver s
-turns-over {turns} e c = ran-so-far {o = TurnsOver} c (omega (arith, e, c .counted))
+  -- a read that failed was asked for
+  pub ran-unread : {d : List ℕ} {m : Place} → Fetched p b d m → m .next ≡ Read → Ran ReadFailed s
+  ran-unread {m = m} f e = ran-so-far {o = ReadFailed} (go (p .next) refl (f .takes) (c .carried .rounds))
+    where
+      answer-not : Answer ≡ Read → ⊥
+      answer-not e = omega (arith, ap (tagOf Next.the-type) e)
+
+      go : (n : Next) → p .next ≡ n → FetchedBy n p m → Rounds (c .count) (c .carried .parts) (c .carried .texts) s (between (p .at) (p .have) b) n → p .next ≡ Read
+      go Read g t a = g
+      go Answer g t a = absurd (answer-not (sym g ∙ sym (ap (λ (h : Place). h .next) t) ∙ e))
+      go End g t a = absurd (no-end a)
+      go Stop g t a = absurd (c .goes g)
+
+  pub turns-over : turns ≡ 0 → Ran TurnsOver s
+  turns-over e = ran-so-far {o = TurnsOver} (omega (arith, e, c .counted))
 
 -- by the tests of the code: a read did not fail, a round did not stop
 pub not-asking : {n : Next} → OneOf (1 ∷ 2 ∷ 3 ∷ []) (tagOf Next.the-type n) → n ≡ Read → ⊥

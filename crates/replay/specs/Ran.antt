@@ -2,7 +2,7 @@
 -- Assumes nothing.
 use mathlib.Core.List.{List, [], _∷_, _++_}
 use mathlib.Core.Path.{_≡_}
-use Prim.Native.Nat.{ℕ, _+_, _-_, _^_, _≤_}
+use Prim.Native.Nat.{ℕ, _+_, _-_, _^_, _≤_, _<_}
 use lib.ListN.{length, take}
 use Rattle.wire_record.specs.Stream.{stream}
 use Rattle.replay_serve.specs.Calls.{Stores, storesAfter, started}
@@ -32,12 +32,19 @@ pub record TurnsAdd : Type 0 where
       → Rounds k parts texts s (between (p .at) (p .have) b) (p .next) → Fetched p b d m → (m .next ≡ Read → ⊥) → Rounded (m .next) m s d u x v q
       → Rounds (k + 1) (parts ++ cameIn (p .next) (m .next) (between (p .have) (m .have) d)) (texts ++ take (q .end) v ∷ []) u (between (q .at) (q .have) x) (q .next)
 
--- The program stopped; or a read or a write failed, wherever it was; or all its turns were rounds.
-abbrev pub EndsAs : Outcome → ℕ → Next → Type 0
-EndsAs Answered k n = n ≡ Stop
-EndsAs ReadFailed k n = Unit {0}
-EndsAs WriteFailed k n = Unit {0}
-EndsAs TurnsOver k n = k ≡ 2 ^ 64 - 1
+-- the last of these texts has something in it
+pub record LastDue (texts : List (List ℕ)) : Type 0 where
+  pub before : List (List ℕ)
+  pub text : List ℕ
+  pub last : texts ≡ before ++ text ∷ []
+  pub due : 0 < length text
+
+-- The program stopped; or a read that was asked for failed; or a write of the last text did, which is not empty; or all its turns were rounds.
+abbrev pub EndsAs : Outcome → ℕ → List (List ℕ) → Next → Type 0
+EndsAs Answered k texts n = n ≡ Stop
+EndsAs ReadFailed k texts n = n ≡ Read
+EndsAs WriteFailed k texts n = LastDue texts
+EndsAs TurnsOver k texts n = k ≡ 2 ^ 64 - 1
 
 -- The stores at the end of a run are those after rounds from the start. That their parts and texts are what stood in the buffer and in the text is said of each turn, by `TurnsAdd`.
 pub record Ran (o : Outcome) (s : Stores) : Type 0 where
@@ -47,7 +54,7 @@ pub record Ran (o : Outcome) (s : Stores) : Type 0 where
   pub rest : List ℕ
   pub next : Next
   pub rounds : Rounds count parts texts s rest next
-  pub ends : EndsAs o count next
+  pub ends : EndsAs o count texts next
 
 pub record RunsAnswer : Type 0 where
   -- Where nothing failed: the lines of all that was read and of whatever follows, which is nothing where the last read brought nothing.

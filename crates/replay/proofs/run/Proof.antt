@@ -3,7 +3,7 @@
 use mathlib.Core.Path.{refl, _∙_}
 use native.Mathlib.Omega.{arith}
 use Rattle.replay.proofs.PlaceLaws.{fetched-buffer, fetched-end}
-use Rattle.replay.proofs.RunLaws.{Running, running-start, running-on, ran-on, ran-so-far, turns-over, not-asking, not-stopped}
+use Rattle.replay.proofs.RunLaws.{Running, running-start, running-on, turns-over, not-asking, not-stopped, ran-stopped, ran-unwritten, ran-unread}
 use borrow.Author.Needs.{needs}
 use Rattle.replay.proofs.run.Statement.{statement}
 use Rattle.replay.proofs.run.Tie as tie
@@ -27,10 +27,10 @@ flush-requires : tie.Need-flush-requires Inv-loop μ-loop
 flush-requires c κs = omega (arith, c .before .before .round .ensures .room)
 
 returns-2 : tie.Need-returns-2 Inv-loop μ-loop
-returns-2 c = ran-on (c .before .before .before .before .before .before .before .before .before .before .before .before .before .before .before .loop .inv) (c .before .before .before .before .before .before .before .before .before .before .before .before .fetch .ensures) (not-asking (c .before .before .before .before .before .before .before .before .before .before .before .match .keys2)) (c .before .before .before .before .before .round .ensures) (c .before .before .flush .ensures) (λ k. tt)
+returns-2 c = ran-unwritten (c .before .before .before .before .before .before .before .before .before .before .before .before .before .before .before .loop .inv) (c .before .before .before .before .before .before .before .before .before .before .before .before .fetch .ensures) (not-asking (c .before .before .before .before .before .before .before .before .before .before .before .match .keys2)) (c .before .before .before .before .before .round .ensures) (c .before .before .flush .ensures) (omega (arith, c .if1 .taken))
 
 returns-3 : tie.Need-returns-3 Inv-loop μ-loop
-returns-3 c = ran-on (c .before .before .before .before .before .before .before .before .before .before .before .before .before .before .before .before .before .loop .inv) (c .before .before .before .before .before .before .before .before .before .before .before .before .before .before .fetch .ensures) (not-asking (c .before .before .before .before .before .before .before .before .before .before .before .before .before .match .keys2)) (c .before .before .before .before .before .before .before .round .ensures) (c .before .before .before .before .flush .ensures) (λ k. c .enum-told2 .given .1)
+returns-3 c = ran-stopped (c .before .before .before .before .before .before .before .before .before .before .before .before .before .before .before .before .before .loop .inv) (c .before .before .before .before .before .before .before .before .before .before .before .before .before .before .fetch .ensures) (not-asking (c .before .before .before .before .before .before .before .before .before .before .before .before .before .match .keys2)) (c .before .before .before .before .before .before .before .round .ensures) (c .before .before .before .before .flush .ensures) (c .enum-told2 .given .1)
 
 loop-again : tie.Need-loop-again Inv-loop μ-loop
 loop-again c =
@@ -48,7 +48,7 @@ run-spec =
     (λ c. search needs)
     fetch-requires
     (λ c. search needs)
-    (λ c. ran-so-far (c .before .before .before .before .before .loop .inv) tt)
+    (λ c. ran-unread (c .before .before .before .before .before .loop .inv) (c .before .before .fetch .ensures) (c .enum-told .given .1))
     round-requires
     flush-requires
     returns-2
@@ -56,4 +56,4 @@ run-spec =
     returns-3
     (λ c. search needs)
     loop-again
-    (λ c. turns-over (omega arith) (c .before .loop .inv)))
+    (λ c. turns-over (c .before .loop .inv) (omega arith)))
