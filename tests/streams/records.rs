@@ -182,7 +182,7 @@ impl fmt::Display for Answer {
     }
 }
 
-/// Answers standard input, one line a record; a malformed record is refused 15, and nothing is read after it.
+/// Answers standard input, one line a record; a malformed record is refused 15, and nothing after it is answered.
 pub fn answer_all(mut answer: impl FnMut(&Record) -> Answer) -> io::Result<()> {
     let mut input = io::BufReader::with_capacity(1 << 16, io::stdin().lock());
     let mut output = io::BufWriter::with_capacity(1 << 16, io::stdout().lock());
