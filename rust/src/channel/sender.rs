@@ -52,7 +52,7 @@ impl Channel {
     /// [`try_recv_fair`](Self::try_recv_fair) or a batch with a limit other than 0 that answered `Empty` or
     /// `Disconnected`, or after a batch of fewer items than its limit: then the first accepted send to a lane that is
     /// not paused answers `true`. After a single item or a batch that reached its limit it may not sleep: the next send
-    /// answers `false`, as below. [The whole rule](crate#when-a-receiver-may-sleep).
+    /// may answer `false`, as below. [The whole rule](crate#when-a-receiver-may-sleep).
     ///
     /// Places of items that were taken remain occupied until the receiver releases them, so a send may be refused as
     /// `Full` after a receive: see [`release_consumed`](Self::release_consumed). After a batch all are free.
@@ -129,8 +129,8 @@ impl Channel {
     /// empty before it is resumed; but with no living sender left, untargeted receives that have no item retire empty
     /// paused lanes too. A closed lane is gone already.
     ///
-    /// If the receiver sleeps, wake it, as fanring does: the sender may have been the last. The next receive
-    /// that is not targeted sees it.
+    /// If the receiver sleeps, wake it, as fanring does: the sender may have been the last. An untargeted receive that
+    /// finds nothing has seen it; one that has an item of another lane need not have.
     ///
     /// # Errors
     ///
