@@ -35,6 +35,20 @@ fn credit_goes_back_in_batches() {
     }
 }
 
+/// The release batch of each C, by the table that the formula stands for: at the least and the greatest capacity that
+/// is rounded up to it.
+#[test]
+fn release_batches_are_those_of_the_table() {
+    let batches = [1, 2, 4, 8, 16, 32, 64, 64, 128, 256, 512, 1024, 2048, 4096, 8192, 16_384, 32_768];
+    for (log, batch) in batches.into_iter().enumerate() {
+        let rounded = 1 << log;
+        for capacity in [rounded / 2 + 1, rounded] {
+            assert_eq!(channel(capacity, 1).capacity_per_sender(), rounded, "capacity {capacity}");
+            assert_eq!(release_batch(capacity), batch, "capacity {capacity}");
+        }
+    }
+}
+
 #[test]
 fn fair_takes_lanes_by_turns() {
     let (mut channel, keys) = with_senders(4, 2);
