@@ -7,7 +7,7 @@ use native.Mathlib.Omega.{arith}
 use lib.Count.{trailingZeros}
 use lib.Pow.{pow-mono}
 use Rattle.yring.specs.Cursor.{Capacity}
-use Rattle.yring.proofs.ReleaseLaws.{log-is}
+use Rattle.yring.proofs.CursorLaws.{log-is}
 use Rattle.ready.proofs.BitLaws.{one-shl}
 
 module _ (c : ℕ) where

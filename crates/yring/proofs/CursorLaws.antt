@@ -1,12 +1,23 @@
 -- Cursors: a capacity divides 2^64, so a place is the same past the top as before it; and distances add up.
 -- Assumes nothing.
-use mathlib.Core.Path.{_≡_, _∙_, sym, ap, subst}
-use Prim.Native.Nat.{ℕ, _+_, _-_, _%_, _^_, _≤_, _<_}
+use mathlib.Core.Path.{_≡_, refl, _∙_, sym, ap, subst}
+use Prim.Native.Nat.{ℕ, zero, suc, _+_, _-_, _/_, _%_, _^_, _≤_, _<_}
 use native.Mathlib.Nat.{add-comm}
 use native.Mathlib.Omega.{arith}
 use lib.Bits.{bitAnd, and-mask}
+use lib.Count.{trailingZeros}
 use lib.Pow.{mod-mod-pow, pow-pos}
 use Rattle.yring.specs.Cursor.{after, distance, Capacity}
+
+-- 2^i has i trailing zeros
+zeros-of-power : (width i : ℕ) → i < width → trailingZeros width (2 ^ i) ≡ i
+unfolding trailingZeros
+zeros-of-power zero i h = absurd (omega arith)
+zeros-of-power (suc w) zero h = refl
+zeros-of-power (suc w) (suc i) h =
+    let even : 2 ^ suc i % 2 ≡ 0 = omega arith in
+    let half : 2 ^ suc i / 2 ≡ 2 ^ i = omega arith in
+    rw (even, half, zeros-of-power w i (omega arith)) refl
 
 module _ (C : ℕ) (k : Capacity C) where
   -- reducing a cursor first changes no place
@@ -18,6 +29,10 @@ module _ (C : ℕ) (k : Capacity C) where
 
   pub some : 0 < C
   some = rw (k .is) (pow-pos (k .log))
+
+  -- a capacity's trailing zeros are its logarithm
+  pub log-is : trailingZeros 64 C ≡ k .log
+  log-is = rw (k .is) (zeros-of-power 64 (k .log) (omega (arith, k .small)))
 
   -- the mask is the remainder
   pub masked : (n : ℕ) → bitAnd n (C - 1) ≡ n % C

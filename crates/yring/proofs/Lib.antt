@@ -1,5 +1,4 @@
 pub mod ListLaws
-pub mod EveryEntry
 pub mod CursorLaws
 pub mod ReleaseLaws
 pub mod RingLaws

@@ -1,30 +1,17 @@
--- The table of release batches holds its rule: one test, computed over all seventeen entries, and document 01's examples of it.
+-- The release batch: its bounds, that the table is what the formula makes, at every capacity, and document 01's examples.
 -- Assumes nothing.
 use mathlib.Core.Path.{_≡_, refl}
-use mathlib.Core.Bool.{Bool, true}
+use mathlib.Core.Bool.{Bool, true, false}
 use mathlib.Core.List.{List, [], _∷_}
-use Prim.Native.Nat.{ℕ, _^_, _<_, _≤_}
+use mathlib.Core.Option.{some}
+use Prim.Native.Nat.{ℕ, zero, suc, _+_, _<_, _≤_}
 use native.Mathlib.Omega.{arith}
-use lib.Count.{trailingZeros}
-use lib.Dec.{eqb, eqb→eq}
-use lib.ListN.{length, getD}
-use Rattle.yring.specs.Cursor.{Capacity}
+use borrow.Author.Tests.{le-leb}
+use lib.Dec.{leb}
+use Rattle.model.specs.Lists.{if}
 use Rattle.model.specs.State.{releaseBatch}
-use Rattle.model.specs.Opening.{nextPowerOfTwo, doubledUntil}
-use Rattle.yring.specs.Release.{examples, agree}
-use Rattle.yring.proofs.EveryEntry.{at}
-
--- the entries of the code's table, by the logarithm of the capacity
-abbrev pub batches : List ℕ
-batches = 1 ∷ 2 ∷ 4 ∷ 8 ∷ 16 ∷ 32 ∷ 64 ∷ 64 ∷ 128 ∷ 256 ∷ 512 ∷ 1024 ∷ 2048 ∷ 4096 ∷ 8192 ∷ 16384 ∷ 32768 ∷ []
-
--- the entry at `log` is the rule's
-holds-rule : ℕ → ℕ → Bool
-holds-rule log x = eqb x (releaseBatch (2 ^ log))
-
--- 2^log has `log` trailing zeros
-counts-zeros : ℕ → ℕ → Bool
-counts-zeros log x = eqb (trailingZeros 64 (2 ^ log)) log
+use Rattle.model.specs.Opening.{doubledUntil}
+use Rattle.yring.specs.Release.{entries, entryFor, AsTheTable, examples, agree}
 
 -- the release batch is at most the capacity
 pub batch-most : (C : ℕ) → releaseBatch C ≤ C
@@ -35,14 +22,40 @@ pub batch-some : (C : ℕ) → 0 < C → 0 < releaseBatch C
 unfolding releaseBatch
 batch-some C h = omega arith
 
-module _ (C : ℕ) (k : Capacity C) where
-  pub log-is : trailingZeros 64 C ≡ k .log
-  unfolding counts-zeros trailingZeros
-  log-is = rw (k .is) (eqb→eq (trailingZeros 64 (2 ^ k .log)) (k .log) (at counts-zeros batches tt (k .log) (omega (arith, k .small))))
+-- ---- the table
 
-  pub entry-is : getD batches (k .log) 0 ≡ releaseBatch C
-  unfolding holds-rule releaseBatch
-  entry-is = rw (k .is) (eqb→eq (getD batches (k .log) 0) (releaseBatch (2 ^ k .log)) (at holds-rule batches tt (k .log) (omega (arith, k .small))))
+-- what the formula makes: an entry for C and one for each of its next n doublings
+made : ℕ → ℕ → List (ℕ × ℕ)
+made zero C = (C, releaseBatch C) ∷ []
+made (suc n) C = (C, releaseBatch C) ∷ made n (C + C)
+
+-- the last C of these
+last : ℕ → ℕ → ℕ
+last zero C = C
+last (suc n) C = last n (C + C)
+
+-- "the formula it was made from"
+made-from : entries ≡ made 16 1
+unfolding entries made releaseBatch
+made-from = refl
+
+-- the first entry that is not below a capacity is where the doublings that round it up end
+looked-up : (n C c : ℕ) → c ≤ last n C → entryFor c (made n C) ≡ some (doubledUntil n C c, releaseBatch (doubledUntil n C c))
+unfolding made last entryFor doubledUntil
+looked-up zero C c h = rw (le-leb c C h) refl
+looked-up (suc n) C c h = go (leb c C) (looked-up n (C + C) c h)
+  where
+    go : (b : Bool) → entryFor c (made n (C + C)) ≡ some (doubledUntil n (C + C) c, releaseBatch (doubledUntil n (C + C) c))
+        → if b (some (C, releaseBatch C)) (entryFor c (made n (C + C)))
+        ≡ some (if b C (doubledUntil n (C + C) c), releaseBatch (if b C (doubledUntil n (C + C) c)))
+    go true e = refl
+    go false e = e
+
+pub as-the-table : AsTheTable
+unfolding last
+as-the-table c h m = rw made-from (looked-up 16 1 c m)
+
+-- ---- document 01's examples
 
 pub examples-agree : agree examples ≡ true
 unfolding doubledUntil releaseBatch

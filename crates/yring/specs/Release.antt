@@ -1,11 +1,48 @@
--- Document 01's checked examples of the release batch.
+-- The release batch over every capacity: the table that the formula stands for, and document 01's checked examples.
 -- Assumes nothing.
+use mathlib.Core.Path.{_≡_}
 use mathlib.Core.Bool.{Bool, true, _&&_}
 use mathlib.Core.List.{List, [], _∷_}
-use Prim.Native.Nat.{ℕ}
-use lib.Dec.{eqb}
+use mathlib.Core.Option.{Option, none, some}
+use Prim.Native.Nat.{ℕ, _≤_}
+use lib.Dec.{eqb, leb}
+use Rattle.model.specs.Lists.{if}
 use Rattle.model.specs.State.{releaseBatch}
 use Rattle.model.specs.Opening.{nextPowerOfTwo}
+
+-- "a constant table of 17 entries, one for each C": C and its release batch
+unfoldable pub entries : List (ℕ × ℕ)
+entries =
+    (1, 1)
+    ∷ (2, 2)
+    ∷ (4, 4)
+    ∷ (8, 8)
+    ∷ (16, 16)
+    ∷ (32, 32)
+    ∷ (64, 64)
+    ∷ (128, 64)
+    ∷ (256, 128)
+    ∷ (512, 256)
+    ∷ (1024, 512)
+    ∷ (2048, 1024)
+    ∷ (4096, 2048)
+    ∷ (8192, 4096)
+    ∷ (16384, 8192)
+    ∷ (32768, 16384)
+    ∷ (65536, 32768)
+    ∷ []
+
+-- "rounded up to a power of two C": the entry of a capacity is the first one whose C is not below it
+unfoldable pub entryFor : ℕ → List (ℕ × ℕ) → Option (ℕ × ℕ)
+entryFor c [] = none
+entryFor c (e ∷ es) = if (leb c (e .0)) (some e) (entryFor c es)
+
+-- document 02, N3: "Results for every capacity are those of the table.": the entry of each capacity that an opening takes has the C that the opening
+-- rounds it up to, and what the formula makes of that C
+abbrev pub AsTheTable : Type 0
+AsTheTable = (c : ℕ) → 1 ≤ c → c ≤ 65536 → entryFor c entries ≡ some (nextPowerOfTwo c, releaseBatch (nextPowerOfTwo c))
+
+-- ---- document 01's examples
 
 -- a capacity as an opening takes it, the C it is rounded up to, and the batch of C
 pub record Example : Type 0 where

@@ -2,33 +2,20 @@
 ghost use mathlib.Core.Path.{_≡_};
 ghost use Rattle.yring.specs.Cursor.{Capacity};
 ghost use Rattle.model.specs.State.{releaseBatch};
+use crate::num;
 
-// By the logarithm of the capacity. Entries of two bytes: the compiler builds the table anew at each
-// look-up, which for entries of eight bytes takes seventeen stores, and for these three.
-const RELEASE_BATCH: [u16; 17] = [
-    1,
-    2,
-    4,
-    8,
-    16,
-    32,
-    64,
-    64,
-    128,
-    256,
-    512,
-    1024,
-    2048,
-    4096,
-    8192,
-    16384,
-    32768,
-];
+// The least batch, where the ring is not smaller.
+const MIN_RELEASE_BATCH: u64 = 64;
 
+// min(max(C / 2 rounded up, 64), C). The greater of the two by a test: by a selection, as in `least`,
+// receives take more instructions.
 pub fn release_batch(capacity: u64) -> u64
     requires { ⌜ Capacity capacity ⌝ }
     ensures { λ r. ⌜ r ≡ releaseBatch capacity ⌝ }
 {
-    let log = u64::trailing_zeros(capacity) as usize;
-    RELEASE_BATCH[log] as u64
+    let half = (capacity + 1) / 2;
+    if half < MIN_RELEASE_BATCH {
+        return num::least(MIN_RELEASE_BATCH, capacity);
+    }
+    num::least(half, capacity)
 }
