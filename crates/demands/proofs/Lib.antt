@@ -49,3 +49,4 @@ pub mod WhileMarked
 pub mod BatchLoop
 pub mod Wake
 pub mod Keys
+pub mod Credit

@@ -20,7 +20,7 @@ use Rattle.demands.proofs.Counting.{no}
 use Rattle.demands.proofs.Moves.{NoneApplies, unless-law}
 
 -- an opening's capacity
-doubled-power : (n j p c : ℕ) → p ≡ 2 ^ j → (k : ℕ) × (k ≤ j + n) × (doubledUntil n p c ≡ 2 ^ k)
+pub doubled-power : (n j p c : ℕ) → p ≡ 2 ^ j → (k : ℕ) × (k ≤ j + n) × (doubledUntil n p c ≡ 2 ^ k)
 unfolding doubledUntil
 doubled-power zero j p c e = (j, omega arith, e)
 doubled-power (suc n) j p c e = go (leb c p) (doubled-power n (suc j) (p + p) c (twice j p e))

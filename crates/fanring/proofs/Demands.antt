@@ -24,9 +24,9 @@ use Rattle.refinement.proofs.AsInner.{words-keep}
 use Rattle.refinement.proofs.Demands.{ring-seen}
 use Rattle.refinement.proofs.RulesKept.{keeps-rules}
 use Rattle.refinement.proofs.Simulation.{simulates}
-use Rattle.refinement.proofs.AsRules.{each-call-as-rules, lists-as-rules, examples-of}
+use Rattle.refinement.proofs.AsRules.{each-call-as-rules, lists-as-rules, examples-of, credit-of}
 use Rattle.fanring.specs.Runs.{checkedWords, checkedCalls, theCalls}
-use Rattle.fanring.specs.Demands.{RefusalsChangeNothing, FiveExactly, CallsSimulate, CallsKeepOrder, OpensAsRules, OpensInOrder, runs, NeverFive, ItemsInOrder, AnswersTell, LanesWaitBounded, NoneAfterClose, HeldIsCounted, RulesKept, TraceAsRules, MixedAsChecked, ExamplesHold, NoLostWake, NothingWaits, KeysNeverAgain, IssuedAsAnswered}
+use Rattle.fanring.specs.Demands.{RefusalsChangeNothing, FiveExactly, CallsSimulate, CallsKeepOrder, OpensAsRules, OpensInOrder, runs, NeverFive, ItemsInOrder, AnswersTell, LanesWaitBounded, NoneAfterClose, HeldIsCounted, RulesKept, TraceAsRules, MixedAsChecked, ExamplesHold, CreditByTable, NoLostWake, NothingWaits, KeysNeverAgain, IssuedAsAnswered}
 use Rattle.fanring.proofs.CheckedLaws.{checked-five}
 use Rattle.fanring.proofs.CheckedCalls.{checked-as-inner, words-unmoved, output-left}
 use Rattle.fanring.proofs.NeverFive.{never-five}
@@ -101,6 +101,9 @@ mixed-as-checked = mixed-as
 
 pub examples-hold : ExamplesHold
 examples-hold = examples-of checkedCalls checked-as-inner
+
+pub credit-by-table : CreditByTable
+credit-by-table = credit-of checkedCalls checked-as-inner
 
 pub no-lost-wake : NoLostWake
 no-lost-wake = words-no-lost-wake (viewedOf checkedCalls) checked-simulate

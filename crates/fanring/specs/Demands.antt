@@ -26,7 +26,7 @@ use Rattle.refinement.specs.Runs.{Run, storesAfter}
 use Rattle.refinement.specs.Demands.{itemsIn}
 use Rattle.refinement.specs.RulesOnWords.{KeepsRules}
 use Rattle.refinement.specs.Refusals.{RefusalsLeaveAll}
-use Rattle.refinement.specs.AsRules.{lentOf, EachCallAsRules, ListsAsRules, ExamplesOf}
+use Rattle.refinement.specs.AsRules.{lentOf, EachCallAsRules, ListsAsRules, ExamplesOf, CreditOf}
 use Rattle.fanring.specs.Runs.{checkedWords, checkedCalls, theCalls}
 use Rattle.fanring.specs.Mixed.{Way, MixedAs}
 
@@ -105,6 +105,10 @@ MixedAsChecked = (x : Run) (ms : List (Way × Call)) → map (λ m. m .1) ms ≡
 -- "The examples marked P are proved in one go over a table": of the calls, on any lent stores of enough length
 abbrev pub ExamplesHold : Type 0
 ExamplesHold = ExamplesOf checkedCalls
+
+-- document 02, N3: "Results for every capacity are those of the table.": of the calls, on any lent stores of enough length
+abbrev pub CreditByTable : Type 0
+CreditByTable = CreditOf checkedCalls
 
 -- no wake-up is lost: after an answer on which a receiver may sleep, "the first accepted ordinary send to an unpaused lane answers woken 1"
 abbrev pub NoLostWake : Type 0

@@ -1,20 +1,21 @@
 -- Calls that on stores in order are the inner calls do what document 01's rules do (specs/AsRules.antt).
 -- Assumes nothing.
-use mathlib.Core.Path.{_≡_, refl, ap, sym, _∙_}
+use mathlib.Core.Path.{_≡_, refl, ap, sym, _∙_, subst}
 use mathlib.Core.Bool.{true}
 use mathlib.Core.List.{List, [], _∷_, map, tail}
-use Prim.Native.Nat.{ℕ, _+_, _*_, _≤_}
+use mathlib.Core.Option.{some}
+use Prim.Native.Nat.{ℕ, _+_, _-_, _*_, _≤_}
 use native.Mathlib.Omega.{arith}
 use lib.ListN.{length}
 use lib.Dec.{leb}
-use borrow.Author.Tests.{leb-true, le-ltb}
+use borrow.Author.Tests.{leb-true, le-leb, le-ltb}
 use Rattle.model.specs.declared.Opening.{Opening}
 use Rattle.model.specs.declared.Call.{Call}
 use Rattle.model.specs.declared.Call.the-variants.{Sender, Receive, Control}
 use Rattle.model.specs.declared.Answer.{Answer}
 use Rattle.model.specs.declared.Answer.the-variants.{Done}
 use Rattle.model.specs.Lists.{both, Each}
-use Rattle.model.specs.State.{State}
+use Rattle.model.specs.State.{State, releaseBatch}
 use Rattle.model.specs.Outcome.{unless}
 use Rattle.model.specs.Runs.{Lent, afterList, answers}
 use Rattle.model.specs.Receive.{outputAfter}
@@ -22,16 +23,19 @@ use Rattle.model.specs.Opening.{nextPowerOfTwo, openingOutcome}
 use Rattle.model.specs.Rules.{outcome, theRules}
 use Rattle.model.specs.Simulation.{runsThatFit}
 use Rattle.model.specs.Examples.Example.{Example, openingOf, saidCalls}
-use Rattle.model.specs.Examples.Table.{table}
+use Rattle.model.specs.Examples.Table.{creditAfter, table}
 use Rattle.model.specs.Examples.Calls.{found, expected, table-computed, sizesTaken, sizes-computed}
 use Rattle.demands.proofs.Counting.{both-true}
 use Rattle.demands.proofs.Simulation.{same-after, opened-trace, opened-after}
+use Rattle.demands.proofs.Credit.{credit-after}
+use Rattle.yring.specs.Release.{entries, entryFor}
+use Rattle.yring.proofs.ReleaseLaws.{as-the-table}
 use Rattle.queues.specs.Header.{budget}
 use Rattle.store.specs.View.{view}
 use Rattle.store.specs.Order.{StoreInOrder}
 use Rattle.opening.specs.Opening.{openStore}
 use Rattle.refinement.specs.Runs.{StoreCalls, listsOf, viewedOf, storesAfter}
-use Rattle.refinement.specs.AsRules.{lentOf, EachCallAsRules, ListsAsRules, AsExample, ExamplesOf}
+use Rattle.refinement.specs.AsRules.{lentOf, EachCallAsRules, ListsAsRules, AsExample, ExamplesOf, CreditOf}
 use Rattle.opening.proofs.OpeningLaws.{open-answers-alike, open-view, open-in-order}
 use Rattle.refinement.proofs.CallLaws.{output-alike}
 use Rattle.refinement.proofs.AsInner.{AsInner, words-alike, handed-alike, stays-in-order}
@@ -115,3 +119,21 @@ module _ (M : StoreCalls) (i : AsInner M) where
   pub examples-of : ExamplesOf M
   unfolding ExamplesOf
   examples-of = examples-in table table-computed sizes-computed
+
+  -- ---- every capacity
+
+  credit-at : (c : ℕ) → 1 ≤ c → c ≤ 65536 → (t r : List ℕ) → let C = nextPowerOfTwo c in
+      24 + 512 ≤ length t → C ≤ length r → AsExample M (creditAfter c C (releaseBatch C) (64 - releaseBatch C)) t r
+  unfolding creditAfter sizesTaken
+  credit-at c a b t r m n =
+      let C = nextPowerOfTwo c in
+      let e = creditAfter c C (releaseBatch C) (64 - releaseBatch C) in
+      let k : sizesTaken e ≡ true = rw (le-leb 1 c a, le-leb c 65536 b) in
+      as-example M i e (credit-after c) t r (example-accepted e k t r (omega arith) (omega arith))
+
+  pub credit-of : CreditOf M
+  unfolding CreditOf
+  credit-of c a b C batch e t r m n =
+      let same = sym (as-the-table c a b) ∙ e in
+      let entry : _≡_ {A = ℕ × ℕ} (nextPowerOfTwo c, releaseBatch (nextPowerOfTwo c)) (C, batch) = cc in
+      subst (λ (z : ℕ × ℕ). z .0 ≤ length r → AsExample M (creditAfter c (z .0) (z .1) (64 - z .1)) t r) entry (credit-at c a b t r m) n

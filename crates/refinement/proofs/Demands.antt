@@ -18,12 +18,12 @@ use Rattle.queues.specs.Header.{issued, capacity}
 use Rattle.store.specs.View.{flag, slotAt, view}
 use Rattle.opening.specs.Opening.{openStore}
 use Rattle.refinement.specs.Runs.{callWords, viewedOf, innerCalls, theStores}
-use Rattle.refinement.specs.Demands.{itemsIn, runs, RefusalsChangeNothing, ItemsInOrder, AnswersTell, LanesWaitBounded, NoneAfterClose, HeldIsCounted, NoLostWake, NothingWaits, KeysNeverAgain, IssuedAsAnswered, CallsSimulate, TraceAsRules, ExamplesHold}
+use Rattle.refinement.specs.Demands.{itemsIn, runs, RefusalsChangeNothing, ItemsInOrder, AnswersTell, LanesWaitBounded, NoneAfterClose, HeldIsCounted, NoLostWake, NothingWaits, KeysNeverAgain, IssuedAsAnswered, CallsSimulate, TraceAsRules, ExamplesHold, CreditByTable}
 use Rattle.refinement.proofs.RefusedUnmoved.{all-left, open-unmoved}
 use Rattle.refinement.proofs.CallLaws.{call-unmoved, output-unmoved}
 use Rattle.refinement.proofs.AsInner.{inner-as-inner}
 use Rattle.refinement.proofs.Simulation.{stores-simulate}
-use Rattle.refinement.proofs.AsRules.{each-call-as-rules, lists-as-rules, examples-of}
+use Rattle.refinement.proofs.AsRules.{each-call-as-rules, lists-as-rules, examples-of, credit-of}
 
 -- a lane's ring in the words is the ring that the rules see
 pub ring-seen : (t r : List ℕ) (k : LaneKey) → rules.ringOf (view t r) k ≡ itemsIn t r k
@@ -85,3 +85,6 @@ trace-as-rules = lists-as-rules innerCalls inner-as-inner
 
 pub examples-hold : ExamplesHold
 examples-hold = examples-of innerCalls inner-as-inner
+
+pub credit-by-table : CreditByTable
+credit-by-table = credit-of innerCalls inner-as-inner

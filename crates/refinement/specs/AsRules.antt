@@ -3,7 +3,8 @@
 -- Assumes nothing.
 use mathlib.Core.Path.{_≡_}
 use mathlib.Core.List.{List}
-use Prim.Native.Nat.{ℕ, _+_, _*_, _≤_}
+use mathlib.Core.Option.{some}
+use Prim.Native.Nat.{ℕ, _+_, _-_, _*_, _≤_}
 use lib.ListN.{length}
 use Rattle.model.specs.declared.ReceiveCall.{ReceiveCall}
 use Rattle.model.specs.declared.Call.{Call}
@@ -18,7 +19,8 @@ use Rattle.model.specs.Opening.{nextPowerOfTwo, openingOutcome}
 use Rattle.model.specs.Rules.{outcome, theRules}
 use Rattle.model.specs.Demand2.{HasRoom}
 use Rattle.model.specs.Examples.Example.{Example, openingOf, saidCalls, saidAnswers}
-use Rattle.model.specs.Examples.Table.{table}
+use Rattle.model.specs.Examples.Table.{creditAfter, table}
+use Rattle.yring.specs.Release.{entries, entryFor}
 use Rattle.queues.specs.Header.{budget}
 use Rattle.store.specs.View.{view}
 use Rattle.store.specs.Order.{StoreInOrder}
@@ -63,3 +65,9 @@ pub record AsExample (M : StoreCalls) (e : Example) (t r : List ℕ) : Type 0 wh
 -- "The examples marked P are proved in one go over a table": of all examples of the table, those marked P among them
 unfoldable pub ExamplesOf : StoreCalls → Type 0
 ExamplesOf M = Each (λ e. (t r : List ℕ) → 24 * e .slots + 512 ≤ length t → e .slots * nextPowerOfTwo (e .capacity) ≤ length r → AsExample M e t r) table
+
+-- document 02, N3: "Results for every capacity are those of the table.": of each capacity with its entry, C and batch, on any two stores that are long enough for one lane.
+-- The lane takes C items and refuses the next; it still refuses one where a receive is left to the batch, and takes it after that receive. So the calls show both numbers.
+unfoldable pub CreditOf : StoreCalls → Type 0
+CreditOf M = (c : ℕ) → 1 ≤ c → c ≤ 65536 → (C batch : ℕ) → entryFor c entries ≡ some (C, batch)
+    → (t r : List ℕ) → 24 + 512 ≤ length t → C ≤ length r → AsExample M (creditAfter c C batch (64 - batch)) t r

@@ -20,7 +20,7 @@ use Rattle.lane.specs.Table.{laneAt}
 use Rattle.queues.specs.Header.{issued, capacity}
 use Rattle.refinement.specs.Runs.{innerCalls, theStores}
 use Rattle.refinement.specs.Refusals.{RefusalsLeaveAll}
-use Rattle.refinement.specs.AsRules.{EachCallAsRules, ListsAsRules, ExamplesOf}
+use Rattle.refinement.specs.AsRules.{EachCallAsRules, ListsAsRules, ExamplesOf, CreditOf}
 
 -- The items in the ring of the lane with this key, oldest first; none if no lane has it.
 unfoldable pub itemsIn : List ℕ → List ℕ → LaneKey → List ℕ
@@ -86,3 +86,7 @@ TraceAsRules = ListsAsRules innerCalls
 -- document 01's examples, of the calls
 abbrev pub ExamplesHold : Type 0
 ExamplesHold = ExamplesOf innerCalls
+
+-- the release batch of every capacity, of the calls
+abbrev pub CreditByTable : Type 0
+CreditByTable = CreditOf innerCalls
