@@ -2,10 +2,10 @@
 -- Assumes nothing.
 use mathlib.Core.Path.{_≡_, refl, ap, ap₂, sym, _∙_, subst, fun-ext}
 use mathlib.Core.Bool.{Bool, true, false, not}
-use mathlib.Core.List.{List, [], _∷_, _++_}
+use mathlib.Core.List.{List, [], _∷_, _++_, append-assoc, append-nil}
 use Prim.Native.Nat.{ℕ, zero, suc, _+_, _-_, _*_, _/_, _^_, _%_, _<_, _≤_}
 use native.Mathlib.Omega.{arith}
-use lib.ListN.{length}
+use lib.ListN.{length, length-append}
 use lib.Dec.{eqb, leb}
 use lib.Pow.{pow-pos, pow-mono, pow-add}
 use borrow.Author.Tests.{eq-eqb, ne-eqb, le-leb, lt-leb, leb-true, leb-false}
@@ -208,13 +208,33 @@ module _ (C : ℕ) where
     returned : oneMore C k ≡ 0
     returned = rw (eq-eqb (k + 1) (releaseBatch C) (omega (arith, e)))
 
-    abbrev end : State
-    end = only C (slotWith true false (repeat (C - suc k) 5 ++ (6 ∷ [])) 0 (suc k % 64)) (0 ∷ []) (63 - k % 64) 1
+    -- the ring after the batch and n more sends, and the state
+    abbrev ringAgain : ℕ → List ℕ
+    ringAgain n = repeat (C - suc k) 5 ++ repeat n 6
+
+    abbrev sentAgain : ℕ → State
+    sentAgain n = only C (slotWith true false (ringAgain n) 0 (suc k % 64)) (0 ∷ []) (63 - k % 64) 1
+
+    length-again : (n : ℕ) → length (ringAgain n) ≡ C - suc k + n
+    length-again n = length-append {A = ℕ} (repeat (C - suc k) 5) (repeat n 6) ∙ ap₂ (λ (a b : ℕ). a + b) (length-repeat (C - suc k) 5) (length-repeat n 6)
+
+    again-more : (n : ℕ) → n < releaseBatch C → (outcome (sentAgain n) (sends 0 6)) .1 ≡ (Taken false, sentAgain (suc n))
+    again-more n d =
+        send-taken C 6 true false (ringAgain n) 0 (suc k % 64) (0 ∷ []) (63 - k % 64) 1 (omega (arith, length-again n, e))
+        ∙ ap (λ (l : List ℕ). (Taken false, only C (slotWith true false l 0 (suc k % 64)) (0 ∷ []) (63 - k % 64) 1))
+        (append-assoc {A = ℕ} (repeat (C - suc k) 5) (repeat n 6) (6 ∷ []) ∙ ap (λ (l : List ℕ). repeat (C - suc k) 5 ++ l) (repeat-more n 6))
+
+    again-full : (outcome (sentAgain (releaseBatch C)) (sends 0 6)) .1 ≡ (Refused Full, sentAgain (releaseBatch C))
+    again-full = send-refused C 6 true false (ringAgain (releaseBatch C)) 0 (suc k % 64) (0 ∷ []) (63 - k % 64) 1 (omega (arith, length-again (releaseBatch C), e))
+
+    none-again : given (suc k) 0 ≡ sentAgain 0
+    unfolding repeat
+    none-again = ap (λ (l : List ℕ). only C (slotWith true false l 0 (suc k % 64)) (0 ∷ []) (63 - k % 64) 1) (sym (append-nil {A = ℕ} (repeat (C - suc k) 5)))
 
     credit-run : Comes (only C (slotWith false false [] 0 0) [] 64 0)
-        (sends 0 5 ∷ repeat (C - 1) (sends 0 5) ++ (sends 0 6 ∷ repeat k plain ++ (sends 0 6 ∷ plain ∷ sends 0 6 ∷ [])))
-        (Taken true ∷ repeat (C - 1) (Taken false) ++ (Refused Full ∷ repeat k (gave 5 0) ++ (Refused Full ∷ gave 5 0 ∷ Taken false ∷ [])))
-        end
+        (sends 0 5 ∷ repeat (C - 1) (sends 0 5) ++ (sends 0 6 ∷ repeat k plain ++ (sends 0 6 ∷ plain ∷ repeat (releaseBatch C) (sends 0 6) ++ (sends 0 6 ∷ []))))
+        (Taken true ∷ repeat (C - 1) (Taken false) ++ (Refused Full ∷ repeat k (gave 5 0) ++ (Refused Full ∷ gave 5 0 ∷ repeat (releaseBatch C) (Taken false) ++ (Refused Full ∷ []))))
+        (sentAgain (releaseBatch C))
     unfolding repeat
     credit-run =
         then (send-taken C 5 false false [] 0 0 [] 64 0 (omega arith))
@@ -222,9 +242,10 @@ module _ (C : ℕ) where
         (then (given-full 0 (omega arith))
         (several k plain (gave 5 0) (λ j. given j j) (λ j d. given-more j j (omega arith) ∙ ap (λ (u : ℕ). (gave 5 0, given (suc j) u)) (counted j d)) refl
         (then (given-full k (omega arith))
-        (then (given-more k k h ∙ ap (λ (u : ℕ). (gave 5 0, given (suc k) u)) returned)
-        (then (send-taken C 6 true false (repeat (C - suc k) 5) 0 (suc k % 64) (0 ∷ []) (63 - k % 64) 1 (omega (arith, length-repeat (C - suc k) 5)))
-        (done end)))))))
+        (then (given-more k k h ∙ ap (λ (u : ℕ). (gave 5 0, given (suc k) u)) returned ∙ ap (λ (s : State). (gave 5 0, s)) none-again)
+        (several (releaseBatch C) (sends 0 6) (Taken false) sentAgain again-more refl
+        (then again-full
+        (done (sentAgain (releaseBatch C))))))))))
 
 -- ---- every capacity
 

@@ -66,8 +66,9 @@ pub record AsExample (M : StoreCalls) (e : Example) (t r : List ℕ) : Type 0 wh
 unfoldable pub ExamplesOf : StoreCalls → Type 0
 ExamplesOf M = Each (λ e. (t r : List ℕ) → 24 * e .slots + 512 ≤ length t → e .slots * nextPowerOfTwo (e .capacity) ≤ length r → AsExample M e t r) table
 
--- document 02, N3: "Results for every capacity are those of the table.": of each capacity with its entry, C and batch, on any two stores that are long enough for one lane.
--- The lane takes C items and refuses the next; it still refuses one where a receive is left to the batch, and takes it after that receive. So the calls show both numbers.
+-- document 02, N3: "Results for every capacity are those of the table.": of each capacity with its entry, C and batch, on any two stores that are long enough
+-- for one lane. The lane takes C items and refuses the next; it still refuses one where a receive is left to the batch, and after that receive takes as many
+-- as the batch has and refuses the next. So the calls show both numbers.
 unfoldable pub CreditOf : StoreCalls → Type 0
 CreditOf M = (c : ℕ) → 1 ≤ c → c ≤ 65536 → (C batch : ℕ) → entryFor c entries ≡ some (C, batch)
     → (t r : List ℕ) → 24 + 512 ≤ length t → C ≤ length r → AsExample M (creditAfter c C batch (64 - batch)) t r

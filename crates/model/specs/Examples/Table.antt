@@ -11,7 +11,8 @@ use Rattle.model.specs.declared.Refusal.the-variants.{ReceiverClosed, At
 use Rattle.model.specs.declared.Answer.the-variants.{Done, Taken, Items, Empty, Disconnected, Held, Refused}
 use Rattle.model.specs.Examples.Example.{Example, keyAt, idOn, idAt, registers, sends, sendsUnsignalled, drops, plain, fair, batch, targeted, pauses, resumes, closes, pollsAll, held, lane, gave}
 
--- A ring of C places is filled; a send is still refused where one receive is left to the release batch, and is taken after it.
+-- A ring of C places is filled; a send is still refused where one receive is left to the release batch. After that receive as many are taken as the batch
+-- has, and no more.
 unfoldable pub creditAfter : ℕ → ℕ → ℕ → ℕ → Example
 creditAfter capacity C batch budget = record {
   capacity = capacity;
@@ -25,7 +26,8 @@ creditAfter capacity C batch budget = record {
       ∷ (batch - 1, plain, gave 5 0)
       ∷ (1, sends 0 6, Refused Full)
       ∷ (1, plain, gave 5 0)
-      ∷ (1, sends 0 6, Taken false)
+      ∷ (batch, sends 0 6, Taken false)
+      ∷ (1, sends 0 6, Refused Full)
       ∷ [];
 }
 
