@@ -25,9 +25,9 @@
 
    CREDIT. The places of items handed out are free for the sender once the lane gives them back: when they are as many as the release batch,
        min(max(C / 2 rounded up, 64), C)
-   (C up to 64, then 64 for 128, 128 for 256, and so on to 32,768 for 65,536); when a receive finds the lane empty; and on pause. All lanes do on
-   release_consumed and at the end of every batch, one of limit 0 too. So a send may still be refused 11 after a receive. No answer tells of credit that goes
-   back; after a batch or release_consumed, all of it has: that is when to try again.
+   (C itself up to C 64; then 64 for C 128, 128 for C 256, and so on to 32,768 for C 65,536); when a receive finds the lane empty; and on pause. All lanes
+   do on release_consumed and at the end of every batch, one of limit 0 too. So a send may still be refused 11 after a receive. No answer tells of credit
+   that goes back; after a batch or release_consumed, all of it has: that is when to try again.
 
    WHAT EVERY CALL RELIES ON. Each pointer is to as many words as its length says, `words` to FANRING_WORDS, aligned as uint64_t is; it is not NULL, also
    where the length is 0. `table`, `rings`, `out` and `words` do not overlap. Nothing else uses them during the call: one call at a time on a pair of

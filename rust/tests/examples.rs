@@ -1,4 +1,4 @@
-//! Document 01's checked examples, as far as answers show them.
+//! Document 01's checked examples, as far as answers show them, and the release batch of every C.
 
 use proved_fanring::{channel, Channel, LaneKey, Opening, TryRecvError, TrySendError};
 

@@ -1,4 +1,5 @@
--- Document 01's example of release batches, for every capacity: a full ring of C places takes no item until as many are received as the release batch has, and then it does.
+-- Document 01's example of release batches, for every capacity: before the last receive of a release batch a ring has room as if nothing had been received, and
+-- after it for as many items more as the batch has.
 -- Assumes nothing.
 use mathlib.Core.Path.{_≡_, refl, ap, ap₂, sym, _∙_, subst, fun-ext}
 use mathlib.Core.Bool.{Bool, true, false, not}
@@ -172,80 +173,99 @@ budget-next k = go (63 - k % 64) refl
     go zero e = omega (arith, e)
     go (suc p) e = omega (arith, e)
 
-all-sent : (C : ℕ) {k : ℕ} → suc k ≤ C → suc (C - 1) ≡ C
-all-sent C h = omega arith
-
 module _ (C : ℕ) where
-  -- n items are sent
-  abbrev sent : ℕ → State
-  sent n = only C (slotWith true true (repeat n 5) 0 0) [] 64 0
+  -- k items are taken, u of them not released; vs is what the ring holds. The first receive collects the lane
+  abbrev given : ℕ → ℕ → List ℕ → State
+  given zero u vs = only C (slotWith true true vs u 0) [] 64 0
+  given (suc k) u vs = only C (slotWith true false vs u (suc k % 64)) (0 ∷ []) (63 - k % 64) 1
 
-  -- k items of C are taken; u is the count of those that are not released
-  abbrev given : ℕ → ℕ → State
-  given zero u = only C (slotWith true true (repeat C 5) u 0) [] 64 0
-  given (suc k) u = only C (slotWith true false (repeat (C - suc k) 5) u (suc k % 64)) (0 ∷ []) (63 - k % 64) 1
+  one-sent : (k u v : ℕ) (vs : List ℕ) → length vs + u < C → (outcome (given k u vs) (sends 0 v)) .1 ≡ (Taken false, given k u (vs ++ (v ∷ [])))
+  one-sent zero u v vs h = send-taken C v true true vs u 0 [] 64 0 h
+  one-sent (suc k) u v vs h = send-taken C v true false vs u (suc k % 64) (0 ∷ []) (63 - k % 64) 1 h
 
-  sent-more : (n : ℕ) → n < C → (outcome (sent n) (sends 0 5)) .1 ≡ (Taken false, sent (suc n))
-  sent-more n h = send-taken C 5 true true (repeat n 5) 0 0 [] 64 0 (omega (arith, length-repeat n 5)) ∙ ap (λ (l : List ℕ). (Taken false, only C (slotWith true true l 0 0) [] 64 0)) (repeat-more n 5)
+  none-sent : (k u v : ℕ) (vs : List ℕ) → C ≤ length vs + u → (outcome (given k u vs) (sends 0 v)) .1 ≡ (Refused Full, given k u vs)
+  none-sent zero u v vs h = send-refused C v true true vs u 0 [] 64 0 h
+  none-sent (suc k) u v vs h = send-refused C v true false vs u (suc k % 64) (0 ∷ []) (63 - k % 64) 1 h
 
-  given-more : (k u : ℕ) → k < C → (outcome (given k u) plain) .1 ≡ (gave 5 0, given (suc k) (oneMore C u))
-  given-more zero u h =
-      ap (λ (l : List ℕ). (outcome (only C (slotWith true true l u 0) [] 64 0) plain) .1) (repeat-first C (C - 1) 5 (omega arith)) ∙ first-given C 5 (repeat (C - 1) 5) u
-  given-more (suc k) u h =
-      ap (λ (l : List ℕ). (outcome (only C (slotWith true false l u (suc k % 64)) (0 ∷ []) (63 - k % 64) 1) plain) .1) (repeat-first (C - suc k) (C - suc (suc k)) 5 (omega arith))
-      ∙ next-given C 5 (repeat (C - suc (suc k)) 5) u (suc k % 64) (63 - k % 64)
-      ∙ ap₂ (λ (b p : ℕ). (gave 5 0, only C (slotWith true false (repeat (C - suc (suc k)) 5) (oneMore C u) b) (0 ∷ []) p 1)) (burst-next (suc k)) (budget-next k)
+  one-given : (k u v : ℕ) (vs : List ℕ) → (outcome (given k u (v ∷ vs)) plain) .1 ≡ (gave v 0, given (suc k) (oneMore C u) vs)
+  one-given zero u v vs = first-given C v vs u
+  one-given (suc k) u v vs =
+      next-given C v vs u (suc k % 64) (63 - k % 64)
+      ∙ ap₂ (λ (b p : ℕ). (gave v 0, only C (slotWith true false vs (oneMore C u) b) (0 ∷ []) p 1)) (burst-next (suc k)) (budget-next k)
 
-  given-full : (k : ℕ) → k ≤ C → (outcome (given k k) (sends 0 6)) .1 ≡ (Refused Full, given k k)
-  given-full zero h = send-refused C 6 true true (repeat C 5) 0 0 [] 64 0 (omega (arith, length-repeat C 5))
-  given-full (suc k) h = send-refused C 6 true false (repeat (C - suc k) 5) (suc k) (suc k % 64) (0 ∷ []) (63 - k % 64) 1 (omega (arith, length-repeat (C - suc k) 5))
+  -- ---- so many sends
 
-  -- k of the C items come before the one with which the release batch is reached
-  module _ (k : ℕ) (e : releaseBatch C ≡ suc k) (h : suc k ≤ C) where
+  length-sent : (n v : ℕ) (vs : List ℕ) → length (vs ++ repeat n v) ≡ length vs + n
+  length-sent n v vs = length-append vs (repeat n v) ∙ ap (λ (m : ℕ). length vs + m) (length-repeat n v)
+
+  all-sent : (n k u v : ℕ) (vs : List ℕ) {t : State} {cs : List Call} {told : List Answer} → length vs + n + u ≤ C → Comes (given k u (vs ++ repeat n v)) cs told t
+      → Comes (given k u vs) (repeat n (sends 0 v) ++ cs) (repeat n (Taken false) ++ told) t
+  unfolding repeat
+  all-sent n k u v vs {t = t} {cs = cs} {told = told} h r =
+      subst (λ (s : State). Comes s (repeat n (sends 0 v) ++ cs) (repeat n (Taken false) ++ told) t) start
+      (several n (sends 0 v) (Taken false) (λ j. given k u (vs ++ repeat j v)) (λ j d. step j d) refl r)
+    where
+      start : given k u (vs ++ repeat 0 v) ≡ given k u vs
+      start = ap (λ (l : List ℕ). given k u l) (append-nil vs)
+
+      step : (j : ℕ) → j < n → (outcome (given k u (vs ++ repeat j v)) (sends 0 v)) .1 ≡ (Taken false, given k u (vs ++ repeat (suc j) v))
+      step j d =
+          one-sent k u v (vs ++ repeat j v) (omega (arith, length-sent j v vs))
+          ∙ ap (λ (l : List ℕ). (Taken false, given k u l)) (append-assoc vs (repeat j v) (v ∷ []) ∙ ap (λ (l : List ℕ). vs ++ l) (repeat-more j v))
+
+  -- ---- k items are taken before the one with which the release batch is reached; n are sent first
+  module _ (k n : ℕ) (e : releaseBatch C ≡ suc k) (l : suc k ≤ n) (h : n ≤ C) where
     counted : (j : ℕ) → j < k → oneMore C j ≡ suc j
     counted j d = rw (ne-eqb (j + 1) (releaseBatch C) (λ z. omega (arith, z, e))) (omega arith)
 
     returned : oneMore C k ≡ 0
     returned = rw (eq-eqb (k + 1) (releaseBatch C) (omega (arith, e)))
 
-    -- the ring after the batch and n more sends, and the state
-    abbrev ringAgain : ℕ → List ℕ
-    ringAgain n = repeat (C - suc k) 5 ++ repeat n 6
+    abbrev left : ℕ → List ℕ
+    left j = repeat (n - j) 5
 
-    abbrev sentAgain : ℕ → State
-    sentAgain n = only C (slotWith true false (ringAgain n) 0 (suc k % 64)) (0 ∷ []) (63 - k % 64) 1
+    none-taken : {t : State} {cs : List Call} {told : List Answer} → Comes (given 0 0 (left 0)) cs told t → Comes (given 0 0 (5 ∷ repeat (n - 1) 5)) cs told t
+    none-taken {t = t} {cs = cs} {told = told} r = subst (λ (m : List ℕ). Comes (given 0 0 m) cs told t) (repeat-first (n - 0) (n - 1) 5 (omega arith)) r
 
-    length-again : (n : ℕ) → length (ringAgain n) ≡ C - suc k + n
-    length-again n = length-append {A = ℕ} (repeat (C - suc k) 5) (repeat n 6) ∙ ap₂ (λ (a b : ℕ). a + b) (length-repeat (C - suc k) 5) (length-repeat n 6)
+    one-taken : (j : ℕ) → j < n → (vs : List ℕ) (u : ℕ) → (outcome (given j u (left j ++ vs)) plain) .1 ≡ (gave 5 0, given (suc j) (oneMore C u) (left (suc j) ++ vs))
+    one-taken j d vs u =
+        ap (λ (m : List ℕ). (outcome (given j u (m ++ vs)) plain) .1) (repeat-first (n - j) (n - suc j) 5 (omega arith))
+        ∙ one-given j u 5 (left (suc j) ++ vs)
 
-    again-more : (n : ℕ) → n < releaseBatch C → (outcome (sentAgain n) (sends 0 6)) .1 ≡ (Taken false, sentAgain (suc n))
-    again-more n d =
-        send-taken C 6 true false (ringAgain n) 0 (suc k % 64) (0 ∷ []) (63 - k % 64) 1 (omega (arith, length-again n, e))
-        ∙ ap (λ (l : List ℕ). (Taken false, only C (slotWith true false l 0 (suc k % 64)) (0 ∷ []) (63 - k % 64) 1))
-        (append-assoc {A = ℕ} (repeat (C - suc k) 5) (repeat n 6) (6 ∷ []) ∙ ap (λ (l : List ℕ). repeat (C - suc k) 5 ++ l) (repeat-more n 6))
+    taken-alone : (j : ℕ) → j < k → (outcome (given j j (left j)) plain) .1 ≡ (gave 5 0, given (suc j) (suc j) (left (suc j)))
+    taken-alone j d =
+        ap (λ (m : List ℕ). (outcome (given j j m) plain) .1) (sym (append-nil (left j)))
+        ∙ one-taken j (omega arith) [] j
+        ∙ ap₂ (λ (u : ℕ) (m : List ℕ). (gave 5 0, given (suc j) u m)) (counted j d) (append-nil (left (suc j)))
 
-    again-full : (outcome (sentAgain (releaseBatch C)) (sends 0 6)) .1 ≡ (Refused Full, sentAgain (releaseBatch C))
-    again-full = send-refused C 6 true false (ringAgain (releaseBatch C)) 0 (suc k % 64) (0 ∷ []) (63 - k % 64) 1 (omega (arith, length-again (releaseBatch C), e))
+    -- what the ring holds before the last receive, after it and at the end
+    abbrev before : List ℕ
+    before = left k ++ repeat (C - n) 6
 
-    none-again : given (suc k) 0 ≡ sentAgain 0
-    unfolding repeat
-    none-again = ap (λ (l : List ℕ). only C (slotWith true false l 0 (suc k % 64)) (0 ∷ []) (63 - k % 64) 1) (sym (append-nil {A = ℕ} (repeat (C - suc k) 5)))
+    abbrev after : List ℕ
+    after = left (suc k) ++ repeat (C - n) 6
+
+    abbrev last : State
+    last = given (suc k) 0 (after ++ repeat (releaseBatch C) 6)
+
+    length-left : (j : ℕ) → length (left j ++ repeat (C - n) 6) ≡ n - j + (C - n)
+    length-left j = length-sent (C - n) 6 (left j) ∙ ap (λ (m : ℕ). m + (C - n)) (length-repeat (n - j) 5)
 
     credit-run : Comes (only C (slotWith false false [] 0 0) [] 64 0)
-        (sends 0 5 ∷ repeat (C - 1) (sends 0 5) ++ (sends 0 6 ∷ repeat k plain ++ (sends 0 6 ∷ plain ∷ repeat (releaseBatch C) (sends 0 6) ++ (sends 0 6 ∷ []))))
-        (Taken true ∷ repeat (C - 1) (Taken false) ++ (Refused Full ∷ repeat k (gave 5 0) ++ (Refused Full ∷ gave 5 0 ∷ repeat (releaseBatch C) (Taken false) ++ (Refused Full ∷ []))))
-        (sentAgain (releaseBatch C))
-    unfolding repeat
+        (sends 0 5 ∷ repeat (n - 1) (sends 0 5) ++ (repeat k plain ++ (repeat (C - n) (sends 0 6) ++ (sends 0 6 ∷ plain ∷ repeat (releaseBatch C) (sends 0 6) ++ (sends 0 6 ∷ [])))))
+        (Taken true ∷ repeat (n - 1) (Taken false) ++ (repeat k (gave 5 0) ++ (repeat (C - n) (Taken false) ++ (Refused Full ∷ gave 5 0 ∷ repeat (releaseBatch C) (Taken false) ++ (Refused Full ∷ [])))))
+        last
     credit-run =
         then (send-taken C 5 false false [] 0 0 [] 64 0 (omega arith))
-        (several (C - 1) (sends 0 5) (Taken false) (λ n. sent (suc n)) (λ n d. sent-more (suc n) (omega arith)) (ap (λ (n : ℕ). sent n) (all-sent C h))
-        (then (given-full 0 (omega arith))
-        (several k plain (gave 5 0) (λ j. given j j) (λ j d. given-more j j (omega arith) ∙ ap (λ (u : ℕ). (gave 5 0, given (suc j) u)) (counted j d)) refl
-        (then (given-full k (omega arith))
-        (then (given-more k k h ∙ ap (λ (u : ℕ). (gave 5 0, given (suc k) u)) returned ∙ ap (λ (s : State). (gave 5 0, s)) none-again)
-        (several (releaseBatch C) (sends 0 6) (Taken false) sentAgain again-more refl
-        (then again-full
-        (done (sentAgain (releaseBatch C))))))))))
+        (all-sent (n - 1) 0 0 5 (5 ∷ []) (omega arith)
+        (none-taken
+        (several k plain (gave 5 0) (λ j. given j j (left j)) taken-alone refl
+        (all-sent (C - n) k k 6 (left k) (omega (arith, length-repeat (n - k) 5))
+        (then (none-sent k k 6 before (omega (arith, length-left k)))
+        (then (one-taken k (omega arith) (repeat (C - n) 6) k ∙ ap (λ (u : ℕ). (gave 5 0, given (suc k) u after)) returned)
+        (all-sent (releaseBatch C) (suc k) 0 6 after (omega (arith, length-left (suc k), e))
+        (then (none-sent (suc k) 0 6 (after ++ repeat (releaseBatch C) 6) (omega (arith, length-sent (releaseBatch C) 6 after, length-left (suc k), e)))
+        (done last)))))))))
 
 -- ---- every capacity
 
@@ -267,23 +287,23 @@ batch-budget C n k p e = go (leb n 7) refl
         let l : n ≡ 8 + (n - 8) = omega (arith, leb-false n 7 h) in
         batch-whole C (2 ^ (n - 8)) k (p ∙ ap (λ (j : ℕ). 2 ^ j) l ∙ pow-add 2 8 (n - 8)) e
 
-registered : (c C batch p : ℕ)
-    → (outcome (openedState (openingOf (creditAfter c C batch p))) registers) .1 ≡ (lane 0 0, only (nextPowerOfTwo c) (slotWith false false [] 0 0) [] 64 0)
+registered : (c C batch sent p : ℕ)
+    → (outcome (openedState (openingOf (creditAfter c C batch sent p))) registers) .1 ≡ (lane 0 0, only (nextPowerOfTwo c) (slotWith false false [] 0 0) [] 64 0)
 unfolding compute computeExamples creditAfter
-registered c C batch p = refl
+registered c C batch sent p = refl
 
-batch-within : (C : ℕ) → 1 ≤ C → (releaseBatch C ≡ suc (releaseBatch C - 1)) × (suc (releaseBatch C - 1) ≤ C)
+batch-within : (C : ℕ) → 1 ≤ C → releaseBatch C ≡ suc (releaseBatch C - 1)
 unfolding releaseBatch
-batch-within C h = (omega arith, omega arith)
+batch-within C h = omega arith
 
-pub credit-after : (c : ℕ)
-    → let C = nextPowerOfTwo c in let e = creditAfter c C (releaseBatch C) (64 - releaseBatch C) in found e ≡ expected e
+pub credit-after : (c sent : ℕ)
+    → let C = nextPowerOfTwo c in releaseBatch C ≤ sent → sent ≤ C → let e = creditAfter c C (releaseBatch C) sent (64 - releaseBatch C) in found e ≡ expected e
 unfolding found expected creditAfter saidCalls saidAnswers eachTime repeat
-credit-after c =
+credit-after c sent l h =
     let C = nextPowerOfTwo c in
     let k = releaseBatch C - 1 in
     let n = doubled-power 16 0 1 c refl in
     let b = batch-within C (omega (arith, n .2, pow-pos (n .0))) in
-    let r = then (registered c C (releaseBatch C) (64 - releaseBatch C)) (credit-run C k (b .0) (b .1)) in
-    ap₂ (λ (l : List Answer) (m : ℕ). (l, m)) (r .answered)
-    (ap (λ (s : State). s .budget) (r .leaves) ∙ batch-budget C (n .0) k (n .2) (b .0) ∙ ap (λ (m : ℕ). 64 - m) (sym (b .0)))
+    let r = then (registered c C (releaseBatch C) sent (64 - releaseBatch C)) (credit-run C k sent b (omega (arith, b)) h) in
+    ap₂ (λ (a : List Answer) (m : ℕ). (a, m)) (r .answered)
+    (ap (λ (s : State). s .budget) (r .leaves) ∙ batch-budget C (n .0) k (n .2) b ∙ ap (λ (m : ℕ). 64 - m) (sym b))

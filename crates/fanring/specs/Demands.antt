@@ -106,7 +106,7 @@ MixedAsChecked = (x : Run) (ms : List (Way × Call)) → map (λ m. m .1) ms ≡
 abbrev pub ExamplesHold : Type 0
 ExamplesHold = ExamplesOf checkedCalls
 
--- document 02, N3: "Results for every capacity are those of the table.": of the calls, on any lent stores of enough length
+-- document 02, N3: "Results for every capacity are those of the table.": as sends and plain receives of one lane show them, on any lent stores of enough length
 abbrev pub CreditByTable : Type 0
 CreditByTable = CreditOf checkedCalls
 

@@ -35,7 +35,7 @@ use Rattle.store.specs.View.{view}
 use Rattle.store.specs.Order.{StoreInOrder}
 use Rattle.opening.specs.Opening.{openStore}
 use Rattle.refinement.specs.Runs.{StoreCalls, listsOf, viewedOf, storesAfter}
-use Rattle.refinement.specs.AsRules.{lentOf, EachCallAsRules, ListsAsRules, AsExample, ExamplesOf, CreditOf}
+use Rattle.refinement.specs.AsRules.{lentOf, EachCallAsRules, ListsAsRules, AsExample, ExamplesOf, CreditAt, CreditOf}
 use Rattle.opening.proofs.OpeningLaws.{open-answers-alike, open-view, open-in-order}
 use Rattle.refinement.proofs.CallLaws.{output-alike}
 use Rattle.refinement.proofs.AsInner.{AsInner, words-alike, handed-alike, stays-in-order}
@@ -122,18 +122,20 @@ module _ (M : StoreCalls) (i : AsInner M) where
 
   -- ---- every capacity
 
-  credit-at : (c : ℕ) → 1 ≤ c → c ≤ 65536 → (t r : List ℕ) → let C = nextPowerOfTwo c in
-      24 + 512 ≤ length t → C ≤ length r → AsExample M (creditAfter c C (releaseBatch C) (64 - releaseBatch C)) t r
+  credit-at : (c : ℕ) → 1 ≤ c → c ≤ 65536 → CreditAt M c
   unfolding creditAfter sizesTaken
-  credit-at c a b t r m n =
+  credit-at c a b =
       let C = nextPowerOfTwo c in
-      let e = creditAfter c C (releaseBatch C) (64 - releaseBatch C) in
-      let k : sizesTaken e ≡ true = rw (le-leb 1 c a, le-leb c 65536 b) in
-      as-example M i e (credit-after c) t r (example-accepted e k t r (omega arith) (omega arith))
+      let sizes : both (both (leb 1 c) (leb c 65536)) (both (leb 1 1) (leb 1 8192)) ≡ true = rw (le-leb 1 c a, le-leb c 65536 b) in
+      record {
+        C = C;
+        batch = releaseBatch C;
+        entry = as-the-table c a b;
+        shown = λ sent h k t r m n.
+            let e = creditAfter c C (releaseBatch C) sent (64 - releaseBatch C) in
+            as-example M i e (credit-after c sent h k) t r (example-accepted e sizes t r (omega arith) (omega arith));
+      }
 
   pub credit-of : CreditOf M
   unfolding CreditOf
-  credit-of c a b C batch e t r m n =
-      let same = sym (as-the-table c a b) ∙ e in
-      let entry : _≡_ {A = ℕ × ℕ} (nextPowerOfTwo c, releaseBatch (nextPowerOfTwo c)) (C, batch) = cc in
-      subst (λ (z : ℕ × ℕ). z .0 ≤ length r → AsExample M (creditAfter c (z .0) (z .1) (64 - z .1)) t r) entry (credit-at c a b t r m) n
+  credit-of = credit-at

@@ -66,9 +66,15 @@ pub record AsExample (M : StoreCalls) (e : Example) (t r : List ℕ) : Type 0 wh
 unfoldable pub ExamplesOf : StoreCalls → Type 0
 ExamplesOf M = Each (λ e. (t r : List ℕ) → 24 * e .slots + 512 ≤ length t → e .slots * nextPowerOfTwo (e .capacity) ≤ length r → AsExample M e t r) table
 
--- document 02, N3: "Results for every capacity are those of the table.": of each capacity with its entry, C and batch, on any two stores that are long enough
--- for one lane. The lane takes C items and refuses the next; it still refuses one where a receive is left to the batch, and after that receive takes as many
--- as the batch has and refuses the next. So the calls show both numbers.
+-- The release batch that calls show at a capacity: the capacity has an entry in the table of release batches, and the run `creditAfter` answers by its C and
+-- its batch, on any two stores that are long enough for one lane and however many items are sent first.
+pub record CreditAt (M : StoreCalls) (c : ℕ) : Type 0 where
+  pub C : ℕ
+  pub batch : ℕ
+  pub entry : entryFor c entries ≡ some (C, batch)
+  pub shown : (sent : ℕ) → batch ≤ sent → sent ≤ C → (t r : List ℕ) → 24 + 512 ≤ length t → C ≤ length r
+      → AsExample M (creditAfter c C batch sent (64 - batch)) t r
+
+-- document 02, N3: "Results for every capacity are those of the table.": as sends and plain receives of one lane show them
 unfoldable pub CreditOf : StoreCalls → Type 0
-CreditOf M = (c : ℕ) → 1 ≤ c → c ≤ 65536 → (C batch : ℕ) → entryFor c entries ≡ some (C, batch)
-    → (t r : List ℕ) → 24 + 512 ≤ length t → C ≤ length r → AsExample M (creditAfter c C batch (64 - batch)) t r
+CreditOf M = (c : ℕ) → 1 ≤ c → c ≤ 65536 → CreditAt M c

@@ -3,7 +3,7 @@
 use mathlib.Core.Path.{_≡_, refl}
 use mathlib.Core.Bool.{Bool, true, false}
 use mathlib.Core.List.{List, [], _∷_}
-use mathlib.Core.Option.{some}
+use mathlib.Core.Option.{none, some}
 use Prim.Native.Nat.{ℕ, zero, suc, _+_, _<_, _≤_}
 use native.Mathlib.Omega.{arith}
 use borrow.Author.Tests.{le-leb}
@@ -55,7 +55,15 @@ pub as-the-table : AsTheTable
 unfolding last
 as-the-table c h m = rw made-from (looked-up 16 1 c m)
 
--- ---- document 01's examples
+-- ---- examples
+
+-- in a table that no formula makes: the first entry that is not below a capacity, and none where all are
+others : List (ℕ × ℕ)
+others = (4, 9) ∷ (6, 1) ∷ (8, 3) ∷ []
+
+looks-up : (entryFor 3 others ≡ some (4, 9)) × (entryFor 4 others ≡ some (4, 9)) × (entryFor 5 others ≡ some (6, 1)) × (entryFor 9 others ≡ none)
+unfolding others entryFor
+looks-up = (refl, refl, refl, refl)
 
 pub examples-agree : agree examples ≡ true
 unfolding doubledUntil releaseBatch

@@ -7,8 +7,7 @@ use crate::num;
 // The least batch, where the ring is not smaller.
 const MIN_RELEASE_BATCH: u64 = 64;
 
-// min(max(C / 2 rounded up, 64), C). The greater of the two by a test: by a selection, as in `least`,
-// receives take more instructions.
+// min(max(C / 2 rounded up, 64), C). The return where half of C is below 64 stands for the max.
 pub fn release_batch(capacity: u64) -> u64
     requires { ⌜ Capacity capacity ⌝ }
     ensures { λ r. ⌜ r ≡ releaseBatch capacity ⌝ }

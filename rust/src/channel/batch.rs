@@ -105,7 +105,7 @@ impl Channel {
 
     /// Release the places of all items that were taken, in all lanes, so that senders can use them again.
     ///
-    /// Otherwise a lane's places come back in batches: when as many were taken as the release batch, which is
+    /// Otherwise a lane's places come back in batches: when as many were taken as the release batch,
     /// min(max(C / 2 rounded up, 64), C) with C the [capacity](Self::capacity_per_sender); when a receive finds the
     /// lane empty; on [`pause`](Self::pause); and with every [`try_recv_batch_into`](Self::try_recv_batch_into).
     ///

@@ -11,19 +11,19 @@ use Rattle.model.specs.declared.Refusal.the-variants.{ReceiverClosed, At
 use Rattle.model.specs.declared.Answer.the-variants.{Done, Taken, Items, Empty, Disconnected, Held, Refused}
 use Rattle.model.specs.Examples.Example.{Example, keyAt, idOn, idAt, registers, sends, sendsUnsignalled, drops, plain, fair, batch, targeted, pauses, resumes, closes, pollsAll, held, lane, gave}
 
--- A ring of C places is filled; a send is still refused where one receive is left to the release batch. After that receive as many are taken as the batch
--- has, and no more.
-unfoldable pub creditAfter : ℕ → ℕ → ℕ → ℕ → Example
-creditAfter capacity C batch budget = record {
+-- Of a ring of C places so many items are sent, from the release batch to C. Where one receive is left to the batch, the ring takes what it has room for, as if
+-- nothing had been received, and refuses the next. After that receive it takes as many as the batch has, and refuses the next.
+unfoldable pub creditAfter : ℕ → ℕ → ℕ → ℕ → ℕ → Example
+creditAfter capacity C batch sent budget = record {
   capacity = capacity;
   slots = 1;
   generation = 0;
   budget = budget;
   said = (1, registers, lane 0 0)
       ∷ (1, sends 0 5, Taken true)
-      ∷ (C - 1, sends 0 5, Taken false)
-      ∷ (1, sends 0 6, Refused Full)
+      ∷ (sent - 1, sends 0 5, Taken false)
       ∷ (batch - 1, plain, gave 5 0)
+      ∷ (C - sent, sends 0 6, Taken false)
       ∷ (1, sends 0 6, Refused Full)
       ∷ (1, plain, gave 5 0)
       ∷ (batch, sends 0 6, Taken false)
@@ -34,11 +34,13 @@ creditAfter capacity C batch budget = record {
 unfoldable pub table : List Example
 table =
     -- "P Capacity 1: batch 1. P 2: 2. P 64: 64. P 100: C 128, batch 64. P 256: 128."
-    creditAfter 1 1 1 63
-    ∷ creditAfter 2 2 2 62
-    ∷ creditAfter 64 64 64 0
-    ∷ creditAfter 100 128 64 0
-    ∷ creditAfter 256 256 128 0
+    creditAfter 1 1 1 1 63
+    ∷ creditAfter 2 2 2 2 62
+    ∷ creditAfter 64 64 64 64 0
+    ∷ creditAfter 100 128 64 128 0
+    ∷ creditAfter 100 128 64 100 0
+    ∷ creditAfter 256 256 128 256 0
+    ∷ creditAfter 256 256 128 128 0
     -- "P C 4, sends 1 to 4: taken; 5: refusal 11. After one to three plain receives still 11; after the fourth, taken."
     ∷ record {
       capacity = 4;
