@@ -40,7 +40,6 @@ table =
     ∷ creditAfter 100 128 64 128 0
     ∷ creditAfter 100 128 64 100 0
     ∷ creditAfter 256 256 128 256 0
-    ∷ creditAfter 256 256 128 128 0
     -- "P C 4, sends 1 to 4: taken; 5: refusal 11. After one to three plain receives still 11; after the fourth, taken."
     ∷ record {
       capacity = 4;
