@@ -7,14 +7,13 @@ use crate::num;
 // The least batch, where the ring is not smaller.
 const MIN_RELEASE_BATCH: u64 = 64;
 
-// min(max(C / 2 rounded up, 64), C). The return where half of C is below 64 stands for the max.
+// min(max(C / 2 rounded up, 64), C)
 pub fn release_batch(capacity: u64) -> u64
     requires { ⌜ Capacity capacity ⌝ }
     ensures { λ r. ⌜ r ≡ releaseBatch capacity ⌝ }
 {
-    let half = (capacity + 1) / 2;
-    if half < MIN_RELEASE_BATCH {
-        return num::least(MIN_RELEASE_BATCH, capacity);
-    }
-    num::least(half, capacity)
+    num::least(
+        num::greatest((capacity + 1) / 2, MIN_RELEASE_BATCH),
+        capacity,
+    )
 }
