@@ -3,10 +3,10 @@
 -- Assumes nothing.
 use mathlib.Core.Path.{_≡_, refl, ap, ap₂, sym, _∙_, subst, fun-ext}
 use mathlib.Core.Bool.{Bool, true, false, not}
-use mathlib.Core.List.{List, [], _∷_, _++_, append-assoc, append-nil}
+use mathlib.Core.List.{List, [], _∷_, _++_}
 use Prim.Native.Nat.{ℕ, zero, suc, _+_, _-_, _*_, _/_, _^_, _%_, _<_, _≤_}
 use native.Mathlib.Omega.{arith}
-use lib.ListN.{length, length-append}
+use lib.ListN.{length}
 use lib.Dec.{eqb, leb}
 use lib.Pow.{pow-pos, pow-mono, pow-add}
 use borrow.Author.Tests.{eq-eqb, ne-eqb, le-leb, lt-leb, leb-true, leb-false}
@@ -134,13 +134,6 @@ then {cs = cs} h r = record {
   leaves = ap (λ (w : Answer × State). afterList theRules (w .1) cs) h ∙ r .leaves;
 }
 
--- the same call n times, where f k is the state after k of them
-several : (n : ℕ) (c : Call) (a : Answer) (f : ℕ → State) {t u : State} {cs : List Call} {told : List Answer}
-    → ((k : ℕ) → k < n → (outcome (f k) c) .1 ≡ (a, f (suc k))) → f n ≡ t → Comes t cs told u → Comes (f 0) (repeat n c ++ cs) (repeat n a ++ told) u
-unfolding repeat
-several zero c a f {u = u} {cs = cs} {told = told} h e r = subst (λ (s : State). Comes s cs told u) (sym e) r
-several (suc n) c a f h e r = then (h 0 (omega arith)) (several n c a (λ k. f (suc k)) (λ k d. h (suc k) (omega arith)) e r)
-
 -- ---- the run
 
 length-repeat : (n v : ℕ) → length (repeat n v) ≡ n
@@ -152,10 +145,6 @@ repeat-more : (n v : ℕ) → repeat n v ++ (v ∷ []) ≡ repeat (suc n) v
 unfolding repeat
 repeat-more zero v = refl
 repeat-more (suc n) v = ap (λ (l : List ℕ). v ∷ l) (repeat-more n v)
-
-repeat-first : (n m v : ℕ) → n ≡ suc m → repeat n v ≡ v ∷ repeat m v
-unfolding repeat
-repeat-first n m v e = ap (λ (k : ℕ). repeat k v) e
 
 -- a burst is 64 items, and so is what the budget allows
 burst-next : (k : ℕ) → if (leb 63 (k % 64)) 0 (k % 64 + 1) ≡ suc k % 64
@@ -174,102 +163,82 @@ budget-next k = go (63 - k % 64) refl
     go (suc p) e = omega (arith, e)
 
 module _ (C : ℕ) where
-  -- k items are taken, u of them not released; vs is what the ring holds. The first receive collects the lane
-  abbrev given : ℕ → ℕ → List ℕ → State
-  given zero u vs = only C (slotWith true true vs u 0) [] 64 0
-  given (suc k) u vs = only C (slotWith true false vs u (suc k % 64)) (0 ∷ []) (63 - k % 64) 1
+  -- k items are taken, u of them not released, and n are in the ring. The first receive collects the lane
+  abbrev given : ℕ → ℕ → ℕ → State
+  given zero u n = only C (slotWith true true (repeat n 5) u 0) [] 64 0
+  given (suc k) u n = only C (slotWith true false (repeat n 5) u (suc k % 64)) (0 ∷ []) (63 - k % 64) 1
 
-  one-sent : (k u v : ℕ) (vs : List ℕ) → length vs + u < C → (outcome (given k u vs) (sends 0 v)) .1 ≡ (Taken false, given k u (vs ++ (v ∷ [])))
-  one-sent zero u v vs h = send-taken C v true true vs u 0 [] 64 0 h
-  one-sent (suc k) u v vs h = send-taken C v true false vs u (suc k % 64) (0 ∷ []) (63 - k % 64) 1 h
+  one-sent : (k u n : ℕ) → n + u < C → (outcome (given k u n) (sends 0 5)) .1 ≡ (Taken false, given k u (suc n))
+  one-sent zero u n h =
+      send-taken C 5 true true (repeat n 5) u 0 [] 64 0 (omega (arith, length-repeat n 5))
+      ∙ ap (λ (l : List ℕ). (Taken false, only C (slotWith true true l u 0) [] 64 0)) (repeat-more n 5)
+  one-sent (suc k) u n h =
+      send-taken C 5 true false (repeat n 5) u (suc k % 64) (0 ∷ []) (63 - k % 64) 1 (omega (arith, length-repeat n 5))
+      ∙ ap (λ (l : List ℕ). (Taken false, only C (slotWith true false l u (suc k % 64)) (0 ∷ []) (63 - k % 64) 1)) (repeat-more n 5)
 
-  none-sent : (k u v : ℕ) (vs : List ℕ) → C ≤ length vs + u → (outcome (given k u vs) (sends 0 v)) .1 ≡ (Refused Full, given k u vs)
-  none-sent zero u v vs h = send-refused C v true true vs u 0 [] 64 0 h
-  none-sent (suc k) u v vs h = send-refused C v true false vs u (suc k % 64) (0 ∷ []) (63 - k % 64) 1 h
+  none-sent : (k u n : ℕ) → n + u ≡ C → (outcome (given k u n) (sends 0 5)) .1 ≡ (Refused Full, given k u n)
+  none-sent zero u n h = send-refused C 5 true true (repeat n 5) u 0 [] 64 0 (omega (arith, length-repeat n 5))
+  none-sent (suc k) u n h = send-refused C 5 true false (repeat n 5) u (suc k % 64) (0 ∷ []) (63 - k % 64) 1 (omega (arith, length-repeat n 5))
 
-  one-given : (k u v : ℕ) (vs : List ℕ) → (outcome (given k u (v ∷ vs)) plain) .1 ≡ (gave v 0, given (suc k) (oneMore C u) vs)
-  one-given zero u v vs = first-given C v vs u
-  one-given (suc k) u v vs =
-      next-given C v vs u (suc k % 64) (63 - k % 64)
-      ∙ ap₂ (λ (b p : ℕ). (gave v 0, only C (slotWith true false vs (oneMore C u) b) (0 ∷ []) p 1)) (burst-next (suc k)) (budget-next k)
-
-  -- ---- so many sends
-
-  length-sent : (n v : ℕ) (vs : List ℕ) → length (vs ++ repeat n v) ≡ length vs + n
-  length-sent n v vs = length-append vs (repeat n v) ∙ ap (λ (m : ℕ). length vs + m) (length-repeat n v)
-
-  all-sent : (n k u v : ℕ) (vs : List ℕ) {t : State} {cs : List Call} {told : List Answer} → length vs + n + u ≤ C → Comes (given k u (vs ++ repeat n v)) cs told t
-      → Comes (given k u vs) (repeat n (sends 0 v) ++ cs) (repeat n (Taken false) ++ told) t
+  one-given : (k u n : ℕ) → (outcome (given k u (suc n)) plain) .1 ≡ (gave 5 0, given (suc k) (oneMore C u) n)
   unfolding repeat
-  all-sent n k u v vs {t = t} {cs = cs} {told = told} h r =
-      subst (λ (s : State). Comes s (repeat n (sends 0 v) ++ cs) (repeat n (Taken false) ++ told) t) start
-      (several n (sends 0 v) (Taken false) (λ j. given k u (vs ++ repeat j v)) (λ j d. step j d) refl r)
-    where
-      start : given k u (vs ++ repeat 0 v) ≡ given k u vs
-      start = ap (λ (l : List ℕ). given k u l) (append-nil vs)
+  one-given zero u n = first-given C 5 (repeat n 5) u
+  one-given (suc k) u n =
+      next-given C 5 (repeat n 5) u (suc k % 64) (63 - k % 64)
+      ∙ ap₂ (λ (b p : ℕ). (gave 5 0, only C (slotWith true false (repeat n 5) (oneMore C u) b) (0 ∷ []) p 1)) (burst-next (suc k)) (budget-next k)
 
-      step : (j : ℕ) → j < n → (outcome (given k u (vs ++ repeat j v)) (sends 0 v)) .1 ≡ (Taken false, given k u (vs ++ repeat (suc j) v))
-      step j d =
-          one-sent k u v (vs ++ repeat j v) (omega (arith, length-sent j v vs))
-          ∙ ap (λ (l : List ℕ). (Taken false, given k u l)) (append-assoc vs (repeat j v) (v ∷ []) ∙ ap (λ (l : List ℕ). vs ++ l) (repeat-more j v))
+  -- so many sends, from n items in the ring to `after`
+  all-sent : (m k u n after : ℕ) {t : State} {cs : List Call} {told : List Answer} → n + m ≡ after → after + u ≤ C → Comes (given k u after) cs told t
+      → Comes (given k u n) (repeat m (sends 0 5) ++ cs) (repeat m (Taken false) ++ told) t
+  unfolding repeat
+  all-sent zero k u n after {t = t} {cs = cs} {told = told} e h r = let same : after ≡ n = omega (arith, e) in subst (λ (x : ℕ). Comes (given k u x) cs told t) same r
+  all-sent (suc m) k u n after e h r = then (one-sent k u n (omega (arith, e))) (all-sent m k u (suc n) after (omega (arith, e)) h r)
 
-  -- ---- k items are taken before the one with which the release batch is reached; n are sent first
-  module _ (k n : ℕ) (e : releaseBatch C ≡ suc k) (l : suc k ≤ n) (h : n ≤ C) where
-    counted : (j : ℕ) → j < k → oneMore C j ≡ suc j
-    counted j d = rw (ne-eqb (j + 1) (releaseBatch C) (λ z. omega (arith, z, e))) (omega arith)
+  -- so many receives, none of which reaches the release batch: from k items that are taken to `end`
+  all-given : (m k end n left : ℕ) {t : State} {cs : List Call} {told : List Answer} → k + m ≡ end → left + m ≡ n → end < releaseBatch C → Comes (given end end left) cs told t
+      → Comes (given k k n) (repeat m plain ++ cs) (repeat m (gave 5 0) ++ told) t
+  unfolding repeat
+  all-given zero k end n left {t = t} {cs = cs} {told = told} e l h r =
+      let same : end ≡ k = omega (arith, e) in
+      let rest : left ≡ n = omega (arith, l) in
+      subst (λ (x : ℕ). Comes (given k k x) cs told t) rest (subst (λ (x : ℕ). Comes (given x x left) cs told t) same r)
+  all-given (suc m) k end n left e l h r =
+      let one : n ≡ suc (left + m) = omega (arith, l) in
+      let count : oneMore C k ≡ suc k = rw (ne-eqb (k + 1) (releaseBatch C) (λ z. omega (arith, z, e))) (omega arith) in
+      then (ap (λ (x : ℕ). (outcome (given k k x) plain) .1) one ∙ one-given k k (left + m) ∙ ap (λ (u : ℕ). (gave 5 0, given (suc k) u (left + m))) count)
+      (all-given m (suc k) end (left + m) left (omega (arith, e)) refl h r)
 
+  -- k items are taken before the one with which the release batch is reached; of n items that are sent first, j are taken before the ring is filled
+  module _ (k n j : ℕ) (e : releaseBatch C ≡ suc k) (b : suc k ≤ C) (some : 1 ≤ n) (most : n ≤ C) (d : j ≤ n) (l : j ≤ k) where
     returned : oneMore C k ≡ 0
     returned = rw (eq-eqb (k + 1) (releaseBatch C) (omega (arith, e)))
 
-    abbrev left : ℕ → List ℕ
-    left j = repeat (n - j) 5
-
-    none-taken : {t : State} {cs : List Call} {told : List Answer} → Comes (given 0 0 (left 0)) cs told t → Comes (given 0 0 (5 ∷ repeat (n - 1) 5)) cs told t
-    none-taken {t = t} {cs = cs} {told = told} r = subst (λ (m : List ℕ). Comes (given 0 0 m) cs told t) (repeat-first (n - 0) (n - 1) 5 (omega arith)) r
-
-    one-taken : (j : ℕ) → j < n → (vs : List ℕ) (u : ℕ) → (outcome (given j u (left j ++ vs)) plain) .1 ≡ (gave 5 0, given (suc j) (oneMore C u) (left (suc j) ++ vs))
-    one-taken j d vs u =
-        ap (λ (m : List ℕ). (outcome (given j u (m ++ vs)) plain) .1) (repeat-first (n - j) (n - suc j) 5 (omega arith))
-        ∙ one-given j u 5 (left (suc j) ++ vs)
-
-    taken-alone : (j : ℕ) → j < k → (outcome (given j j (left j)) plain) .1 ≡ (gave 5 0, given (suc j) (suc j) (left (suc j)))
-    taken-alone j d =
-        ap (λ (m : List ℕ). (outcome (given j j m) plain) .1) (sym (append-nil (left j)))
-        ∙ one-taken j (omega arith) [] j
-        ∙ ap₂ (λ (u : ℕ) (m : List ℕ). (gave 5 0, given (suc j) u m)) (counted j d) (append-nil (left (suc j)))
-
-    -- what the ring holds before the last receive, after it and at the end
-    abbrev before : List ℕ
-    before = left k ++ repeat (C - n) 6
-
-    abbrev after : List ℕ
-    after = left (suc k) ++ repeat (C - n) 6
-
-    abbrev last : State
-    last = given (suc k) 0 (after ++ repeat (releaseBatch C) 6)
-
-    length-left : (j : ℕ) → length (left j ++ repeat (C - n) 6) ≡ n - j + (C - n)
-    length-left j = length-sent (C - n) 6 (left j) ∙ ap (λ (m : ℕ). m + (C - n)) (length-repeat (n - j) 5)
+    last-given : (outcome (given k k (C - k)) plain) .1 ≡ (gave 5 0, given (suc k) 0 (C - suc k))
+    last-given =
+        let one : C - k ≡ suc (C - suc k) = omega arith in
+        ap (λ (x : ℕ). (outcome (given k k x) plain) .1) one ∙ one-given k k (C - suc k) ∙ ap (λ (u : ℕ). (gave 5 0, given (suc k) u (C - suc k))) returned
 
     credit-run : Comes (only C (slotWith false false [] 0 0) [] 64 0)
-        (sends 0 5 ∷ repeat (n - 1) (sends 0 5) ++ (repeat k plain ++ (repeat (C - n) (sends 0 6) ++ (sends 0 6 ∷ plain ∷ repeat (releaseBatch C) (sends 0 6) ++ (sends 0 6 ∷ [])))))
-        (Taken true ∷ repeat (n - 1) (Taken false) ++ (repeat k (gave 5 0) ++ (repeat (C - n) (Taken false) ++ (Refused Full ∷ gave 5 0 ∷ repeat (releaseBatch C) (Taken false) ++ (Refused Full ∷ [])))))
-        last
+        (sends 0 5 ∷ repeat (n - 1) (sends 0 5) ++ (repeat j plain ++ (repeat (C - n) (sends 0 5) ++ (sends 0 5 ∷ repeat (k - j) plain ++ (sends 0 5 ∷ plain ∷ repeat (releaseBatch C) (sends 0 5) ++ (sends 0 5 ∷ []))))))
+        (Taken true ∷ repeat (n - 1) (Taken false) ++ (repeat j (gave 5 0) ++ (repeat (C - n) (Taken false) ++ (Refused Full ∷ repeat (k - j) (gave 5 0) ++ (Refused Full ∷ gave 5 0 ∷ repeat (releaseBatch C) (Taken false) ++ (Refused Full ∷ []))))))
+        (given (suc k) 0 C)
+    unfolding repeat
     credit-run =
         then (send-taken C 5 false false [] 0 0 [] 64 0 (omega arith))
-        (all-sent (n - 1) 0 0 5 (5 ∷ []) (omega arith)
-        (none-taken
-        (several k plain (gave 5 0) (λ j. given j j (left j)) taken-alone refl
-        (all-sent (C - n) k k 6 (left k) (omega (arith, length-repeat (n - k) 5))
-        (then (none-sent k k 6 before (omega (arith, length-left k)))
-        (then (one-taken k (omega arith) (repeat (C - n) 6) k ∙ ap (λ (u : ℕ). (gave 5 0, given (suc k) u after)) returned)
-        (all-sent (releaseBatch C) (suc k) 0 6 after (omega (arith, length-left (suc k), e))
-        (then (none-sent (suc k) 0 6 (after ++ repeat (releaseBatch C) 6) (omega (arith, length-sent (releaseBatch C) 6 after, length-left (suc k), e)))
-        (done last)))))))))
+        (all-sent (n - 1) 0 0 1 n (omega arith) (omega arith)
+        (all-given j 0 j n (n - j) (omega arith) (omega arith) (omega (arith, e))
+        (all-sent (C - n) j j (n - j) (C - j) (omega arith) (omega arith)
+        (then (none-sent j j (C - j) (omega arith))
+        (all-given (k - j) j k (C - j) (C - k) (omega arith) (omega arith) (omega (arith, e))
+        (then (none-sent k k (C - k) (omega arith))
+        (then last-given
+        (all-sent (releaseBatch C) (suc k) 0 (C - suc k) C (omega (arith, e)) (omega arith)
+        (then (none-sent (suc k) 0 C (omega arith))
+        (done (given (suc k) 0 C)))))))))))
 
 -- ---- every capacity
 
--- the budget after suc k items, which are 64 at most or whole budgets: the release batch of a power of two
+-- the budget after a release batch of suc k items: they are at most 64, or a multiple of 64, as C is a power of two
 batch-small : (C k : ℕ) → C ≤ 128 → releaseBatch C ≡ suc k → 63 - k % 64 ≡ 64 - suc k
 unfolding releaseBatch
 batch-small C k h e = let l : suc k ≤ 64 = omega (arith, e) in omega (arith, l)
@@ -287,23 +256,25 @@ batch-budget C n k p e = go (leb n 7) refl
         let l : n ≡ 8 + (n - 8) = omega (arith, leb-false n 7 h) in
         batch-whole C (2 ^ (n - 8)) k (p ∙ ap (λ (j : ℕ). 2 ^ j) l ∙ pow-add 2 8 (n - 8)) e
 
-registered : (c C batch sent p : ℕ)
-    → (outcome (openedState (openingOf (creditAfter c C batch sent p))) registers) .1 ≡ (lane 0 0, only (nextPowerOfTwo c) (slotWith false false [] 0 0) [] 64 0)
+registered : (c C batch sent taken p : ℕ)
+    → (outcome (openedState (openingOf (creditAfter c C batch sent taken p))) registers) .1
+    ≡ (lane 0 0, only (nextPowerOfTwo c) (slotWith false false [] 0 0) [] 64 0)
 unfolding compute computeExamples creditAfter
-registered c C batch sent p = refl
+registered c C batch sent taken p = refl
 
-batch-within : (C : ℕ) → 1 ≤ C → releaseBatch C ≡ suc (releaseBatch C - 1)
+batch-within : (C : ℕ) → 1 ≤ C → (releaseBatch C ≡ suc (releaseBatch C - 1)) × (suc (releaseBatch C - 1) ≤ C)
 unfolding releaseBatch
-batch-within C h = omega arith
+batch-within C h = (omega arith, omega arith)
 
-pub credit-after : (c sent : ℕ)
-    → let C = nextPowerOfTwo c in releaseBatch C ≤ sent → sent ≤ C → let e = creditAfter c C (releaseBatch C) sent (64 - releaseBatch C) in found e ≡ expected e
+pub credit-after : (c sent taken : ℕ)
+    → let C = nextPowerOfTwo c in 1 ≤ sent → sent ≤ C → taken ≤ sent → taken < releaseBatch C
+    → let e = creditAfter c C (releaseBatch C) sent taken (64 - releaseBatch C) in found e ≡ expected e
 unfolding found expected creditAfter saidCalls saidAnswers eachTime repeat
-credit-after c sent l h =
+credit-after c sent taken some most d l =
     let C = nextPowerOfTwo c in
     let k = releaseBatch C - 1 in
     let n = doubled-power 16 0 1 c refl in
     let b = batch-within C (omega (arith, n .2, pow-pos (n .0))) in
-    let r = then (registered c C (releaseBatch C) sent (64 - releaseBatch C)) (credit-run C k sent b (omega (arith, b)) h) in
+    let r = then (registered c C (releaseBatch C) sent taken (64 - releaseBatch C)) (credit-run C k sent taken (b .0) (b .1) some most d (omega (arith, l, b .0))) in
     ap₂ (λ (a : List Answer) (m : ℕ). (a, m)) (r .answered)
-    (ap (λ (s : State). s .budget) (r .leaves) ∙ batch-budget C (n .0) k (n .2) b ∙ ap (λ (m : ℕ). 64 - m) (sym b))
+    (ap (λ (s : State). s .budget) (r .leaves) ∙ batch-budget C (n .0) k (n .2) (b .0) ∙ ap (λ (m : ℕ). 64 - m) (sym (b .0)))

@@ -131,9 +131,9 @@ module _ (M : StoreCalls) (i : AsInner M) where
         C = C;
         batch = releaseBatch C;
         entry = as-the-table c a b;
-        shown = λ sent h k t r m n.
-            let e = creditAfter c C (releaseBatch C) sent (64 - releaseBatch C) in
-            as-example M i e (credit-after c sent h k) t r (example-accepted e sizes t r (omega arith) (omega arith));
+        shown = λ sent taken h k l d t r m n.
+            let e = creditAfter c C (releaseBatch C) sent taken (64 - releaseBatch C) in
+            as-example M i e (credit-after c sent taken h k l d) t r (example-accepted e sizes t r (omega arith) (omega arith));
       }
 
   pub credit-of : CreditOf M

@@ -11,10 +11,10 @@ use Rattle.model.specs.declared.Refusal.the-variants.{ReceiverClosed, At
 use Rattle.model.specs.declared.Answer.the-variants.{Done, Taken, Items, Empty, Disconnected, Held, Refused}
 use Rattle.model.specs.Examples.Example.{Example, keyAt, idOn, idAt, registers, sends, sendsUnsignalled, drops, plain, fair, batch, targeted, pauses, resumes, closes, pollsAll, held, lane, gave}
 
--- Of a ring of C places so many items are sent, from the release batch to C. Where one receive is left to the batch, the ring takes what it has room for, as if
--- nothing had been received, and refuses the next. After that receive it takes as many as the batch has, and refuses the next.
-unfoldable pub creditAfter : ℕ → ℕ → ℕ → ℕ → ℕ → Example
-creditAfter capacity C batch sent budget = record {
+-- The release batch of a ring of C places, as calls show it. `sent` items are sent and `taken` of them received, fewer than the batch has. Then, and where
+-- one receive is left to the batch, the ring has room as if nothing had been received. After that receive it has room for as many items as the batch has.
+unfoldable pub creditAfter : ℕ → ℕ → ℕ → ℕ → ℕ → ℕ → Example
+creditAfter capacity C batch sent taken budget = record {
   capacity = capacity;
   slots = 1;
   generation = 0;
@@ -22,24 +22,25 @@ creditAfter capacity C batch sent budget = record {
   said = (1, registers, lane 0 0)
       ∷ (1, sends 0 5, Taken true)
       ∷ (sent - 1, sends 0 5, Taken false)
-      ∷ (batch - 1, plain, gave 5 0)
-      ∷ (C - sent, sends 0 6, Taken false)
-      ∷ (1, sends 0 6, Refused Full)
+      ∷ (taken, plain, gave 5 0)
+      ∷ (C - sent, sends 0 5, Taken false)
+      ∷ (1, sends 0 5, Refused Full)
+      ∷ (batch - 1 - taken, plain, gave 5 0)
+      ∷ (1, sends 0 5, Refused Full)
       ∷ (1, plain, gave 5 0)
-      ∷ (batch, sends 0 6, Taken false)
-      ∷ (1, sends 0 6, Refused Full)
+      ∷ (batch, sends 0 5, Taken false)
+      ∷ (1, sends 0 5, Refused Full)
       ∷ [];
 }
 
 unfoldable pub table : List Example
 table =
     -- "P Capacity 1: batch 1. P 2: 2. P 64: 64. P 100: C 128, batch 64. P 256: 128."
-    creditAfter 1 1 1 1 63
-    ∷ creditAfter 2 2 2 2 62
-    ∷ creditAfter 64 64 64 64 0
-    ∷ creditAfter 100 128 64 128 0
-    ∷ creditAfter 100 128 64 100 0
-    ∷ creditAfter 256 256 128 256 0
+    creditAfter 1 1 1 1 0 63
+    ∷ creditAfter 2 2 2 1 1 62
+    ∷ creditAfter 64 64 64 10 10 0
+    ∷ creditAfter 100 128 64 100 5 0
+    ∷ creditAfter 256 256 128 256 0 0
     -- "P C 4, sends 1 to 4: taken; 5: refusal 11. After one to three plain receives still 11; after the fourth, taken."
     ∷ record {
       capacity = 4;
