@@ -9,13 +9,19 @@ fn with_senders(capacity: usize, senders: usize) -> (Channel, Vec<LaneKey>) {
     (channel, keys)
 }
 
-/// How many receives from a full lane it takes until a send is accepted.
-fn release_batch(capacity: usize) -> usize {
+/// How many receives it takes until a lane that was full takes a send; the `first` of them are made before it is filled.
+fn release_batch(capacity: usize, first: usize) -> usize {
     let (mut channel, keys) = with_senders(capacity, 1);
-    for item in 0..channel.capacity_per_sender() {
+    for item in 0..first {
         channel.try_send(keys[0], item as u64).unwrap();
     }
-    for taken in 0.. {
+    for item in 0..first {
+        assert_eq!(channel.try_recv(), Ok((channel.lane(keys[0]), item as u64)));
+    }
+    for item in first..channel.capacity_per_sender() {
+        channel.try_send(keys[0], item as u64).unwrap();
+    }
+    for taken in first.. {
         match channel.try_send(keys[0], 5) {
             Ok(_) => return taken,
             Err(error) => assert_eq!(error, TrySendError::Full(5)),
@@ -31,12 +37,12 @@ fn credit_goes_back_in_batches() {
         [(1, 1, 1), (2, 2, 2), (4, 4, 4), (64, 64, 64), (100, 128, 64), (256, 256, 128), (65_536, 65_536, 32_768)]
     {
         assert_eq!(channel(capacity, 1).capacity_per_sender(), rounded);
-        assert_eq!(release_batch(capacity), batch, "capacity {capacity}");
+        assert_eq!(release_batch(capacity, 0), batch, "capacity {capacity}");
     }
 }
 
-/// The release batch of each C, by the table that the formula stands for: at the least and the greatest capacity that
-/// is rounded up to it.
+/// The release batch of each C, by the table in whose place the formula stands: at the least and the greatest capacity
+/// that is rounded up to it.
 #[test]
 fn release_batches_are_those_of_the_table() {
     let batches = [1, 2, 4, 8, 16, 32, 64, 64, 128, 256, 512, 1024, 2048, 4096, 8192, 16_384, 32_768];
@@ -44,7 +50,9 @@ fn release_batches_are_those_of_the_table() {
         let rounded = 1 << log;
         for capacity in [rounded / 2 + 1, rounded] {
             assert_eq!(channel(capacity, 1).capacity_per_sender(), rounded, "capacity {capacity}");
-            assert_eq!(release_batch(capacity), batch, "capacity {capacity}");
+            for first in [0, batch / 2] {
+                assert_eq!(release_batch(capacity, first), batch, "capacity {capacity}, {first} taken first");
+            }
         }
     }
 }

@@ -1,4 +1,4 @@
--- The release batch over every capacity: the table that the formula stands for, and document 01's checked examples.
+-- The release batch over every capacity: the table in whose place the formula stands, and document 01's checked examples.
 -- Assumes nothing.
 use mathlib.Core.Path.{_≡_}
 use mathlib.Core.Bool.{Bool, true, _&&_}
