@@ -33,7 +33,7 @@ use Rattle.demands.proofs.Demand2.{opens-as}
 use Rattle.demands.proofs.LedgerAgrees.{seen, waits-seen, Agrees, move-agrees, some-held, key-path}
 use Rattle.demands.proofs.LiveCount.{agrees-few}
 use Rattle.demands.proofs.WaitInMoves.{move-on}
-use Rattle.demands.proofs.FairOnce.{Once, fresh, move-once}
+use Rattle.demands.proofs.FairOnce.{Once, fresh, fair-in-turn, move-once}
 
 -- what a move keeps, every point has
 module _ (I : Ledger → State → Type 0) (keeps : (L : Ledger) (s u : State) (t : Tick) → I L s → Moves s t u → I (note L t) u) where
@@ -152,11 +152,12 @@ record Fairly (E R : ℕ) (L : Ledger) (st : List Tick) : Type 0 where
   bounds : Bounds E R L st
   all-fair : countTicks notFair st ≡ 0
 
-first-fair : (t : Tick) (st : List Tick) → countTicks notFair (t ∷ st) ≡ 0 → (notFair t ≡ false) × (countTicks notFair st ≡ 0)
+-- where none of a list passes a test, its first does not, nor any of the others
+pub first-none : (p : Tick → Bool) (t : Tick) (ts : List Tick) → countTicks p (t ∷ ts) ≡ 0 → (p t ≡ false) × (countTicks p ts ≡ 0)
 unfolding countTicks
-first-fair t st e = go (notFair t) refl
+first-none p t ts e = go (p t) refl
   where
-    go : (b : Bool) → notFair t ≡ b → (b ≡ false) × (countTicks notFair st ≡ 0)
+    go : (b : Bool) → p t ≡ b → (b ≡ false) × (countTicks p ts ≡ 0)
     go true f = absurd (omega (arith, rw f at e))
     go false f = (refl, omega (arith, rw f at e))
 
@@ -164,7 +165,7 @@ falls-single : (E R : ℕ) (K i : LaneKey) (k : ℕ) (L : Ledger) (s u : State) 
     → (j : ℕ) × (if (ofLane i t) 1 0 + j ≤ k) × Single E R K i j (note L t) u
 falls-single E R K i k L s u t st w m f b =
     let r = falls-waits E R K (w .most) L s u t st (w .waits-so) m f (b .bounds) in
-    let o = move-once E R K i (w .most) k (on (t ∷ st) (b .bounds) (w .waits-so)) m f (first-fair t st (b .all-fair) .0) (w .once-so) in
+    let o = move-once E R K i (w .most) k (on (t ∷ st) (b .bounds) (w .waits-so)) m f (fair-in-turn K i t (first-none notFair t st (b .all-fair) .0)) (w .once-so) in
     (o .rest, o .pays, record { most = r .0; waits-so = r .2; once-so = o .once })
 
 -- what a lane waits for at the start is within the demand's bound
@@ -204,7 +205,7 @@ promise L s e rest K o a c w =
           (λ k M u v t ts q m f z. let r = falls-waits E R K (q .0) M u v t ts (q .1) m f z in (k, seen-none (move-sees {K = K} (on (t ∷ ts) z (q .1)) m), (r .0, r .2)))
           0 L s e rest (64 * (E + R - 1), x) c b);
       bounded = omega (arith, fewer-of-others K st, bounded-by K untargeted (Bounds E R) (Waits E R K) (passes-on E R) (falls-waits E R K) (64 * (E + R - 1)) L s e rest x c b, start-within-bound E R);
-      fair-once = λ z j other. bounded-by K (ofLane j) (Fairly E R) (Single E R K j) (λ M t ts g. record { bounds = passes-on E R M t ts (g .bounds); all-fair = first-fair t ts (g .all-fair) .1 }) (falls-single E R K j)
+      fair-once = λ z j other. bounded-by K (ofLane j) (Fairly E R) (Single E R K j) (λ M t ts g. record { bounds = passes-on E R M t ts (g .bounds); all-fair = first-none notFair t ts (g .all-fair) .1 }) (falls-single E R K j)
           1 L s e rest (record { most = 64 * (E + R - 1); waits-so = x; once-so = fresh (omega arith) }) c (record { bounds = b; all-fair = z });
     }
   where

@@ -1,23 +1,25 @@
--- Under fair receives alone, each other lane gives at most one item while lane x waits: once it has given, it stands behind x.
+-- Under fair receives, each other lane gives at most one item while lane x waits: once it has given, it stands behind x. Targeted receives of third lanes do not change that.
 -- Assumes nothing.
-use mathlib.Core.Path.{_≡_, refl, ap, sym, subst}
+use mathlib.Core.Path.{_≡_, refl, ap, sym, _∙_, subst}
 use mathlib.Core.Logic.{_≢_}
-use mathlib.Core.Bool.{true, false}
+use mathlib.Core.Bool.{Bool, true, false}
 use mathlib.Core.List.{List, [], _∷_, _++_}
 use Prim.Native.Nat.{ℕ, _+_, _-_, _≤_}
 use native.Mathlib.Omega.{arith}
 use lib.ListN.{length}
 use borrow.Author.Tests.{ne-eqb}
 use Rattle.model.specs.declared.LaneKey.{LaneKey}
-use Rattle.model.specs.Lists.{if, same, count, keep, from, nonEmpty, without}
+use Rattle.model.specs.declared.ReceiveCall.the-variants.{TryRecv, TryRecvFair, TryRecvFrom, TryRecvBatchInto}
+use Rattle.model.specs.Lists.{if, either, same, count, keep, from, nonEmpty, without}
 use Rattle.model.specs.State.{State, mayQueue, keyOf}
-use Rattle.model.specs.Changes.{withQueue, withBudget}
+use Rattle.model.specs.Changes.{withQueue, withBudget, put, popped}
 use Rattle.model.specs.Ready.{marks, isReady, collectGroup, groupsRound, collectEach, collectReady}
-use Rattle.model.specs.Turn.{settleEmpty, giveItem, beforeNextTurn, runDownFrom, runDown}
-use Rattle.model.specs.Runs.{sameKey, accepted, Tick, ofLane}
-use Rattle.model.specs.Receive.{releaseAll}
+use Rattle.model.specs.Turn.{unreleasedAfterOne, settleEmpty, giveItem, beforeNextTurn, runDownFrom, runDown}
+use Rattle.model.specs.Runs.{sameKey, accepted, Tick, gives, ends, ofLane}
+use Rattle.model.specs.Receive.{releaseAll, queueLaneIf}
 use Rattle.model.specs.Order.{Ordered}
 use Rattle.model.specs.Stretch.{endsWait, endsStretch, otherReceive, notFair}
+use Rattle.model.specs.EqualTurns.{outOfTurn}
 use Rattle.demands.proofs.Counting.{Same, equal, other, same?, same-self, no, count-append}
 use Rattle.demands.proofs.OrderKept.{front-alone, front-rest, settle-empty-queue, before-next-turn-queue, first-other}
 use Rattle.demands.proofs.Quiet.{Hold, hold-quiet, poll, poll-quiet, poll-ordered, settle-empty-quiet, before-next-turn-quiet, collect-ready-quiet, trans, budget-quiet}
@@ -26,6 +28,7 @@ use Rattle.demands.proofs.WaitInReceive.{On, Polled, polled-to, poll-on
 use Rattle.demands.proofs.Moves.{by-plain, by-batch, by-fair, Moves, stays-put, credits, registers-new, registers-old, sends, posts, drops-it, pauses-it, resumes, resumes-not, closes-it, polls-all, shuts-it, takes, stops, aims, aims-none}
 use Rattle.demands.proofs.MovesKeepOrder.{has-lane-parts}
 use Rattle.demands.proofs.LedgerLaws.{alike, unlike, keys?}
+use Rattle.demands.proofs.LedgerAgrees.{key-path}
 use Rattle.demands.proofs.WaitInMoves.{Shrinks, shrinks-same, shrinks-append, shrinks-without, not-own, retire-lane-queue}
 
 -- the queue through a fair poll
@@ -96,7 +99,7 @@ give-item-once {x} {k} y s z q vs e d i o w = go (same? y z) w
     go (other g f u) (fresh l) = (k, omega arith, fresh l)
     go (other g f u) (spent c b) = (k, omega arith, spent there (omega (arith, here, rw (ne-eqb x z d) at (rw e at b))))
 
--- every move of a stretch whose receives are fair
+-- every move of a stretch whose items are not out of turn
 pub record Singly (x : ℕ) (j : LaneKey) (c k : ℕ) (u : State) : Type 0 where
   pub rest : ℕ
   pub pays : c + rest ≤ k
@@ -108,12 +111,31 @@ key-same i j = elim (keys? i j) [
   | unlike d e ↦ rw e (omega arith)
 ]
 
+-- what a fair receive hands out is not out of turn, whichever two lanes are asked about
+pub fair-in-turn : (a b : LaneKey) (t : Tick) → notFair t ≡ false → outOfTurn a b t ≡ false
+unfolding notFair otherReceive outOfTurn
+fair-in-turn a b (gives TryRecv j v) e = absurd (no refl e)
+fair-in-turn a b (gives TryRecvFair j v) e = refl
+fair-in-turn a b (gives (TryRecvFrom i) j v) e = absurd (no refl e)
+fair-in-turn a b (gives (TryRecvBatchInto limit room) j v) e = absurd (no refl e)
+fair-in-turn a b (ends c x) e = refl
+
+either-second : (a b : Bool) → either a b ≡ false → b ≡ false
+either-second true b e = absurd (no refl e)
+either-second false b e = e
+
+-- a targeted receive leaves its lane where it stands, or puts it at the back
+queue-lane-shrinks : (b : Bool) (x y : ℕ) (s : State) → Shrinks x (s .queue) ((queueLaneIf b y s) .queue)
+unfolding queueLaneIf
+queue-lane-shrinks true x y s = shrinks-append x (s .queue) (y ∷ [])
+queue-lane-shrinks false x y s = shrinks-same x (s .queue)
+
 module _ (E R : ℕ) (K j : LaneKey) where
   calmly : {k : ℕ} (s u : State) → Shrinks (K .slot) (s .queue) (u .queue) → Once (K .slot) (j .slot) k s → Singly (K .slot) j 0 k u
   calmly {k} s u q o = record { rest = k; pays = omega arith; once = once-shrinks s u q o }
 
-  pub move-once : {s u : State} {t : Tick} (n k : ℕ) → On E R (K .slot) (K .generation) n s → Moves s t u → endsStretch K t ≡ false → notFair t ≡ false → Once (K .slot) (j .slot) k s → Singly (K .slot) j (if (ofLane j t) 1 0) k u
-  unfolding endsStretch accepted endsWait notFair otherReceive ofLane releaseAll
+  pub move-once : {s u : State} {t : Tick} (n k : ℕ) → On E R (K .slot) (K .generation) n s → Moves s t u → endsStretch K t ≡ false → outOfTurn K j t ≡ false → Once (K .slot) (j .slot) k s → Singly (K .slot) j (if (ofLane j t) 1 0) k u
+  unfolding endsStretch accepted endsWait outOfTurn ofLane releaseAll
   move-once n k w (stays-put s c a h) f b o = calmly s s (shrinks-same _ _) o
   move-once n k w (credits s c a h) f b o = calmly s _ (shrinks-same _ _) o
   move-once n k w (registers-new s m e lt) f b o = calmly s _ (shrinks-same _ _) o
@@ -139,7 +161,11 @@ module _ (E R : ℕ) (K j : LaneKey) where
     where
       go : Polled E R (K .slot) (K .generation) n (poll b s) → ⊥
       go (polled-to a pd ne) = ne e
-  move-once n k w (aims s i v vs c e) f b o = absurd (no refl b)
+  move-once n k w (aims s i v vs c e) f b o =
+      let y = i .key .slot in
+      let same : keyOf s y ≡ i .key = key-path (keyOf s y) (i .key) refl (has-lane-parts s (i .key) c .1) in
+      let third : sameKey (keyOf s y) j ≡ false = ap (λ (z : LaneKey). sameKey z j) same ∙ either-second (sameKey (i .key) K) (sameKey (i .key) j) b in
+      rw third (calmly s _ (queue-lane-shrinks (mayQueue s y) (K .slot) y (put y (popped vs (unreleasedAfterOne s y) (s .slotOf y .burst) (s .slotOf y)) s)) o)
   move-once n k w (aims-none s i a c e h) f b o =
       let d : K .slot ≢ i .key .slot = λ p. omega (arith, w .hold .some-item, ap (λ (z : ℕ). length (s .slotOf z .ring)) p, ap length e) in
       calmly s _ (shrinks-to (settle-empty-queue (i .key .slot) (without (i .key .slot) (s .queue)) s) (shrinks-without (K .slot) (i .key .slot) (s .queue) d)) o

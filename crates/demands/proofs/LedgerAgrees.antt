@@ -77,7 +77,7 @@ seen-false l e = rw e (go (l .paused) (l .closed))
     go false true = refl
     go false false = refl
 
-seen-closed : (l : Lane) → l .closed ≡ true → seen (some l) ≡ false
+pub seen-closed : (l : Lane) → l .closed ≡ true → seen (some l) ≡ false
 unfolding seen
 seen-closed l e = rw e (go (l .paused))
   where

@@ -19,6 +19,7 @@ pub mod LiveCount
 pub mod WaitInMoves
 pub mod FairOnce
 pub mod Demand3
+pub mod EqualTurns
 pub mod Grows
 pub mod Closed
 pub mod Held

@@ -21,6 +21,7 @@ use Rattle.model.specs.Viewed.{Viewed, rulesViewed}
 use Rattle.model.specs.Events.{Event, budgetSet, callEvents, eventsFrom, runEvents}
 use Rattle.model.specs.Demand2.{Demand2In, Demand2, shuts, values, outOf, into, HandsAsAnswered, HandsAsAnsweredIn}
 use Rattle.model.specs.Demand3.{Demand3In, Demand3}
+use Rattle.model.specs.EqualTurns.{EqualTurnsIn, EqualTurns}
 use Rattle.model.specs.Closed.{NoneAfterCloseIn, NoneAfterClose}
 use Rattle.model.specs.Held.{HeldAsCountedIn, HeldAsCounted}
 use Rattle.model.specs.Wake.{NoLostWakeIn, NoLostWake, NothingWaitsIn, NothingWaits}
@@ -28,6 +29,7 @@ use Rattle.model.specs.Keys.{KeysNeverAgainIn, KeysNeverAgain, IssuedAsAnswered
 use Rattle.model.specs.Simulation.{runsThatFit, Simulation, numbersOfCall, Fits, CallFits}
 use Rattle.demands.proofs.Demand2.{demand2}
 use Rattle.demands.proofs.Demand3.{demand3}
+use Rattle.demands.proofs.EqualTurns.{equal-turns}
 use Rattle.demands.proofs.Closed.{none-after-close}
 use Rattle.demands.proofs.InOrder.{call-keeps-order, opening-in-order}
 use Rattle.demands.proofs.Held.{held-as-counted}
@@ -101,6 +103,11 @@ module _ (W : Viewed) (sim : Simulation W) where
   unfolding Demand3 Demand3In
   transfer3 h o lent d calls f before rest e = h o (R .lengths lent) (accepted-too o lent d) calls tt before rest (sym (opened-trace o lent d calls f) ∙ e)
 
+  transfer-turns : EqualTurns theRules → EqualTurnsIn R (W .runs)
+  unfolding EqualTurns EqualTurnsIn
+  transfer-turns h o lent d calls f before soFar rest e =
+      h o (R .lengths lent) (accepted-too o lent d) calls tt before soFar rest (sym (opened-trace o lent d calls f) ∙ e)
+
   transfer-closed : NoneAfterClose theRules → NoneAfterCloseIn R (W .runs)
   unfolding NoneAfterClose NoneAfterCloseIn
   transfer-closed h o lent d calls f before rest i e = h o (R .lengths lent) (accepted-too o lent d) calls tt before rest i (sym (opened-trace o lent d calls f) ∙ e)
@@ -134,6 +141,9 @@ words-hands-as-answered W sim = transfer-hands W sim hands-as-answered
 
 pub words-demand3 : (W : Viewed) → Simulation W → Demand3In (W .rules) (W .runs)
 words-demand3 W sim = transfer3 W sim demand3
+
+pub words-equal-turns : (W : Viewed) → Simulation W → EqualTurnsIn (W .rules) (W .runs)
+words-equal-turns W sim = transfer-turns W sim equal-turns
 
 pub words-demand2 : (W : Viewed) → Simulation W → Demand2In (W .rules) (W .runs) (λ s. ringOf (W .view s))
 words-demand2 W sim = transfer2 W sim ringOf demand2

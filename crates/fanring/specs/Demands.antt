@@ -1,5 +1,5 @@
 -- What is claimed of the checked calls: of each on any two stores, and of lists of them from an accepted opening on.
--- Most claims are crate `model`'s (its specs/Demand2.antt, Demand3.antt, Closed.antt, Held.antt, Wake.antt, Keys.antt), here of the words that the calls' contracts name; others are crate
+-- Most claims are crate `model`'s (its specs/Demand2.antt, Demand3.antt, EqualTurns.antt, Closed.antt, Held.antt, Wake.antt, Keys.antt), here of the words that the calls' contracts name; others are crate
 -- `refinement`'s (its specs/RulesOnWords.antt, AsRules.antt).
 -- Assumes nothing.
 use mathlib.Core.Path.{_≡_}
@@ -14,6 +14,7 @@ use Rattle.model.specs.Opening.{openingOutcome}
 use Rattle.model.specs.Simulation.{runsThatFit}
 use Rattle.model.specs.Demand2.{Demand2In, HandsAsAnsweredIn}
 use Rattle.model.specs.Demand3.{Demand3In}
+use Rattle.model.specs.EqualTurns.{EqualTurnsIn}
 use Rattle.model.specs.Closed.{NoneAfterCloseIn}
 use Rattle.model.specs.Held.{HeldAsCountedIn}
 use Rattle.model.specs.Wake.{NoLostWakeIn, NothingWaitsIn}
@@ -80,6 +81,10 @@ AnswersTell = HandsAsAnsweredIn theCalls runs
 -- demand 3: how long a lane with an ordinarily sent item can wait
 abbrev pub LanesWaitBounded : Type 0
 LanesWaitBounded = Demand3In theCalls runs
+
+-- document 02, N10: while two lanes wait, "the items handed out of the one and of the other differ by at most one at every moment" by fair receives
+abbrev pub LanesShareEqually : Type 0
+LanesShareEqually = EqualTurnsIn theCalls runs
 
 -- "closed by an accepted `close_lane`, after which none of its items is handed out"
 abbrev pub NoneAfterClose : Type 0

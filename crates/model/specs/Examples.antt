@@ -11,6 +11,7 @@ pub mod Held
 pub mod BoundMet
 pub mod Stretch
 pub mod OtherLanes
+pub mod EqualTurns
 pub mod ReceivesEnd
 pub mod BudgetAfterNothing
 pub mod WhileMarked

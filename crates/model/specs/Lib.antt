@@ -18,6 +18,7 @@ pub mod Stretch
 pub mod Demand1
 pub mod Demand2
 pub mod Demand3
+pub mod EqualTurns
 pub mod Closed
 pub mod Held
 pub mod Simulation

@@ -1,5 +1,5 @@
 -- What is claimed of lists of calls on the two stores, made from an opening on, each on the words as the last one left them.
--- The claims are crate `model`'s (its specs/Demand1.antt, Demand2.antt, Demand3.antt, Closed.antt, Held.antt, Wake.antt, Keys.antt), here of the words that the calls' contracts name.
+-- The claims are crate `model`'s (its specs/Demand1.antt, Demand2.antt, Demand3.antt, EqualTurns.antt, Closed.antt, Held.antt, Wake.antt, Keys.antt), here of the words that the calls' contracts name.
 -- Assumes nothing.
 use mathlib.Core.Bool.{cond}
 use mathlib.Core.List.{List, []}
@@ -10,6 +10,7 @@ use Rattle.model.specs.Runs.{RunsOf}
 use Rattle.model.specs.Simulation.{runsThatFit}
 use Rattle.model.specs.Demand2.{Demand2In, HandsAsAnsweredIn}
 use Rattle.model.specs.Demand3.{Demand3In}
+use Rattle.model.specs.EqualTurns.{EqualTurnsIn}
 use Rattle.model.specs.Closed.{NoneAfterCloseIn}
 use Rattle.model.specs.Held.{HeldAsCountedIn}
 use Rattle.model.specs.Wake.{NoLostWakeIn, NothingWaitsIn}
@@ -50,6 +51,10 @@ AnswersTell = HandsAsAnsweredIn theStores runs
 -- demand 3: how long a lane with an ordinarily sent item can wait
 abbrev pub LanesWaitBounded : Type 0
 LanesWaitBounded = Demand3In theStores runs
+
+-- document 02, N10: while two lanes wait, "the items handed out of the one and of the other differ by at most one at every moment" by fair receives
+abbrev pub LanesShareEqually : Type 0
+LanesShareEqually = EqualTurnsIn theStores runs
 
 -- "closed by an accepted `close_lane`, after which none of its items is handed out"
 abbrev pub NoneAfterClose : Type 0
