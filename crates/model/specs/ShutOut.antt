@@ -1,8 +1,8 @@
 -- Wrong rules, each document 01's but for one call: those that document 01 says demands 2 and 3 shut out.
--- That a demand does not hold of them is in crates/demands/proofs/ShutOut.antt. Two more are shut out by what is claimed beside the demands.
+-- That a demand does not hold of them is in crates/demands/proofs/ShutOut.antt. Three more are shut out by what is claimed beside the demands.
 -- Assumes nothing.
 use mathlib.Core.Bool.{false, not}
-use mathlib.Core.List.{List, [], _∷_}
+use mathlib.Core.List.{List, [], _∷_, _++_}
 use Prim.Native.Nat.{ℕ, suc}
 use lib.ListN.{length}
 use lib.Dec.{ltb}
@@ -19,7 +19,7 @@ use Rattle.model.specs.declared.Refusal.the-variants.{ReceiverClosed, Ou
 use Rattle.model.specs.declared.Answer.the-variants.{Registered, Taken, Items, Held, Refused}
 use Rattle.model.specs.Lists.{if}
 use Rattle.model.specs.State.{State, keyOf}
-use Rattle.model.specs.Changes.{withFree, withBudget, put, newLane}
+use Rattle.model.specs.Changes.{withQueue, withFree, withBudget, put, newLane}
 use Rattle.model.specs.Ready.{collectReady}
 use Rattle.model.specs.Turn.{runDown, giveFront, polled}
 use Rattle.model.specs.Outcome.{Outcome, says, unless}
@@ -171,3 +171,20 @@ sendUnwoken s (DropSender k) = senderOutcome s (DropSender k)
 
 abbrev pub sendNeverWakes : Rules
 sendNeverWakes = rulesBy sendUnwoken receiveOutcome controlOutcome
+
+-- `EqualTurns` shuts out a targeted receive that sends the lane in front to the back: with such receives between them, fair ones serve one lane alone.
+unfoldable pub frontToBack : List ℕ → List ℕ
+frontToBack [] = []
+frontToBack (x ∷ q) = q ++ (x ∷ [])
+
+unfoldable pub receiveTurnsRound : State → ReceiveCall → Outcome
+receiveTurnsRound s (TryRecvFrom i) =
+    let o = receiveOutcome s (TryRecvFrom i) in
+    let u = o .1 .1 in
+    (o .0, (o .1 .0, if (accepted (o .1 .0)) (withQueue (frontToBack (u .queue)) u) u))
+receiveTurnsRound s TryRecv = receiveOutcome s TryRecv
+receiveTurnsRound s TryRecvFair = receiveOutcome s TryRecvFair
+receiveTurnsRound s (TryRecvBatchInto limit room) = receiveOutcome s (TryRecvBatchInto limit room)
+
+abbrev pub targetedTurnsRound : Rules
+targetedTurnsRound = rulesBy senderOutcome receiveTurnsRound controlOutcome

@@ -2,11 +2,12 @@
 -- claim a run that would break it if that word were left out.
 -- Each line is a case and what is expected of it.
 -- Assumes nothing.
-use mathlib.Core.Path.{_≡_, refl}
+use mathlib.Core.Path.{_≡_, refl, ap, sym, _∙_}
 use mathlib.Core.Bool.{Bool, true, false, not}
 use mathlib.Core.List.{List, [], _∷_, _++_}
-use Prim.Native.Nat.{ℕ}
+use Prim.Native.Nat.{ℕ, _≤_}
 use native.Mathlib.Omega.{arith}
+use lib.ListN.{take, drop, take-append-drop}
 use Rattle.model.specs.declared.LaneKey.{LaneKey}
 use Rattle.model.specs.declared.Opening.{Opening}
 use Rattle.model.specs.declared.SenderCall.the-variants.{RegisterSender, TrySend}
@@ -23,7 +24,8 @@ use Rattle.model.specs.Runs.{Lent, accepted, Tick, gives, ends, handed, 
 use Rattle.model.specs.Opening.{openingOutcome}
 use Rattle.model.specs.Rules.{theRules}
 use Rattle.model.specs.Ledger.{Lane, Ledger, atOpening, changeLane, addItem, removeOldest, setPaused, setClosed, setDropped, addRegistered, applyCall, note, ledgerAfter, anyOrdinary, waitsIn, waits}
-use Rattle.model.specs.EqualTurns.{outOfTurn, throughout, AtMostOneApart}
+use Rattle.model.specs.EqualTurns.{outOfTurn, throughout, AtMostOneApart, EqualTurnsIn, EqualTurns}
+use Rattle.model.specs.ShutOut.{callBy, outputBy, receiveOfFront, fairServesFrontOnly, frontToBack, receiveTurnsRound, targetedTurnsRound}
 use Rattle.model.specs.Examples.Pairs.{Reads, Always}
 use Rattle.model.specs.Examples.Calls.{compute}
 use Rattle.model.specs.Examples.Example.{computeExamples, keyAt, idAt, registers, sends, sendsUnsignalled, drops, plain, fair, batch, targeted, pauses, resumes, closes, pollsAll, held, lane, gave}
@@ -204,29 +206,30 @@ fourEach = twoEach ++ twoEach
 
 -- one of each call that may be made in the stretch: those of the request, refused ones, and others that hand nothing out
 eachKind : Parts
-eachKind =
-    (sends 2 7 ∷ fourEach,
-    fair
-    ∷ targeted 2
-    ∷ registers
-    ∷ sends 3 8
-    ∷ sends 0 5
-    ∷ sendsUnsignalled 1 6
-    ∷ fair
-    ∷ drops 1
-    ∷ drops 2
-    ∷ held
-    ∷ batch 3 2
-    ∷ sends 2 7
-    ∷ pauses 3
-    ∷ resumes 3
-    ∷ closes 3
-    ∷ targeted 3
-    ∷ releases
-    ∷ pollsAll
-    ∷ batch 0 2
-    ∷ fair
-    ∷ [])
+eachKind = (
+  sends 2 7 ∷ fourEach,
+  fair
+      ∷ targeted 2
+      ∷ registers
+      ∷ sends 3 8
+      ∷ sends 0 5
+      ∷ sendsUnsignalled 1 6
+      ∷ fair
+      ∷ drops 1
+      ∷ drops 2
+      ∷ held
+      ∷ batch 3 2
+      ∷ sends 2 7
+      ∷ pauses 3
+      ∷ resumes 3
+      ∷ closes 3
+      ∷ targeted 3
+      ∷ releases
+      ∷ pollsAll
+      ∷ batch 0 2
+      ∷ fair
+      ∷ [],
+)
 
 computeRuns : Unit {0}
 unfolding computeTurns opening lent stateBefore ledgerBefore stretchOf itemsGiven asked asClaimed afterList twoEach fourEach eachKind
@@ -294,27 +297,33 @@ laneThat p k (l ∷ ls) = if (sameKey (l .key) k) (p l) (laneThat p k ls)
 waitsBy : (Lane → Bool) → LaneKey → Ledger → Bool
 waitsBy p k L = both (not (L .receiverClosed)) (laneThat p k (L .lanes))
 
--- as `outOfTurn`, with all targeted receives allowed, with plain ones, and with batches
-unlessTargeted : Tick → Bool
-unlessTargeted (gives (TryRecvFrom i) j v) = false
-unlessTargeted (gives TryRecv j v) = true
-unlessTargeted (gives TryRecvFair j v) = false
-unlessTargeted (gives (TryRecvBatchInto limit room) j v) = true
-unlessTargeted (ends c x) = false
+-- without "ordinarily sent", without "unpaused", without "open"
+anyItem : LaneKey → Ledger → Bool
+anyItem k L = waitsBy (λ l. both (not (l .paused)) (both (not (l .closed)) (nonEmpty (l .holds)))) k L
 
-unlessPlain : Tick → Bool
-unlessPlain (gives (TryRecvFrom i) j v) = outOfTurn (keyAt 0 0) (keyAt 1 0) (gives (TryRecvFrom i) j v)
-unlessPlain (gives TryRecv j v) = false
-unlessPlain (gives TryRecvFair j v) = false
-unlessPlain (gives (TryRecvBatchInto limit room) j v) = true
-unlessPlain (ends c x) = false
+evenPaused : LaneKey → Ledger → Bool
+evenPaused k L = waitsBy (λ l. both (not (l .closed)) (anyOrdinary (l .holds))) k L
 
-unlessBatch : Tick → Bool
-unlessBatch (gives (TryRecvFrom i) j v) = outOfTurn (keyAt 0 0) (keyAt 1 0) (gives (TryRecvFrom i) j v)
-unlessBatch (gives TryRecv j v) = true
-unlessBatch (gives TryRecvFair j v) = false
-unlessBatch (gives (TryRecvBatchInto limit room) j v) = false
-unlessBatch (ends c x) = false
+evenClosed : LaneKey → Ledger → Bool
+evenClosed k L = waitsBy (λ l. both (not (l .paused)) (anyOrdinary (l .holds))) k L
+
+-- as `outOfTurn`: without "of other lanes", and without "only fair receives", so that nothing is asked of receives
+ofAnyLane : Tick → Bool
+ofAnyLane (gives (TryRecvFrom i) j v) = false
+ofAnyLane (gives TryRecv j v) = true
+ofAnyLane (gives TryRecvFair j v) = false
+ofAnyLane (gives (TryRecvBatchInto limit room) j v) = true
+ofAnyLane (ends c x) = false
+
+byAny : Tick → Bool
+byAny t = false
+
+turns : Tick → Bool
+turns = outOfTurn (keyAt 0 0) (keyAt 1 0)
+
+-- one unsignalled item of lane 0, and four ordinary ones of lane 1
+oneUnsignalled : List Call
+oneUnsignalled = sendsUnsignalled 0 5 ∷ sends 1 6 ∷ sends 1 6 ∷ sends 1 6 ∷ sends 1 6 ∷ []
 
 -- what is asked for without the word is so; with it, it is not; and the items are two or three apart
 left-out :
@@ -322,20 +331,45 @@ left-out :
     {A = (LaneKey → Ledger → Bool) × (Tick → Bool) × Parts}
     {B = (Bool × ℕ) × (Bool × ℕ) × (ℕ × ℕ)}
     (λ w. (asked (w .0) (w .1) (w .2), asClaimed (w .2), itemsGiven (w .2)))
-    -- "an ordinarily sent item"
-    (((waitsBy (λ l. both (not (l .paused)) (both (not (l .closed)) (nonEmpty (l .holds)))),
-    outOfTurn (keyAt 0 0) (keyAt 1 0),
-    (sendsUnsignalled 0 5 ∷ sends 1 6 ∷ sends 1 6 ∷ sends 1 6 ∷ sends 1 6 ∷ [], fair ∷ fair ∷ fair ∷ [])), ((true, 0), (false, 0), (0, 3)))
-    -- "unpaused"
-    ∷ ((waitsBy (λ l. both (not (l .closed)) (anyOrdinary (l .holds))), outOfTurn (keyAt 0 0) (keyAt 1 0), (fourEach, pauses 0 ∷ fair ∷ fair ∷ [])), ((true, 0), (false, 0), (0, 2)))
-    -- "open"
-    ∷ ((waitsBy (λ l. both (not (l .paused)) (anyOrdinary (l .holds))), outOfTurn (keyAt 0 0) (keyAt 1 0), (fourEach, closes 0 ∷ fair ∷ fair ∷ [])), ((true, 0), (false, 0), (0, 2)))
-    -- "of other lanes"
-    ∷ ((waits, unlessTargeted, (fourEach, fair ∷ targeted 0 ∷ [])), ((true, 0), (true, 1), (2, 0)))
-    ∷ ((waits, unlessTargeted, (fourEach, targeted 1 ∷ targeted 1 ∷ [])), ((true, 0), (true, 2), (0, 2)))
-    -- "only fair receives"
-    ∷ ((waits, unlessPlain, (fourEach, plain ∷ plain ∷ [])), ((true, 0), (true, 2), (2, 0)))
-    ∷ ((waits, unlessBatch, (fourEach, batch 2 2 ∷ [])), ((true, 0), (true, 2), (2, 0)))
+    (((anyItem, turns, (oneUnsignalled, fair ∷ fair ∷ fair ∷ [])), ((true, 0), (false, 0), (0, 3)))
+    ∷ ((evenPaused, turns, (fourEach, pauses 0 ∷ fair ∷ fair ∷ [])), ((true, 0), (false, 0), (0, 2)))
+    ∷ ((evenClosed, turns, (fourEach, closes 0 ∷ fair ∷ fair ∷ [])), ((true, 0), (false, 0), (0, 2)))
+    ∷ ((waits, ofAnyLane, (fourEach, fair ∷ targeted 0 ∷ [])), ((true, 0), (true, 1), (2, 0)))
+    ∷ ((waits, ofAnyLane, (fourEach, targeted 1 ∷ targeted 1 ∷ [])), ((true, 0), (true, 2), (0, 2)))
+    ∷ ((waits, byAny, (fourEach, plain ∷ plain ∷ [])), ((true, 0), (true, 2), (2, 0)))
+    ∷ ((waits, byAny, (fourEach, batch 2 2 ∷ [])), ((true, 0), (true, 2), (2, 0)))
     ∷ [])
-unfolding computeRuns laneThat waitsBy unlessTargeted unlessPlain unlessBatch
+unfolding computeRuns laneThat waitsBy anyItem evenPaused evenClosed ofAnyLane byAny turns oneUnsignalled
 left-out = refl
+
+-- ---- rules of which the claim does not hold (specs/ShutOut.antt)
+
+-- what happens, cut in three: n things, m things, and the rest
+cut : (n m : ℕ) (ts : List Tick) → ts ≡ take n ts ++ (take m (drop n ts) ++ drop m (drop n ts))
+cut n m ts = sym (take-append-drop n ts) ∙ ap (λ (us : List Tick). take n ts ++ us) (sym (take-append-drop m (drop n ts)))
+
+-- "a fair receive that serves only the front lane": lane 0 gives two items, and lane 1 none
+front-only-uneven : EqualTurns fairServesFrontOnly → ⊥
+unfolding computeRuns EqualTurns EqualTurnsIn callBy outputBy receiveOfFront
+front-only-uneven h =
+    let two : 2 ≤ 1 = (h opening lent refl calls tt (take 11 run) (take 3 (drop 11 run)) (drop 3 (drop 11 run)) (cut 11 3 run) (keyAt 0 0) (keyAt 1 0) refl refl refl refl) .first-most in
+    omega (arith, two)
+  where
+    calls : List Call
+    calls = registers ∷ registers ∷ registers ∷ fourEach ++ (fair ∷ fair ∷ [])
+
+    run : List Tick
+    run = trace fairServesFrontOnly ((fairServesFrontOnly .opens opening lent) .1) calls
+
+-- a targeted receive of lane 2 that sends lane 1, which is in front, to the back
+turned-round-uneven : EqualTurns targetedTurnsRound → ⊥
+unfolding computeRuns EqualTurns EqualTurnsIn callBy outputBy frontToBack receiveTurnsRound
+turned-round-uneven h =
+    let two : 2 ≤ 1 = (h opening lent refl calls tt (take 12 run) (take 5 (drop 12 run)) (drop 5 (drop 12 run)) (cut 12 5 run) (keyAt 0 0) (keyAt 1 0) refl refl refl refl) .first-most in
+    omega (arith, two)
+  where
+    calls : List Call
+    calls = registers ∷ registers ∷ registers ∷ fourEach ++ (sends 2 7 ∷ fair ∷ targeted 2 ∷ fair ∷ [])
+
+    run : List Tick
+    run = trace targetedTurnsRound ((targetedTurnsRound .opens opening lent) .1) calls
