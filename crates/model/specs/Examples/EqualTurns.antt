@@ -28,7 +28,7 @@ use Rattle.model.specs.EqualTurns.{outOfTurn, throughout, AtMostOneApart
 use Rattle.model.specs.ShutOut.{callBy, outputBy, receiveOfFront, fairServesFrontOnly, frontToBack, receiveTurnsRound, targetedTurnsRound}
 use Rattle.model.specs.Examples.Pairs.{Reads, Always}
 use Rattle.model.specs.Examples.Calls.{compute}
-use Rattle.model.specs.Examples.Example.{computeExamples, keyAt, idAt, registers, sends, sendsUnsignalled, drops, plain, fair, batch, targeted, pauses, resumes, closes, pollsAll, held, lane, gave}
+use Rattle.model.specs.Examples.Example.{computeExamples, repeat, keyAt, idAt, registers, sends, sendsUnsignalled, drops, plain, fair, batch, targeted, pauses, resumes, closes, pollsAll, held, lane, gave}
 
 releases : Call
 releases = Control ReleaseConsumed
@@ -197,12 +197,12 @@ asked p q e = (both (throughout (p (keyAt 0 0)) (ledgerBefore e) (stretchOf e)) 
 asClaimed : Parts → Bool × ℕ
 asClaimed e = asked waits (outOfTurn (keyAt 0 0) (keyAt 1 0)) e
 
--- lanes 0 and 1 hold two items each, or four, sent by turns
+-- lanes 0 and 1 hold two items each, or four
 twoEach : List Call
-twoEach = sends 0 5 ∷ sends 1 6 ∷ sends 0 5 ∷ sends 1 6 ∷ []
+twoEach = repeat 2 (sends 0 5) ++ repeat 2 (sends 1 6)
 
 fourEach : List Call
-fourEach = twoEach ++ twoEach
+fourEach = repeat 4 (sends 0 5) ++ repeat 4 (sends 1 6)
 
 -- one of each call that may be made in the stretch: those of the request, refused ones, and others that hand nothing out
 eachKind : Parts
@@ -284,7 +284,7 @@ atFirst e = both (waits (keyAt 0 0) (ledgerBefore e)) (waits (keyAt 1 0) (ledger
 
 never-without-left-out :
     Reads {A = Parts} {B = Bool × (Bool × ℕ) × (ℕ × ℕ)} (λ e. (atFirst e, asClaimed e, itemsGiven e))
-    (((sends 0 5 ∷ sends 1 6 ∷ sends 1 6 ∷ sends 1 6 ∷ sends 1 6 ∷ [], fair ∷ fair ∷ fair ∷ fair ∷ []), (true, (false, 0), (1, 3)))
+    (((sends 0 5 ∷ repeat 4 (sends 1 6), fair ∷ fair ∷ fair ∷ fair ∷ []), (true, (false, 0), (1, 3)))
     ∷ [])
 unfolding computeRuns atFirst
 never-without-left-out = refl
@@ -323,7 +323,7 @@ turns = outOfTurn (keyAt 0 0) (keyAt 1 0)
 
 -- one unsignalled item of lane 0, and four ordinary ones of lane 1
 oneUnsignalled : List Call
-oneUnsignalled = sendsUnsignalled 0 5 ∷ sends 1 6 ∷ sends 1 6 ∷ sends 1 6 ∷ sends 1 6 ∷ []
+oneUnsignalled = sendsUnsignalled 0 5 ∷ repeat 4 (sends 1 6)
 
 -- what is asked for without the word is so; with it, it is not; and the items are two or three apart
 left-out :
