@@ -82,7 +82,8 @@ AnswersTell = HandsAsAnsweredIn theCalls runs
 abbrev pub LanesWaitBounded : Type 0
 LanesWaitBounded = Demand3In theCalls runs
 
--- document 02, N10: while two lanes wait, "the items handed out of the one and of the other differ by at most one at every moment" by fair receives
+-- document 02, N10: while two lanes wait and items go out by fair receives and by targeted ones of other lanes, "the items handed out of the one and of the other
+-- differ by at most one at every moment"
 abbrev pub LanesShareEqually : Type 0
 LanesShareEqually = EqualTurnsIn theCalls runs
 

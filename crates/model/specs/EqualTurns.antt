@@ -13,8 +13,9 @@ use Rattle.model.specs.Lists.{both, either}
 use Rattle.model.specs.Runs.{Rules, RunsOf, allRuns, Tick, gives, ends, trace, sameKey, countTicks, ofLane}
 use Rattle.model.specs.Ledger.{Ledger, atOpening, note, ledgerAfter, waits}
 
--- "only fair receives, targeted receives of other lanes": an item that another receive hands out, other lanes being those that are neither a nor b.
--- What hands nothing out is not looked at: "sends, registrations and dropped senders", refused calls, held, and more than is asked for, as pauses of other lanes.
+-- "only fair receives, targeted receives of other lanes": true of an item that any other receive hands out. Other lanes are those that are neither a nor b.
+-- Calls that hand nothing out are not looked at: "sends, registrations and dropped senders", refused calls and held; and, more than is asked for, others such as
+-- a pause of a third lane.
 unfoldable pub outOfTurn : LaneKey → LaneKey → Tick → Bool
 outOfTurn a b (gives TryRecvFair j v) = false
 outOfTurn a b (gives (TryRecvFrom i) j v) = either (sameKey (i .key) a) (sameKey (i .key) b)
@@ -22,7 +23,7 @@ outOfTurn a b (gives TryRecv j v) = true
 outOfTurn a b (gives (TryRecvBatchInto limit room) j v) = true
 outOfTurn a b (ends c x) = false
 
--- p holds at each point of a list from which on something happens in it.
+-- p holds just before each thing in a list happens, as "never without" asks. What the last one leaves is not asked.
 unfoldable pub throughout : (Ledger → Bool) → Ledger → List Tick → Bool
 throughout p L [] = true
 throughout p L (t ∷ ts) = both (p L) (throughout p (note L t) ts)
@@ -34,7 +35,7 @@ pub record AtMostOneApart (a b : LaneKey) (ts : List Tick) : Type 0 where
 
 -- "Two lanes": their keys differ.
 -- "a stretch, here any part of a list as in demand 3": it begins at any point; "at every moment": soFar is what has happened in it up to then.
--- "both never without an ordinarily sent item, unpaused and open through a stretch", "with the receiver open": both wait, throughout.
+-- "both never without an ordinarily sent item, unpaused and open through a stretch", "with the receiver open": both wait throughout.
 -- The claim is about all of `runs`.
 unfoldable pub EqualTurnsIn : (R : Rules) → RunsOf R → Type 0
 EqualTurnsIn R runs =

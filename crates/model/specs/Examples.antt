@@ -12,6 +12,7 @@ pub mod BoundMet
 pub mod Stretch
 pub mod OtherLanes
 pub mod EqualTurns
+pub mod Uneven
 pub mod ReceivesEnd
 pub mod BudgetAfterNothing
 pub mod WhileMarked

@@ -1,13 +1,12 @@
--- The words of `EqualTurnsIn` on one of each thing that can happen, computed; runs of the rules in which lanes 0 and 1 wait throughout; and for each word of the
--- claim a run that would break it if that word were left out.
+-- The words of `EqualTurnsIn` on one of each thing that can happen, computed; runs of the rules in which lanes 0 and 1 wait throughout; and, for each of the words
+-- "never without", "ordinarily sent", "unpaused", "open", "of other lanes" and "only fair receives", a run that breaks the claim if the word is left out.
 -- Each line is a case and what is expected of it.
 -- Assumes nothing.
-use mathlib.Core.Path.{_≡_, refl, ap, sym, _∙_}
+use mathlib.Core.Path.{_≡_, refl}
 use mathlib.Core.Bool.{Bool, true, false, not}
 use mathlib.Core.List.{List, [], _∷_, _++_}
-use Prim.Native.Nat.{ℕ, _≤_}
+use Prim.Native.Nat.{ℕ}
 use native.Mathlib.Omega.{arith}
-use lib.ListN.{take, drop, take-append-drop}
 use Rattle.model.specs.declared.LaneKey.{LaneKey}
 use Rattle.model.specs.declared.Opening.{Opening}
 use Rattle.model.specs.declared.SenderCall.the-variants.{RegisterSender, TrySend}
@@ -24,13 +23,12 @@ use Rattle.model.specs.Runs.{Lent, accepted, Tick, gives, ends, handed, 
 use Rattle.model.specs.Opening.{openingOutcome}
 use Rattle.model.specs.Rules.{theRules}
 use Rattle.model.specs.Ledger.{Lane, Ledger, atOpening, changeLane, addItem, removeOldest, setPaused, setClosed, setDropped, addRegistered, applyCall, note, ledgerAfter, anyOrdinary, waitsIn, waits}
-use Rattle.model.specs.EqualTurns.{outOfTurn, throughout, AtMostOneApart, EqualTurnsIn, EqualTurns}
-use Rattle.model.specs.ShutOut.{callBy, outputBy, receiveOfFront, fairServesFrontOnly, frontToBack, receiveTurnsRound, targetedTurnsRound}
+use Rattle.model.specs.EqualTurns.{outOfTurn, throughout, AtMostOneApart}
 use Rattle.model.specs.Examples.Pairs.{Reads, Always}
 use Rattle.model.specs.Examples.Calls.{compute}
 use Rattle.model.specs.Examples.Example.{computeExamples, repeat, keyAt, idAt, registers, sends, sendsUnsignalled, drops, plain, fair, batch, targeted, pauses, resumes, closes, pollsAll, held, lane, gave}
 
-releases : Call
+unfoldable pub releases : Call
 releases = Control ReleaseConsumed
 
 closesReceiver : Call
@@ -48,11 +46,16 @@ out-of-turn-read :
     ((gives TryRecvFair (keyAt 0 0) 5, false)
     ∷ (gives TryRecvFair (keyAt 1 0) 5, false)
     ∷ (gives TryRecvFair (keyAt 2 0) 5, false)
+    ∷ (gives TryRecvFair (keyAt 0 1) 5, false)
+    ∷ (gives TryRecvFair (keyAt 1 1) 5, false)
     ∷ (gives (TryRecvFrom (idAt 0 0)) (keyAt 0 0) 5, true)
     ∷ (gives (TryRecvFrom (idAt 1 0)) (keyAt 1 0) 5, true)
     ∷ (gives (TryRecvFrom (idAt 2 0)) (keyAt 2 0) 5, false)
     ∷ (gives (TryRecvFrom (idAt 0 1)) (keyAt 0 1) 5, false)
     ∷ (gives (TryRecvFrom (idAt 1 1)) (keyAt 1 1) 5, false)
+    -- by the lane that it is asked of: the rules hand out no other's
+    ∷ (gives (TryRecvFrom (idAt 2 0)) (keyAt 0 0) 5, false)
+    ∷ (gives (TryRecvFrom (idAt 1 0)) (keyAt 2 0) 5, true)
     ∷ (gives TryRecv (keyAt 0 0) 5, true)
     ∷ (gives TryRecv (keyAt 1 0) 5, true)
     ∷ (gives TryRecv (keyAt 2 0) 5, true)
@@ -147,7 +150,7 @@ one-apart : AtMostOneApart (keyAt 0 0) (keyAt 1 0) (given 0 ∷ []) × AtMostOne
 unfolding computeTurns given
 one-apart = (record { first-most = omega arith; second-most = omega arith }, record { first-most = omega arith; second-most = omega arith })
 
--- and not by two, whoever hands them out; of a third lane there may be any number
+-- and not by two, whoever hands them out
 two-apart-first : AtMostOneApart (keyAt 0 0) (keyAt 1 0) (given 0 ∷ gives TryRecv (keyAt 0 0) 5 ∷ []) → ⊥
 unfolding computeTurns given
 two-apart-first h = absurd (omega (arith, h .first-most))
@@ -156,16 +159,26 @@ two-apart-second : AtMostOneApart (keyAt 0 0) (keyAt 1 0) (given 1 ∷ given 1 �
 unfolding computeTurns given
 two-apart-second h = absurd (omega (arith, h .second-most))
 
+-- items of third lanes between them, of slot 1's next lane too, do not make it less; nor does it matter that a targeted receive hands one out
+apart-between-first : AtMostOneApart (keyAt 0 0) (keyAt 1 0) (given 0 ∷ given 2 ∷ gives TryRecvFair (keyAt 1 1) 5 ∷ gives (TryRecvFrom (idAt 2 0)) (keyAt 0 0) 5 ∷ []) → ⊥
+unfolding computeTurns given
+apart-between-first h = absurd (omega (arith, h .first-most))
+
+apart-between-second : AtMostOneApart (keyAt 0 0) (keyAt 1 0) (given 1 ∷ given 2 ∷ gives TryRecvFair (keyAt 0 1) 5 ∷ gives (TryRecvFrom (idAt 2 0)) (keyAt 1 0) 5 ∷ []) → ⊥
+unfolding computeTurns given
+apart-between-second h = absurd (omega (arith, h .second-most))
+
+-- of third lanes there may be any number
 thirds-apart : AtMostOneApart (keyAt 0 0) (keyAt 1 0) (given 2 ∷ given 2 ∷ gives TryRecvFair (keyAt 0 1) 5 ∷ gives TryRecvFair (keyAt 0 1) 5 ∷ [])
 unfolding computeTurns given
 thirds-apart = record { first-most = omega arith; second-most = omega arith }
 
 -- ---- runs of the rules: capacity 8, four slots, lanes 0, 1 and 2
 
-opening : Opening
+unfoldable pub opening : Opening
 opening = record { capacity = 8; slots = 4; channel = 7; cursor = 0; generation = 0 }
 
-lent : Lent
+unfoldable pub lent : Lent
 lent = record { rings = 2048; table = 4096 }
 
 accepted-opening : (openingOutcome opening lent) .1 .0 ≡ Done
@@ -198,10 +211,10 @@ asClaimed : Parts → Bool × ℕ
 asClaimed e = asked waits (outOfTurn (keyAt 0 0) (keyAt 1 0)) e
 
 -- lanes 0 and 1 hold two items each, or four
-twoEach : List Call
+unfoldable pub twoEach : List Call
 twoEach = repeat 2 (sends 0 5) ++ repeat 2 (sends 1 6)
 
-fourEach : List Call
+unfoldable pub fourEach : List Call
 fourEach = repeat 4 (sends 0 5) ++ repeat 4 (sends 1 6)
 
 -- one of each call that may be made in the stretch: those of the request, refused ones, and others that hand nothing out
@@ -231,7 +244,7 @@ eachKind = (
       ∷ [],
 )
 
-computeRuns : Unit {0}
+unfoldable pub computeRuns : Unit {0}
 unfolding computeTurns opening lent stateBefore ledgerBefore stretchOf itemsGiven asked asClaimed afterList twoEach fourEach eachKind
 computeRuns = tt
 
@@ -318,8 +331,8 @@ ofAnyLane (ends c x) = false
 byAny : Tick → Bool
 byAny t = false
 
-turns : Tick → Bool
-turns = outOfTurn (keyAt 0 0) (keyAt 1 0)
+outOfTheirTurn : Tick → Bool
+outOfTheirTurn = outOfTurn (keyAt 0 0) (keyAt 1 0)
 
 -- one unsignalled item of lane 0, and four ordinary ones of lane 1
 oneUnsignalled : List Call
@@ -331,45 +344,13 @@ left-out :
     {A = (LaneKey → Ledger → Bool) × (Tick → Bool) × Parts}
     {B = (Bool × ℕ) × (Bool × ℕ) × (ℕ × ℕ)}
     (λ w. (asked (w .0) (w .1) (w .2), asClaimed (w .2), itemsGiven (w .2)))
-    (((anyItem, turns, (oneUnsignalled, fair ∷ fair ∷ fair ∷ [])), ((true, 0), (false, 0), (0, 3)))
-    ∷ ((evenPaused, turns, (fourEach, pauses 0 ∷ fair ∷ fair ∷ [])), ((true, 0), (false, 0), (0, 2)))
-    ∷ ((evenClosed, turns, (fourEach, closes 0 ∷ fair ∷ fair ∷ [])), ((true, 0), (false, 0), (0, 2)))
+    (((anyItem, outOfTheirTurn, (oneUnsignalled, fair ∷ fair ∷ fair ∷ [])), ((true, 0), (false, 0), (0, 3)))
+    ∷ ((evenPaused, outOfTheirTurn, (fourEach, pauses 0 ∷ fair ∷ fair ∷ [])), ((true, 0), (false, 0), (0, 2)))
+    ∷ ((evenClosed, outOfTheirTurn, (fourEach, closes 0 ∷ fair ∷ fair ∷ [])), ((true, 0), (false, 0), (0, 2)))
     ∷ ((waits, ofAnyLane, (fourEach, fair ∷ targeted 0 ∷ [])), ((true, 0), (true, 1), (2, 0)))
     ∷ ((waits, ofAnyLane, (fourEach, targeted 1 ∷ targeted 1 ∷ [])), ((true, 0), (true, 2), (0, 2)))
     ∷ ((waits, byAny, (fourEach, plain ∷ plain ∷ [])), ((true, 0), (true, 2), (2, 0)))
     ∷ ((waits, byAny, (fourEach, batch 2 2 ∷ [])), ((true, 0), (true, 2), (2, 0)))
     ∷ [])
-unfolding computeRuns laneThat waitsBy anyItem evenPaused evenClosed ofAnyLane byAny turns oneUnsignalled
+unfolding computeRuns laneThat waitsBy anyItem evenPaused evenClosed ofAnyLane byAny outOfTheirTurn oneUnsignalled
 left-out = refl
-
--- ---- rules of which the claim does not hold (specs/ShutOut.antt)
-
--- what happens, cut in three: n things, m things, and the rest
-cut : (n m : ℕ) (ts : List Tick) → ts ≡ take n ts ++ (take m (drop n ts) ++ drop m (drop n ts))
-cut n m ts = sym (take-append-drop n ts) ∙ ap (λ (us : List Tick). take n ts ++ us) (sym (take-append-drop m (drop n ts)))
-
--- "a fair receive that serves only the front lane": lane 0 gives two items, and lane 1 none
-front-only-uneven : EqualTurns fairServesFrontOnly → ⊥
-unfolding computeRuns EqualTurns EqualTurnsIn callBy outputBy receiveOfFront
-front-only-uneven h =
-    let two : 2 ≤ 1 = (h opening lent refl calls tt (take 11 run) (take 3 (drop 11 run)) (drop 3 (drop 11 run)) (cut 11 3 run) (keyAt 0 0) (keyAt 1 0) refl refl refl refl) .first-most in
-    omega (arith, two)
-  where
-    calls : List Call
-    calls = registers ∷ registers ∷ registers ∷ fourEach ++ (fair ∷ fair ∷ [])
-
-    run : List Tick
-    run = trace fairServesFrontOnly ((fairServesFrontOnly .opens opening lent) .1) calls
-
--- a targeted receive of lane 2 that sends lane 1, which is in front, to the back
-turned-round-uneven : EqualTurns targetedTurnsRound → ⊥
-unfolding computeRuns EqualTurns EqualTurnsIn callBy outputBy frontToBack receiveTurnsRound
-turned-round-uneven h =
-    let two : 2 ≤ 1 = (h opening lent refl calls tt (take 12 run) (take 5 (drop 12 run)) (drop 5 (drop 12 run)) (cut 12 5 run) (keyAt 0 0) (keyAt 1 0) refl refl refl refl) .first-most in
-    omega (arith, two)
-  where
-    calls : List Call
-    calls = registers ∷ registers ∷ registers ∷ fourEach ++ (sends 2 7 ∷ fair ∷ targeted 2 ∷ fair ∷ [])
-
-    run : List Tick
-    run = trace targetedTurnsRound ((targetedTurnsRound .opens opening lent) .1) calls
