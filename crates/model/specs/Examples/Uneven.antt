@@ -47,10 +47,10 @@ turned-round-uneven h =
     run : List Tick
     run = trace targetedTurnsRound ((targetedTurnsRound .opens opening lent) .1) calls
 
--- a run in which all is that the claim lets be, so that it cannot be of fewer runs: another capacity, first cursor and first generation; lanes of slots 2 and 0, of
--- generations 4 and 5; before the stretch plain and targeted items and a pause; after it a pause and plain items. It begins inside a call and ends with the last
--- item of its lane. In it are one of each call, items that were not ordinarily sent, both senders' drops, a third lane's items by a targeted and by a fair
--- receive, and a hundred calls more
+-- the same in a run that has all in it that the claim allows, so that a claim about fewer runs would not be broken here: another capacity, first cursor and first
+-- generation; lanes of slots 2 and 0, of generations 4 and 5; before the stretch plain and targeted items and a pause; after it a pause and plain items. The stretch
+-- begins inside a call and ends with the last item of its lane. In it are one of each call, items that were not ordinarily sent, both senders' drops, a third
+-- lane's items by a targeted and by a fair receive, and a hundred calls more
 front-only-uneven-amid-all : EqualTurns fairServesFrontOnly → ⊥
 unfolding computeRuns EqualTurns EqualTurnsIn callBy outputBy receiveOfFront
 front-only-uneven-amid-all h =
