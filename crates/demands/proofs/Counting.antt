@@ -8,7 +8,7 @@ use Prim.Native.Nat.{ℕ, zero, suc, _+_, _≤_, _<_}
 use native.Mathlib.Omega.{arith}
 use lib.Dec.{eqb, leb}
 use borrow.Author.Tests.{eqb-true, eqb-false, eq-eqb, ne-eqb, leb-false}
-use Rattle.model.specs.Lists.{if, both, same, count, keep, from, without}
+use Rattle.model.specs.Lists.{if, both, either, same, count, keep, from, without}
 
 pub data Same (x y : ℕ) : Type 0 where
   equal : x ≡ y → eqb x y ≡ true → same x y ≡ 1 → Same x y
@@ -35,6 +35,10 @@ no p q = let z : _≡_ {A = ℕ} 0 1 = cc in omega arith
 pub both-true : (a b : Bool) → both a b ≡ true → (a ≡ true) × (b ≡ true)
 both-true true b e = (refl, e)
 both-true false b e = absurd (no e refl)
+
+pub either-false : (a b : Bool) → either a b ≡ false → (a ≡ false) × (b ≡ false)
+either-false true b e = absurd (no refl e)
+either-false false b e = (refl, e)
 
 pub both-intro : {a b : Bool} → a ≡ true → b ≡ true → both a b ≡ true
 both-intro p q = rw (p, q)

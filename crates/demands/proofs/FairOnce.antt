@@ -10,7 +10,7 @@ use lib.ListN.{length}
 use borrow.Author.Tests.{ne-eqb}
 use Rattle.model.specs.declared.LaneKey.{LaneKey}
 use Rattle.model.specs.declared.ReceiveCall.the-variants.{TryRecv, TryRecvFair, TryRecvFrom, TryRecvBatchInto}
-use Rattle.model.specs.Lists.{if, either, same, count, keep, from, nonEmpty, without}
+use Rattle.model.specs.Lists.{if, same, count, keep, from, nonEmpty, without}
 use Rattle.model.specs.State.{State, mayQueue, keyOf}
 use Rattle.model.specs.Changes.{withQueue, withBudget, put, popped}
 use Rattle.model.specs.Ready.{marks, isReady, collectGroup, groupsRound, collectEach, collectReady}
@@ -20,7 +20,7 @@ use Rattle.model.specs.Receive.{releaseAll, queueLaneIf}
 use Rattle.model.specs.Order.{Ordered}
 use Rattle.model.specs.Stretch.{endsWait, endsStretch, otherReceive, notFair}
 use Rattle.model.specs.EqualTurns.{outOfTurn}
-use Rattle.demands.proofs.Counting.{Same, equal, other, same?, same-self, no, count-append}
+use Rattle.demands.proofs.Counting.{Same, equal, other, same?, same-self, no, either-false, count-append}
 use Rattle.demands.proofs.OrderKept.{front-alone, front-rest, settle-empty-queue, before-next-turn-queue, first-other}
 use Rattle.demands.proofs.Quiet.{Hold, hold-quiet, poll, poll-quiet, poll-ordered, settle-empty-quiet, before-next-turn-quiet, collect-ready-quiet, trans, budget-quiet}
 use Rattle.demands.proofs.Ahead.{ahead, before, before-append, before-count}
@@ -120,10 +120,6 @@ fair-in-turn a b (gives (TryRecvFrom i) j v) e = absurd (no refl e)
 fair-in-turn a b (gives (TryRecvBatchInto limit room) j v) e = absurd (no refl e)
 fair-in-turn a b (ends c x) e = refl
 
-either-second : (a b : Bool) → either a b ≡ false → b ≡ false
-either-second true b e = absurd (no refl e)
-either-second false b e = e
-
 -- a targeted receive leaves its lane where it stands, or puts it at the back
 queue-lane-shrinks : (b : Bool) (x y : ℕ) (s : State) → Shrinks x (s .queue) ((queueLaneIf b y s) .queue)
 unfolding queueLaneIf
@@ -164,7 +160,7 @@ module _ (E R : ℕ) (K j : LaneKey) where
   move-once n k w (aims s i v vs c e) f b o =
       let y = i .key .slot in
       let same : keyOf s y ≡ i .key = key-path (keyOf s y) (i .key) refl (has-lane-parts s (i .key) c .1) in
-      let third : sameKey (keyOf s y) j ≡ false = ap (λ (z : LaneKey). sameKey z j) same ∙ either-second (sameKey (i .key) K) (sameKey (i .key) j) b in
+      let third : sameKey (keyOf s y) j ≡ false = ap (λ (z : LaneKey). sameKey z j) same ∙ either-false (sameKey (i .key) K) (sameKey (i .key) j) b .1 in
       rw third (calmly s _ (queue-lane-shrinks (mayQueue s y) (K .slot) y (put y (popped vs (unreleasedAfterOne s y) (s .slotOf y .burst) (s .slotOf y)) s)) o)
   move-once n k w (aims-none s i a c e h) f b o =
       let d : K .slot ≢ i .key .slot = λ p. omega (arith, w .hold .some-item, ap (λ (z : ℕ). length (s .slotOf z .ring)) p, ap length e) in

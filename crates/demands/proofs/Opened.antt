@@ -10,13 +10,13 @@ use borrow.Author.Tests.{ltb-false}
 use Rattle.model.specs.declared.Opening.{Opening}
 use Rattle.model.specs.declared.Refusal.{Refusal}
 use Rattle.model.specs.declared.Answer.the-variants.{Done}
-use Rattle.model.specs.Lists.{if, either, count}
+use Rattle.model.specs.Lists.{if, count}
 use Rattle.model.specs.State.{State, vacant}
 use Rattle.model.specs.Outcome.{Outcome, unless}
 use Rattle.model.specs.Runs.{Lent}
 use Rattle.model.specs.Opening.{doubledUntil, openedState, openingOutcome}
 use Rattle.model.specs.Order.{Ordered}
-use Rattle.demands.proofs.Counting.{no}
+use Rattle.demands.proofs.Counting.{no, either-false}
 use Rattle.demands.proofs.Moves.{NoneApplies, unless-law}
 
 -- an opening's capacity
@@ -35,10 +35,6 @@ doubled-power (suc n) j p c e = go (leb c p) (doubled-power n (suc j) (p + p) c 
 -- a call that is not refused has passed every test
 unless-done : (cs : List (Bool × Refusal)) (s : State) (r : Outcome) → (unless cs s r) .1 .0 ≡ Done → NoneApplies cs
 unless-done cs s r = unless-law (λ o. o .1 .0 ≡ Done → NoneApplies cs) cs s r (λ n e. let z : _≡_ {A = ℕ} 0 1 = cc in absurd (omega arith)) (λ p e. p)
-
-either-false : (a b : Bool) → either a b ≡ false → (a ≡ false) × (b ≡ false)
-either-false true b e = absurd (no refl e)
-either-false false b e = (refl, e)
 
 taken-slots : (o : Opening) (lent : Lent) → (openingOutcome o lent) .1 .0 ≡ Done → (1 ≤ o .slots) × (o .slots ≤ 8192)
 unfolding openingOutcome
