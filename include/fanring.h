@@ -130,8 +130,8 @@ uint64_t fanring_drop_sender(
 uint64_t fanring_try_recv(uint64_t *table, size_t table_len, const uint64_t *rings, size_t rings_len, uint64_t words[FANRING_WORDS]);
 
 /* Receives one item (fair): one of the front lane, which goes to the back. Two lanes that are never without an ordinarily sent item, unpaused and open, get
-   the same turns: as long as items go out only by fair receives and by targeted receives of other lanes, those of the one and of the other differ by at
-   most one. Answers as fanring_try_recv. */
+   the same turns: counted from any point on, as long as the receiver is open and items go out only by fair receives and by targeted receives of other lanes,
+   those of the one and of the other differ by at most one. Answers as fanring_try_recv. */
 uint64_t fanring_try_recv_fair(uint64_t *table, size_t table_len, const uint64_t *rings, size_t rings_len, uint64_t words[FANRING_WORDS]);
 
 /* Receives one item of the lane with this id, paused or not (targeted). A lane that gave one, and is neither paused nor queued, is then queued, at the

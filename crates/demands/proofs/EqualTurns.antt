@@ -1,6 +1,7 @@
 -- Two lanes that wait throughout get the same turns: whichever gives stands behind the other.
 -- Assumes nothing.
 use mathlib.Core.Path.{_≡_, refl, ap, sym, _∙_}
+use mathlib.Core.Logic.{_≢_}
 use mathlib.Core.Bool.{Bool, true, false, not}
 use mathlib.Core.Option.{some}
 use mathlib.Core.List.{List, [], _∷_, _++_}
@@ -84,7 +85,7 @@ left-waiting k c x L w = go (accepted x) w
 -- ---- lane a is never ahead of lane b by more than one, while b waits
 
 -- a has given `na`, b `nb`; a may give `left` more before b does
-record Ahead (a b : LaneKey) (na nb : ℕ) (s : State) : Type 0 where
+record Lead (a b : LaneKey) (na nb : ℕ) (s : State) : Type 0 where
   left : ℕ
   most : na + left ≤ nb + 1
   once : Once (b .slot) (a .slot) left s
@@ -98,45 +99,45 @@ on-start L s b o a w =
     record { ord = o; hold = h; few-live = f; wide = omega arith; wait = wait-start (groupsIn (s .issued)) (liveLanes (L .lanes)) (b .slot) (b .generation) s o h f (omega arith) }
 
 -- no item is of two lanes
-one-lane : (a b : LaneKey) (t : Tick) → sameKey a b ≡ false → ofLane b t ≡ true → ofLane a t ≡ false
+one-lane : (a b : LaneKey) (t : Tick) → a ≢ b → ofLane b t ≡ true → ofLane a t ≡ false
 unfolding ofLane
 one-lane a b (gives r j v) d e = elim (keys? j b) [
-  | alike p f ↦ elim (keys? j a) [ alike q g ↦ absurd (no (ap (λ (z : LaneKey). sameKey z b) (sym q) ∙ e) d) | unlike q g ↦ g ]
+  | alike p f ↦ elim (keys? j a) [ alike q g ↦ absurd (d (sym q ∙ p)) | unlike q g ↦ g ]
   | unlike p f ↦ absurd (no e f)
 ]
 one-lane a b (ends c x) d e = refl
 
-module _ (a b : LaneKey) (d : sameKey a b ≡ false) where
+module _ (a b : LaneKey) (d : a ≢ b) where
   -- b's item lets a give one again; a's own uses that up; nothing else changes it
-  ahead-after : (t : Tick) (L : Ledger) (s u : State) (na nb : ℕ) → Ordered s → Agrees L s → Moves s t u → waits b L ≡ true → outOfTurn b a t ≡ false → endsStretch b t ≡ ofLane b t → Ahead a b na nb s
-      → Ahead a b (if (ofLane a t) 1 0 + na) (if (ofLane b t) 1 0 + nb) u
-  ahead-after t L s u na nb o g m w f x h = go (ofLane b t) refl
+  lead-after : (t : Tick) (L : Ledger) (s u : State) (na nb : ℕ) → Ordered s → Agrees L s → Moves s t u → waits b L ≡ true → outOfTurn b a t ≡ false → endsStretch b t ≡ ofLane b t → Lead a b na nb s
+      → Lead a b (if (ofLane a t) 1 0 + na) (if (ofLane b t) 1 0 + nb) u
+  lead-after t L s u na nb o g m w f x h = go (ofLane b t) refl
     where
-      go : (c : Bool) → ofLane b t ≡ c → Ahead a b (if (ofLane a t) 1 0 + na) (if c 1 0 + nb) u
+      go : (c : Bool) → ofLane b t ≡ c → Lead a b (if (ofLane a t) 1 0 + na) (if c 1 0 + nb) u
       go true e = rw (one-lane a b t d e) record { left = 1; most = omega (arith, h .most); once = fresh (omega arith) }
       go false e =
           let r = move-once (groupsIn (s .issued)) (liveLanes (L .lanes)) b a _ (h .left) (on-start L s b o g w) m (x ∙ e) f (h .once) in
           record { left = r .rest; most = omega (arith, r .pays, h .most); once = r .once }
 
-  ahead-run : (ts rest : List Tick) (L : Ledger) (s e : State) (na nb : ℕ) → Ordered s → Agrees L s → Chain s (ts ++ rest) e
-      → throughout (waits b) L ts ≡ true → countTicks (outOfTurn b a) ts ≡ 0 → Ahead a b na nb s → countTicks (ofLane a) ts + na ≤ countTicks (ofLane b) ts + nb + 1
+  lead-run : (ts rest : List Tick) (L : Ledger) (s e : State) (na nb : ℕ) → Ordered s → Agrees L s → Chain s (ts ++ rest) e
+      → throughout (waits b) L ts ≡ true → countTicks (outOfTurn b a) ts ≡ 0 → Lead a b na nb s → countTicks (ofLane a) ts + na ≤ countTicks (ofLane b) ts + nb + 1
   unfolding countTicks throughout ofLane endsStretch
-  ahead-run [] rest L s e na nb o g c w z h = omega (arith, h .most)
-  ahead-run (gives r j v ∷ ts) rest L s e na nb o g (move {u = u} m c) w z h =
+  lead-run [] rest L s e na nb o g c w z h = omega (arith, h .most)
+  lead-run (gives r j v ∷ ts) rest L s e na nb o g (move {u = u} m c) w z h =
       let p = both-true (waits b L) (throughout (waits b) (note L (gives r j v)) ts) w in
       let q = first-none (outOfTurn b a) (gives r j v) ts z in
-      let k = ahead-after (gives r j v) L s u na nb o g m (p .0) (q .0) refl h in
-      omega (arith, ahead-run ts rest (note L (gives r j v)) u e _ _ (move-ordered o m) (move-agrees L o g m) c (p .1) (q .1) k)
+      let k = lead-after (gives r j v) L s u na nb o g m (p .0) (q .0) refl h in
+      omega (arith, lead-run ts rest (note L (gives r j v)) u e _ _ (move-ordered o m) (move-agrees L o g m) c (p .1) (q .1) k)
   -- what happens last may be a pause of b
-  ahead-run (ends x y ∷ []) rest L s e na nb o g c w z h = omega (arith, h .most)
-  ahead-run (ends x y ∷ t ∷ ts) rest L s e na nb o g (move {u = u} m c) w z h =
+  lead-run (ends x y ∷ []) rest L s e na nb o g c w z h = omega (arith, h .most)
+  lead-run (ends x y ∷ t ∷ ts) rest L s e na nb o g (move {u = u} m c) w z h =
       let p = both-true (waits b L) (throughout (waits b) (note L (ends x y)) (t ∷ ts)) w in
       let q = first-none (outOfTurn b a) (ends x y) (t ∷ ts) z in
       let l = left-waiting b x y L (both-true (waits b (note L (ends x y))) _ (p .1) .0) in
-      let k = ahead-after (ends x y) L s u na nb o g m (p .0) (q .0) l h in
-      omega (arith, ahead-run (t ∷ ts) rest (note L (ends x y)) u e _ _ (move-ordered o m) (move-agrees L o g m) c (p .1) (q .1) k)
+      let k = lead-after (ends x y) L s u na nb o g m (p .0) (q .0) l h in
+      omega (arith, lead-run (t ∷ ts) rest (note L (ends x y)) u e _ _ (move-ordered o m) (move-agrees L o g m) c (p .1) (q .1) k)
 
-start : (a b : LaneKey) (s : State) → Ahead a b 0 0 s
+start : (a b : LaneKey) (s : State) → Lead a b 0 0 s
 start a b s = record { left = 1; most = omega arith; once = fresh (omega arith) }
 
 -- ---- which of the two is named first does not matter
@@ -159,18 +160,13 @@ turn-swap a b (t ∷ ts) = rw (one t, turn-swap a b ts)
     one (gives (TryRecvFrom i) j v) = either-swap (sameKey (i .key) b) (sameKey (i .key) a)
     one (ends c x) = refl
 
-differ-swap : (a b : LaneKey) → sameKey a b ≡ false → sameKey b a ≡ false
-differ-swap a b d = elim (keys? b a) [
-  | alike p e ↦ elim (keys? a b) [ alike q f ↦ absurd (no f d) | unlike q f ↦ absurd (q (sym p)) ]
-  | unlike p e ↦ e
-]
-
 pub equal-turns : EqualTurns theRules
 unfolding EqualTurns EqualTurnsIn
 equal-turns o lent k calls t before soFar rest e a b d wa wb z =
     let s = (openingOutcome o lent) .1 .1 in
     let p = at-point (λ L u. Ordered u × Agrees L u) (λ L u v t i m. (move-ordered (i .0) m, move-agrees L (i .0) (i .1) m)) atOpening s _ before (soFar ++ rest)
     (rw (opens-as o lent) (opened-ordered o lent k), rw (opens-as o lent) (opened-agrees o)) (rw e at (trace-chain s calls)) in
-    let one = ahead-run a b d soFar rest (ledgerAfter atOpening before) (p .0) _ 0 0 (p .1 .0) (p .1 .1) (p .2) wb (turn-swap a b soFar ∙ z) (start a b (p .0)) in
-    let two = ahead-run b a (differ-swap a b d) soFar rest (ledgerAfter atOpening before) (p .0) _ 0 0 (p .1 .0) (p .1 .1) (p .2) wa z (start b a (p .0)) in
+    let u : a ≢ b = elim (keys? a b) [ alike q f ↦ absurd (no f d) | unlike q f ↦ q ] in
+    let one = lead-run a b u soFar rest (ledgerAfter atOpening before) (p .0) _ 0 0 (p .1 .0) (p .1 .1) (p .2) wb (turn-swap a b soFar ∙ z) (start a b (p .0)) in
+    let two = lead-run b a (λ q. u (sym q)) soFar rest (ledgerAfter atOpening before) (p .0) _ 0 0 (p .1 .0) (p .1 .1) (p .2) wa z (start b a (p .0)) in
     record { first-most = omega (arith, one); second-most = omega (arith, two) }

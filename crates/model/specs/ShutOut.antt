@@ -1,5 +1,5 @@
 -- Wrong rules, each document 01's but for one call: those that document 01 says demands 2 and 3 shut out.
--- That a demand does not hold of them is in crates/demands/proofs/ShutOut.antt. Two more are shut out only by what is claimed beside the demands, and one sooner.
+-- That a demand does not hold of them is in crates/demands/proofs/ShutOut.antt. Three more are shut out by what is claimed beside the demands.
 -- Assumes nothing.
 use mathlib.Core.Bool.{false, not}
 use mathlib.Core.List.{List, [], _∷_, _++_}
@@ -172,8 +172,7 @@ sendUnwoken s (DropSender k) = senderOutcome s (DropSender k)
 abbrev pub sendNeverWakes : Rules
 sendNeverWakes = rulesBy sendUnwoken receiveOutcome controlOutcome
 
--- `EqualTurns` shuts out a targeted receive that sends the lane in front to the back, at the first time (specs/Examples/Uneven.antt). With such receives between
--- them, fair ones may serve one lane alone, which demand 3's bound allows for a while.
+-- `EqualTurns` shuts out a targeted receive that sends the lane in front to the back, by one such call (specs/Examples/Uneven.antt).
 unfoldable pub frontToBack : List ℕ → List ℕ
 frontToBack [] = []
 frontToBack (x ∷ q) = q ++ (x ∷ [])

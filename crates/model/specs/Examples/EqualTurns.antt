@@ -159,6 +159,15 @@ two-apart-second : AtMostOneApart (keyAt 0 0) (keyAt 1 0) (given 1 ∷ given 1 �
 unfolding computeTurns given
 two-apart-second h = absurd (omega (arith, h .second-most))
 
+-- nor where the other has given some: it is the difference that counts
+three-and-one : AtMostOneApart (keyAt 0 0) (keyAt 1 0) (given 1 ∷ given 0 ∷ given 0 ∷ given 0 ∷ []) → ⊥
+unfolding computeTurns given
+three-and-one h = absurd (omega (arith, h .first-most))
+
+one-and-three : AtMostOneApart (keyAt 0 0) (keyAt 1 0) (given 0 ∷ given 1 ∷ given 1 ∷ given 1 ∷ []) → ⊥
+unfolding computeTurns given
+one-and-three h = absurd (omega (arith, h .second-most))
+
 -- items of third lanes between them, of slot 1's next lane too, do not make it less; nor does it matter that a targeted receive hands one out
 apart-between-first : AtMostOneApart (keyAt 0 0) (keyAt 1 0) (given 0 ∷ given 2 ∷ gives TryRecvFair (keyAt 1 1) 5 ∷ gives (TryRecvFrom (idAt 2 0)) (keyAt 0 0) 5 ∷ []) → ⊥
 unfolding computeTurns given
