@@ -39,8 +39,8 @@ impl Channel {
 
     /// Receive one item, and the lane it is from, rotating to the next ready lane afterwards.
     ///
-    /// Two lanes that are never without an ordinarily sent item, unpaused and open, get the same turns: counted from any
-    /// point on, as long as the receiver is open and items go out only by this call and by
+    /// Two lanes that are never without an ordinarily sent item, unpaused and open, get the same turns: counted from
+    /// any point on, as long as the receiver is open and items go out only by this call and by
     /// [`try_recv_from`](Self::try_recv_from) of other lanes, those of the one and of the other differ by at most one.
     ///
     /// # Errors
