@@ -216,8 +216,11 @@ asked : (LaneKey → Ledger → Bool) → (Tick → Bool) → Parts → Bool × 
 asked p q e = (both (throughout (p (keyAt 0 0)) (ledgerBefore e) (stretchOf e)) (throughout (p (keyAt 1 0)) (ledgerBefore e) (stretchOf e)), countTicks q (stretchOf e))
 
 -- as the claim asks
+outOfTheirTurn : Tick → Bool
+outOfTheirTurn = outOfTurn (keyAt 0 0) (keyAt 1 0)
+
 asClaimed : Parts → Bool × ℕ
-asClaimed e = asked waits (outOfTurn (keyAt 0 0) (keyAt 1 0)) e
+asClaimed e = asked waits outOfTheirTurn e
 
 -- lanes 0 and 1 hold two items each, or four
 unfoldable pub twoEach : List Call
@@ -254,7 +257,7 @@ eachKind = (
 )
 
 unfoldable pub computeRuns : Unit {0}
-unfolding computeTurns opening lent stateBefore ledgerBefore stretchOf itemsGiven asked asClaimed afterList twoEach fourEach eachKind
+unfolding computeTurns opening lent stateBefore ledgerBefore stretchOf itemsGiven asked outOfTheirTurn asClaimed afterList twoEach fourEach eachKind
 computeRuns = tt
 
 each-kind-answers :
@@ -340,9 +343,6 @@ ofAnyLane (ends c x) = false
 byAny : Tick → Bool
 byAny t = false
 
-outOfTheirTurn : Tick → Bool
-outOfTheirTurn = outOfTurn (keyAt 0 0) (keyAt 1 0)
-
 -- one unsignalled item of lane 0, and four ordinary ones of lane 1
 oneUnsignalled : List Call
 oneUnsignalled = sendsUnsignalled 0 5 ∷ repeat 4 (sends 1 6)
@@ -361,5 +361,5 @@ left-out :
     ∷ ((waits, byAny, (fourEach, plain ∷ plain ∷ [])), ((true, 0), (true, 2), (2, 0)))
     ∷ ((waits, byAny, (fourEach, batch 2 2 ∷ [])), ((true, 0), (true, 2), (2, 0)))
     ∷ [])
-unfolding computeRuns laneThat waitsBy anyItem evenPaused evenClosed ofAnyLane byAny outOfTheirTurn oneUnsignalled
+unfolding computeRuns laneThat waitsBy anyItem evenPaused evenClosed ofAnyLane byAny oneUnsignalled
 left-out = refl
