@@ -9,12 +9,14 @@ use native.Mathlib.Omega.{arith}
 use lib.ListN.{length}
 use Rattle.model.specs.declared.LaneKey.{LaneKey}
 use Rattle.model.specs.declared.Opening.{Opening}
+use Rattle.model.specs.declared.Call.{Call}
+use Rattle.model.specs.declared.Answer.the-variants.{Done}
 -- not used here: so the computed run that meets the bound is checked first
 use Rattle.model.specs.Examples.BoundMet.{bound-met}
 use Rattle.model.specs.Lists.{if, both}
 use Rattle.model.specs.State.{State, vacant, keyOf}
 use Rattle.model.specs.Ready.{groupsIn}
-use Rattle.model.specs.Runs.{Tick, ofLane, countTicks}
+use Rattle.model.specs.Runs.{Lent, Tick, trace, afterList, ofLane, countTicks}
 use Rattle.model.specs.Opening.{openedState, openingOutcome}
 use Rattle.model.specs.Rules.{theRules}
 use Rattle.model.specs.Order.{Ordered}
@@ -212,10 +214,16 @@ promise L s e rest K o a c w =
     seen-none : {b : Bool} {k : ℕ} → b ≡ false → if {A = ℕ} b 1 0 + k ≤ k
     seen-none e = rw e (omega arith)
 
+-- at a point of a run from an accepted opening on the state agrees with the ledger
+pub agrees-at : (o : Opening) (lent : Lent) → (openingOutcome o lent) .1 .0 ≡ Done → (calls : List Call) (before rest : List Tick) → let s = (openingOutcome o lent) .1 .1 in trace theRules s calls ≡ before ++ rest
+    → (u : State) × (Ordered u × Agrees (ledgerAfter atOpening before) u) × Chain u rest (afterList theRules s calls)
+agrees-at o lent a calls before rest e =
+    let s = (openingOutcome o lent) .1 .1 in
+    at-point (λ L u. Ordered u × Agrees L u) (λ L u v t i m. (move-ordered (i .0) m, move-agrees L (i .0) (i .1) m)) atOpening s _ before rest
+    (rw (opens-as o lent) (opened-ordered o lent a), rw (opens-as o lent) (opened-agrees o)) (rw e at (trace-chain s calls))
+
 pub demand3 : Demand3 theRules
 unfolding Demand3 Demand3In
 demand3 o lent a calls t before rest e K w =
-    let s = (openingOutcome o lent) .1 .1 in
-    let p = at-point (λ L u. Ordered u × Agrees L u) (λ L u v t i m. (move-ordered (i .0) m, move-agrees L (i .0) (i .1) m)) atOpening s _ before rest
-    (rw (opens-as o lent) (opened-ordered o lent a), rw (opens-as o lent) (opened-agrees o)) (rw e at (trace-chain s calls)) in
+    let p = agrees-at o lent a calls before rest e in
     promise (ledgerAfter atOpening before) (p .0) _ rest K (p .1 .0) (p .1 .1) (p .2) w

@@ -17,23 +17,20 @@ use Rattle.model.specs.Lists.{if, both, either}
 use Rattle.model.specs.State.{State}
 use Rattle.model.specs.Ready.{groupsIn}
 use Rattle.model.specs.Runs.{accepted, Tick, gives, ends, sameKey, countTicks, ofLane}
-use Rattle.model.specs.Opening.{openingOutcome}
 use Rattle.model.specs.Rules.{theRules}
 use Rattle.model.specs.Order.{Ordered}
 use Rattle.model.specs.Ledger.{Lane, Ledger, atOpening, changeLane, setPaused, setClosed, addRegistered, applyCall, note, ledgerAfter, waitsIn, waits, liveLanes}
 use Rattle.model.specs.Stretch.{endsWait, endsStretch}
-use Rattle.model.specs.EqualTurns.{outOfTurn, throughout, AtMostOneApart, EqualTurnsIn, EqualTurns}
+use Rattle.model.specs.EqualTurns.{outOfTurn, throughout, EqualTurnsIn, EqualTurns}
 use Rattle.demands.proofs.Counting.{no, both-true}
 use Rattle.demands.proofs.WaitInReceive.{On, wait-start}
-use Rattle.demands.proofs.Moves.{Moves, Chain, stay, move, trace-chain}
-use Rattle.demands.proofs.Opened.{opened-ordered}
+use Rattle.demands.proofs.Moves.{Moves, Chain, move}
 use Rattle.demands.proofs.MovesKeepOrder.{move-ordered}
 use Rattle.demands.proofs.LedgerLaws.{alike, unlike, keys?, changeIn}
-use Rattle.demands.proofs.Demand2.{opens-as}
 use Rattle.demands.proofs.LedgerAgrees.{seen, seen-closed, Agrees, move-agrees, set-paused-key, set-closed-key}
 use Rattle.demands.proofs.LiveCount.{agrees-few}
 use Rattle.demands.proofs.FairOnce.{Once, fresh, move-once}
-use Rattle.demands.proofs.Demand3.{at-point, hold-start, opened-agrees, first-none}
+use Rattle.demands.proofs.Demand3.{hold-start, first-none, agrees-at}
 
 -- ---- a lane that waits after a call was not paused or closed by it, and the receiver is open
 
@@ -163,9 +160,7 @@ turn-swap a b (t ∷ ts) = rw (one t, turn-swap a b ts)
 pub equal-turns : EqualTurns theRules
 unfolding EqualTurns EqualTurnsIn
 equal-turns o lent k calls t before soFar rest e a b d wa wb z =
-    let s = (openingOutcome o lent) .1 .1 in
-    let p = at-point (λ L u. Ordered u × Agrees L u) (λ L u v t i m. (move-ordered (i .0) m, move-agrees L (i .0) (i .1) m)) atOpening s _ before (soFar ++ rest)
-    (rw (opens-as o lent) (opened-ordered o lent k), rw (opens-as o lent) (opened-agrees o)) (rw e at (trace-chain s calls)) in
+    let p = agrees-at o lent k calls before (soFar ++ rest) e in
     let u : a ≢ b = elim (keys? a b) [ alike q f ↦ absurd (no f d) | unlike q f ↦ q ] in
     let one = lead-run a b u soFar rest (ledgerAfter atOpening before) (p .0) _ 0 0 (p .1 .0) (p .1 .1) (p .2) wb (turn-swap a b soFar ∙ z) (start a b (p .0)) in
     let two = lead-run b a (λ q. u (sym q)) soFar rest (ledgerAfter atOpening before) (p .0) _ 0 0 (p .1 .0) (p .1 .1) (p .2) wa z (start b a (p .0)) in

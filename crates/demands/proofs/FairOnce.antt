@@ -1,4 +1,5 @@
--- Under fair receives, each other lane gives at most one item while lane x waits: once it has given, it stands behind x. Targeted receives of third lanes do not change that.
+-- Under fair receives, each other lane gives at most one item while lane x waits: once it has given, it stands behind x. Targeted receives of third lanes do not
+-- change that.
 -- Assumes nothing.
 use mathlib.Core.Path.{_≡_, refl, ap, sym, _∙_, subst}
 use mathlib.Core.Logic.{_≢_}

@@ -9,15 +9,13 @@ use Prim.Native.Nat.{ℕ}
 use native.Mathlib.Omega.{arith}
 use Rattle.model.specs.declared.LaneKey.{LaneKey}
 use Rattle.model.specs.declared.Opening.{Opening}
-use Rattle.model.specs.declared.SenderCall.the-variants.{RegisterSender, TrySend}
 use Rattle.model.specs.declared.ReceiveCall.the-variants.{TryRecv, TryRecvFair, TryRecvFrom, TryRecvBatchInto}
 use Rattle.model.specs.declared.ControlCall.the-variants.{ReleaseConsumed, CloseReceiver}
 use Rattle.model.specs.declared.Call.{Call}
-use Rattle.model.specs.declared.Call.the-variants.{Sender, Receive, Control}
+use Rattle.model.specs.declared.Call.the-variants.{Control}
 use Rattle.model.specs.declared.Refusal.the-variants.{ReceiverClosed, AtCapacity, NoSuchSender, NoSuchLane, Full, OutputShort}
-use Rattle.model.specs.declared.Answer.{Answer}
-use Rattle.model.specs.declared.Answer.the-variants.{Done, Registered, Taken, Item, Items, Empty, Disconnected, Held, Refused}
-use Rattle.model.specs.Lists.{if, both, either, nonEmpty}
+use Rattle.model.specs.declared.Answer.the-variants.{Done, Taken, Items, Empty, Disconnected, Held, Refused}
+use Rattle.model.specs.Lists.{if, both, nonEmpty}
 use Rattle.model.specs.State.{State}
 use Rattle.model.specs.Runs.{Lent, accepted, Tick, gives, ends, handed, ticks, trace, afterList, answers, sameKey, countTicks, ofLane}
 use Rattle.model.specs.Opening.{openingOutcome}
