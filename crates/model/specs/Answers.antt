@@ -63,8 +63,8 @@ unfoldable pub line : Answer → List ℕ → Line
 line Done out = record { word = done; numbers = [] }
 -- "`lane 0 0` (slot, generation)"
 line (Registered k) out = record { word = lane; numbers = k .slot ∷ k .generation ∷ [] }
--- "`taken 1` (woken: 1 or 0; unsignalled always 0)"
-line (Taken w) out = record { word = taken; numbers = bit w ∷ [] }
+-- "`taken W F`, W as before and F that number" (document 02, N1); before: "`taken 1` (woken: 1 or 0; unsignalled always 0)"
+line (Taken w f) out = record { word = taken; numbers = bit w ∷ f ∷ [] }
 -- "`item 11 0 0` (item, key)"
 line (Item v i) out = record { word = item; numbers = v ∷ i .key .slot ∷ i .key .generation ∷ [] }
 -- "`items N` and the N values on that line"

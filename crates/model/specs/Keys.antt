@@ -17,7 +17,7 @@ use Rattle.model.specs.Ledger.{atOpening, ledgerAfter}
 unfoldable pub registersAs : (LaneKey → Bool) → Answer → Bool
 registersAs p (Registered k) = p k
 registersAs p Done = false
-registersAs p (Taken w) = false
+registersAs p (Taken w f) = false
 registersAs p (Item v i) = false
 registersAs p (Items n) = false
 registersAs p Empty = false

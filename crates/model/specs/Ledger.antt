@@ -71,7 +71,7 @@ addRegistered (Registered k) L = record {
   issued = max (L .issued) (k .slot + 1);
 }
 addRegistered Done L = L
-addRegistered (Taken w) L = L
+addRegistered (Taken w f) L = L
 addRegistered (Item v i) L = L
 addRegistered (Items n) L = L
 addRegistered Empty L = L

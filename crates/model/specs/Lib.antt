@@ -19,6 +19,7 @@ pub mod Demand1
 pub mod Demand2
 pub mod Demand3
 pub mod EqualTurns
+pub mod FreePlaces
 pub mod Closed
 pub mod Held
 pub mod Simulation

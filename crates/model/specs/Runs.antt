@@ -41,7 +41,7 @@ allRuns R o lent calls = Unit {0}
 unfoldable pub accepted : Answer → Bool
 accepted Done = true
 accepted (Registered k) = true
-accepted (Taken w) = true
+accepted (Taken w f) = true
 accepted (Item v i) = true
 accepted (Items n) = true
 accepted Empty = true

@@ -10,7 +10,7 @@ use Rattle.model.specs.declared.SenderCall.the-variants.{RegisterSender,
 use Rattle.model.specs.declared.Refusal.the-variants.{ReceiverClosed, AtCapacity, NoFreeSlot, OlderSenderLives, NoSuchSender, LaneClosed, Full}
 use Rattle.model.specs.declared.Answer.the-variants.{Done, Registered, Taken}
 use Rattle.model.specs.Lists.{both, nonEmpty}
-use Rattle.model.specs.State.{State, registeredLanes, senderLives, isFull}
+use Rattle.model.specs.State.{State, registeredLanes, senderLives, isFull, freePlaces}
 use Rattle.model.specs.Changes.{withFree, withIssued, put, newLane, signalled, pushed, senderDropped}
 use Rattle.model.specs.Outcome.{Outcome, says, unless}
 
@@ -37,6 +37,10 @@ registerSender s most =
     ∷ (both (not (nonEmpty (s .free))) (leb (s .slots) (s .issued)), NoFreeSlot) ∷ (olderLives (s .free) s, OlderSenderLives) ∷ [])
     s (issueSlot (s .free) s)
 
+-- An item is in slot x's ring. Document 02, N1: the send "answers also how many further sends the ring would take", after it.
+unfoldable pub itemIn : Bool → ℕ → State → Outcome
+itemIn woken x s = says (Taken woken (freePlaces s x)) s
+
 -- "no living sender has this key"; "lane closed, or the receiver (`Disconnected`)"; "ring full (`Full`)"
 -- "answers whether the signal went from idle to pending"
 unfoldable pub trySend : State → LaneKey → ℕ → Outcome
@@ -44,7 +48,7 @@ trySend s k v =
     unless
     ((not (senderLives s k), NoSuchSender) ∷ (not (both (s .isOpen) (s .slotOf (k .slot) .registered)), LaneClosed)
     ∷ (isFull s (k .slot), Full) ∷ [])
-    s (says (Taken (not (s .slotOf (k .slot) .pending))) (put (k .slot) (signalled (pushed v (s .slotOf (k .slot)))) s))
+    s (itemIn (not (s .slotOf (k .slot) .pending)) (k .slot) (put (k .slot) (signalled (pushed v (s .slotOf (k .slot)))) s))
 
 -- "woken: 1 or 0; unsignalled always 0"
 unfoldable pub trySendUnsignaled : State → LaneKey → ℕ → Outcome
@@ -52,7 +56,7 @@ trySendUnsignaled s k v =
     unless
     ((not (senderLives s k), NoSuchSender) ∷ (not (both (s .isOpen) (s .slotOf (k .slot) .registered)), LaneClosed)
     ∷ (isFull s (k .slot), Full) ∷ [])
-    s (says (Taken false) (put (k .slot) (pushed v (s .slotOf (k .slot))) s))
+    s (itemIn false (k .slot) (put (k .slot) (pushed v (s .slotOf (k .slot))) s))
 
 -- "Dropping a sender marks its lane (a closed lane's signal is kept while its sender lives) and lowers the living count"
 unfoldable pub dropSender : State → LaneKey → Outcome

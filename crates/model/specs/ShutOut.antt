@@ -18,7 +18,7 @@ use Rattle.model.specs.declared.Call.the-variants.{Sender, Receive, Cont
 use Rattle.model.specs.declared.Refusal.the-variants.{ReceiverClosed, OutputShort, Full}
 use Rattle.model.specs.declared.Answer.the-variants.{Registered, Taken, Items, Held, Refused}
 use Rattle.model.specs.Lists.{if}
-use Rattle.model.specs.State.{State, keyOf}
+use Rattle.model.specs.State.{State, keyOf, freePlaces}
 use Rattle.model.specs.Changes.{withQueue, withFree, withBudget, put, newLane}
 use Rattle.model.specs.Ready.{collectReady}
 use Rattle.model.specs.Turn.{runDown, giveFront, polled}
@@ -164,7 +164,7 @@ sameKeyAgain = rulesBy registerSameKey receiveOutcome controlOutcome
 
 -- `NoLostWake` shuts out a send that never says woken 1: it leaves what a send leaves.
 unfoldable pub sendUnwoken : State → SenderCall → Outcome
-sendUnwoken s (TrySend k v) = let o = trySend s k v in says (if (accepted (o .1 .0)) (Taken false) (o .1 .0)) (o .1 .1)
+sendUnwoken s (TrySend k v) = let o = trySend s k v in says (if (accepted (o .1 .0)) (Taken false (freePlaces (o .1 .1) (k .slot))) (o .1 .0)) (o .1 .1)
 sendUnwoken s (RegisterSender most) = senderOutcome s (RegisterSender most)
 sendUnwoken s (TrySendUnsignaled k v) = senderOutcome s (TrySendUnsignaled k v)
 sendUnwoken s (DropSender k) = senderOutcome s (DropSender k)

@@ -3,7 +3,7 @@
 -- Assumes nothing.
 use mathlib.Core.Bool.{Bool, false, not}
 use mathlib.Core.List.{List, []}
-use Prim.Native.Nat.{ℕ, _+_, _/_, max, min}
+use Prim.Native.Nat.{ℕ, _+_, _-_, _/_, max, min}
 use lib.ListN.{length}
 use lib.Dec.{leb, eqb}
 use Rattle.model.specs.declared.LaneKey.{LaneKey}
@@ -104,6 +104,10 @@ hasLaneId s i = both (eqb (i .channel) (s .channel)) (hasLane s (i .key))
 -- That distance is the items in the ring and those taken but not released.
 unfoldable pub isFull : State → ℕ → Bool
 isFull s x = leb (s .capacity) (length (s .slotOf x .ring) + s .slotOf x .unreleased)
+
+-- Document 02, N1: "how many further sends the ring would take": C less the items in the ring and those taken but not released.
+unfoldable pub freePlaces : State → ℕ → ℕ
+freePlaces s x = s .capacity - (length (s .slotOf x .ring) + s .slotOf x .unreleased)
 
 -- "the release batch min(max(C / 2 rounded up, 64), C)"
 unfoldable pub releaseBatch : ℕ → ℕ

@@ -24,7 +24,7 @@ unfoldable pub itemsBelow : ℕ → Answer → Bool
 itemsBelow limit (Items n) = ltb n limit
 itemsBelow limit Done = false
 itemsBelow limit (Registered k) = false
-itemsBelow limit (Taken w) = false
+itemsBelow limit (Taken w f) = false
 itemsBelow limit (Item v i) = false
 itemsBelow limit Empty = false
 itemsBelow limit Disconnected = false
@@ -72,7 +72,7 @@ sendsTo k (gives r j v) = false
 
 -- "answers woken 1"
 unfoldable pub saysWoken : Answer → Bool
-saysWoken (Taken w) = w
+saysWoken (Taken w f) = w
 saysWoken Done = false
 saysWoken (Registered k) = false
 saysWoken (Item v i) = false

@@ -104,7 +104,8 @@ impl Refusal {
 pub enum Answer {
     Done,
     Registered { key: LaneKey },
-    Taken { woken: bool },
+    // Whether the lane's signal went from idle to pending, and how many further sends its ring takes.
+    Taken { woken: bool, free: u64 },
     Item { item: u64, lane: LaneId },
     Items { count: u64 },
     Empty,

@@ -69,9 +69,9 @@ ends-in-turn :
     Always (outOfTurn (keyAt 0 0) (keyAt 1 0)) false
     (ends registers (lane 2 0)
     ∷ ends registers (Refused AtCapacity)
-    ∷ ends (sends 0 5) (Taken true)
+    ∷ ends (sends 0 5) (Taken true 3)
     ∷ ends (sends 2 5) (Refused Full)
-    ∷ ends (sendsUnsignalled 1 5) (Taken false)
+    ∷ ends (sendsUnsignalled 1 5) (Taken false 3)
     ∷ ends (drops 0) Done
     ∷ ends (drops 2) (Refused NoSuchSender)
     ∷ ends fair (gave 5 0)
@@ -104,7 +104,7 @@ waitsIn1 : List Tick × List Tick → Bool
 waitsIn1 e = throughout (waits (keyAt 1 0)) (ledgerAfter atOpening (ends registers (lane 0 0) ∷ ends registers (lane 1 0) ∷ e .0)) (e .1)
 
 sent : Tick
-sent = ends (sends 1 5) (Taken true)
+sent = ends (sends 1 5) (Taken true 3)
 
 given : ℕ → Tick
 given x = gives TryRecvFair (keyAt x 0) 5
@@ -129,9 +129,9 @@ throughout-read :
     ∷ ((sent ∷ [], ends (closes 1) Done ∷ ends held (Held 0) ∷ []), false)
     ∷ ((sent ∷ [], ends closesReceiver Done ∷ ends held (Held 1) ∷ []), false)
     -- an item that was not ordinarily sent is not enough, and does no harm
-    ∷ ((ends (sendsUnsignalled 1 5) (Taken false) ∷ [], ends held (Held 1) ∷ []), false)
-    ∷ ((ends (sendsUnsignalled 1 5) (Taken false) ∷ sent ∷ [], given 1 ∷ given 1 ∷ []), true)
-    ∷ ((sent ∷ ends (sendsUnsignalled 1 5) (Taken false) ∷ [], given 1 ∷ given 1 ∷ []), false)
+    ∷ ((ends (sendsUnsignalled 1 5) (Taken false 3) ∷ [], ends held (Held 1) ∷ []), false)
+    ∷ ((ends (sendsUnsignalled 1 5) (Taken false 3) ∷ sent ∷ [], given 1 ∷ given 1 ∷ []), true)
+    ∷ ((sent ∷ ends (sendsUnsignalled 1 5) (Taken false 3) ∷ [], given 1 ∷ given 1 ∷ []), false)
     -- refilled in time; its sender dropped; refused calls; what is done to lane 0
     ∷ ((sent ∷ [], sent ∷ given 1 ∷ sent ∷ given 1 ∷ given 1 ∷ []), true)
     ∷ ((sent ∷ sent ∷ [], ends (drops 1) Done ∷ given 1 ∷ given 1 ∷ []), true)
@@ -263,9 +263,9 @@ each-kind-answers :
     ≡ gave 5 0
     ∷ gave 7 2
     ∷ lane 3 0
-    ∷ Taken true
-    ∷ Taken false
-    ∷ Taken false
+    ∷ Taken true 7
+    ∷ Taken false 3
+    ∷ Taken false 3
     ∷ gave 6 1
     ∷ Done
     ∷ Done

@@ -1,6 +1,7 @@
 -- What an example of a run is, and the calls and answers that examples are made of.
 -- Assumes nothing.
 use mathlib.Core.Path.{_≡_, refl}
+use mathlib.Core.Bool.{false}
 use mathlib.Core.List.{List, [], _∷_, _++_}
 use Prim.Native.Nat.{ℕ, zero, suc}
 use Rattle.model.specs.declared.LaneKey.{LaneKey}
@@ -12,10 +13,11 @@ use Rattle.model.specs.declared.ControlCall.the-variants.{Pause, Resume,
 use Rattle.model.specs.declared.Call.{Call}
 use Rattle.model.specs.declared.Call.the-variants.{Sender, Receive, Control}
 use Rattle.model.specs.declared.Answer.{Answer}
-use Rattle.model.specs.declared.Answer.the-variants.{Registered, Item, Empty}
+use Rattle.model.specs.declared.Answer.the-variants.{Done, Registered, Taken, Item, Items, Empty, Disconnected, Held, Refused}
 
 -- An example: an opening with its first generation, what document 01 says comes of calls after it, and the poll budget at the end.
--- Each line of it is a call, the answer to it, and how many times in a row the two come: (64, plain, gave 5 0).
+-- Each line of it is a call, the answer to it, and how many times in a row the two come: (64, plain, gave 5 0). Of sends that are taken in a row each says one
+-- free place less than the one before; the line has the first: (63, sends 0 5, Taken false 62).
 pub record Example : Type 0 where
   pub capacity : ℕ
   pub slots : ℕ
@@ -31,17 +33,34 @@ unfoldable pub repeat : {A : Type 0} → ℕ → A → List A
 repeat zero a = []
 repeat (suc n) a = a ∷ repeat n a
 
--- f of each line, as many times as the line says
-unfoldable pub eachTime : {A : Type 0} → (ℕ × Call × Answer → A) → List (ℕ × Call × Answer) → List A
-eachTime f [] = []
-eachTime f (l ∷ ls) = repeat (l .0) (f l) ++ eachTime f ls
+-- the answers to a call that is made so many times, from the first one on
+unfoldable pub inARow : ℕ → Answer → List Answer
+inARow zero a = []
+inARow (suc n) (Taken w zero) = Taken w 0 ∷ inARow n (Taken w 0)
+inARow (suc n) (Taken w (suc f)) = Taken w (suc f) ∷ inARow n (Taken w f)
+inARow (suc n) Done = Done ∷ inARow n Done
+inARow (suc n) (Registered k) = Registered k ∷ inARow n (Registered k)
+inARow (suc n) (Item v i) = Item v i ∷ inARow n (Item v i)
+inARow (suc n) (Items m) = Items m ∷ inARow n (Items m)
+inARow (suc n) Empty = Empty ∷ inARow n Empty
+inARow (suc n) Disconnected = Disconnected ∷ inARow n Disconnected
+inARow (suc n) (Held m) = Held m ∷ inARow n (Held m)
+inARow (suc n) (Refused r) = Refused r ∷ inARow n (Refused r)
 
 -- its calls, one by one, and their answers
+unfoldable pub callsOf : List (ℕ × Call × Answer) → List Call
+callsOf [] = []
+callsOf (l ∷ ls) = repeat (l .0) (l .1) ++ callsOf ls
+
+unfoldable pub answersOf : List (ℕ × Call × Answer) → List Answer
+answersOf [] = []
+answersOf (l ∷ ls) = inARow (l .0) (l .2) ++ answersOf ls
+
 unfoldable pub saidCalls : Example → List Call
-saidCalls e = eachTime (λ l. l .1) (e .said)
+saidCalls e = callsOf (e .said)
 
 unfoldable pub saidAnswers : Example → List Answer
-saidAnswers e = eachTime (λ l. l .2) (e .said)
+saidAnswers e = answersOf (e .said)
 
 unfoldable pub keyAt : ℕ → ℕ → LaneKey
 keyAt x g = record { slot = x; generation = g }
@@ -100,12 +119,12 @@ gave v x = Item v (idAt x 0)
 
 -- All of these, for computing with examples.
 unfoldable pub computeExamples : Unit {0}
-unfolding openingOf repeat eachTime saidCalls saidAnswers keyAt idOn idAt registers sends sendsUnsignalled drops plain fair batch targeted pauses resumes closes pollsAll held lane gave
+unfolding openingOf repeat inARow callsOf answersOf saidCalls saidAnswers keyAt idOn idAt registers sends sendsUnsignalled drops plain fair batch targeted pauses resumes closes pollsAll held lane gave
 computeExamples = tt
 
--- lines once, twice and not at all
-threeLines : Example
-threeLines = record {
+-- lines once, twice and not at all; two sends in a row
+fourLines : Example
+fourLines = record {
   capacity = 4;
   slots = 1;
   generation = 0;
@@ -113,13 +132,14 @@ threeLines = record {
   said = (1, registers, lane 0 0)
       ∷ (2, plain, Empty)
       ∷ (0, fair, Empty)
+      ∷ (2, sends 0 5, Taken false 2)
       ∷ [];
 }
 
-calls-said : saidCalls threeLines ≡ registers ∷ plain ∷ plain ∷ []
-unfolding computeExamples threeLines
+calls-said : saidCalls fourLines ≡ registers ∷ plain ∷ plain ∷ sends 0 5 ∷ sends 0 5 ∷ []
+unfolding computeExamples fourLines
 calls-said = refl
 
-answers-said : saidAnswers threeLines ≡ lane 0 0 ∷ Empty ∷ Empty ∷ []
-unfolding computeExamples threeLines
+answers-said : saidAnswers fourLines ≡ lane 0 0 ∷ Empty ∷ Empty ∷ Taken false 2 ∷ Taken false 1 ∷ []
+unfolding computeExamples fourLines
 answers-said = refl

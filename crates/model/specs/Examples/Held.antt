@@ -16,7 +16,7 @@ use Rattle.model.specs.Held.{heldBy, heldByLanes}
 use Rattle.model.specs.Examples.Stretch.{lane, laneId, registered}
 
 sent : ℕ → Tick
-sent x = ends (Sender (TrySend (lane x) 5)) (Taken true)
+sent x = ends (Sender (TrySend (lane x) 5)) (Taken true 3)
 
 -- the held count after all that happened
 counted : List Tick → ℕ
@@ -35,7 +35,7 @@ run =
     ∷ (registered 1, 0)
     ∷ (registered 2, 0)
     ∷ (sent 0, 1)
-    ∷ (ends (Sender (TrySendUnsignaled (lane 0) 6)) (Taken false), 2)
+    ∷ (ends (Sender (TrySendUnsignaled (lane 0) 6)) (Taken false 3), 2)
     ∷ (ends (Sender (TrySend (lane 0) 7)) (Refused Full), 2)
     ∷ (gives TryRecv (lane 0) 5, 1)
     ∷ (sent 1, 2)

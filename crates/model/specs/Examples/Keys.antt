@@ -47,7 +47,7 @@ answers-read :
     ∷ (ends registers (Registered (key 1 3)), (false, true))
     ∷ (ends registers (Registered (key 2 2)), (false, false))
     ∷ (ends registers (Refused NoFreeSlot), (false, false))
-    ∷ (ends (Sender (TrySend (key 1 2) 5)) (Taken true), (false, false))
+    ∷ (ends (Sender (TrySend (key 1 2) 5)) (Taken true 3), (false, false))
     ∷ (ends (drops 1 2) Done, (false, false))
     ∷ (ends plain (Item 5 (id 1)), (false, false))
     ∷ (ends plain Empty, (false, false))

@@ -140,8 +140,8 @@ received-ends-none = refl
 others-ends-stretch :
     Reads (endsStretch (lane 1))
     ((ends (Sender (RegisterSender 9)) (Registered (lane 2)), false)
-    ∷ (ends (Sender (TrySend (lane 1) 6)) (Taken true), false)
-    ∷ (ends (Sender (TrySendUnsignaled (lane 1) 7)) (Taken false), false)
+    ∷ (ends (Sender (TrySend (lane 1) 6)) (Taken true 3), false)
+    ∷ (ends (Sender (TrySendUnsignaled (lane 1) 7)) (Taken false 3), false)
     ∷ (ends (Sender (TrySend (lane 1) 8)) (Refused Full), false)
     ∷ (ends (Sender (DropSender (lane 1))) Done, false)
     ∷ (ends (Control (Pause (laneId 1))) Done, true)
@@ -164,8 +164,8 @@ others-ends-stretch = refl
 others-shuts :
     Reads (shuts (lane 1))
     ((ends (Sender (RegisterSender 9)) (Registered (lane 2)), false)
-    ∷ (ends (Sender (TrySend (lane 1) 6)) (Taken true), false)
-    ∷ (ends (Sender (TrySendUnsignaled (lane 1) 7)) (Taken false), false)
+    ∷ (ends (Sender (TrySend (lane 1) 6)) (Taken true 3), false)
+    ∷ (ends (Sender (TrySendUnsignaled (lane 1) 7)) (Taken false 3), false)
     ∷ (ends (Sender (TrySend (lane 1) 8)) (Refused Full), false)
     ∷ (ends (Sender (DropSender (lane 1))) Done, false)
     ∷ (ends (Control (Pause (laneId 1))) Done, false)
@@ -188,8 +188,8 @@ others-shuts = refl
 others-into :
     Reads (into (lane 1))
     ((ends (Sender (RegisterSender 9)) (Registered (lane 2)), [])
-    ∷ (ends (Sender (TrySend (lane 1) 6)) (Taken true), (6 ∷ []))
-    ∷ (ends (Sender (TrySendUnsignaled (lane 1) 7)) (Taken false), (7 ∷ []))
+    ∷ (ends (Sender (TrySend (lane 1) 6)) (Taken true 3), (6 ∷ []))
+    ∷ (ends (Sender (TrySendUnsignaled (lane 1) 7)) (Taken false 3), (7 ∷ []))
     ∷ (ends (Sender (TrySend (lane 1) 8)) (Refused Full), [])
     ∷ (ends (Sender (DropSender (lane 1))) Done, [])
     ∷ (ends (Control (Pause (laneId 1))) Done, [])
@@ -212,8 +212,8 @@ others-into = refl
 others-not-fair :
     Always notFair false
     (ends (Sender (RegisterSender 9)) (Registered (lane 2))
-    ∷ ends (Sender (TrySend (lane 1) 6)) (Taken true)
-    ∷ ends (Sender (TrySendUnsignaled (lane 1) 7)) (Taken false)
+    ∷ ends (Sender (TrySend (lane 1) 6)) (Taken true 3)
+    ∷ ends (Sender (TrySendUnsignaled (lane 1) 7)) (Taken false 3)
     ∷ ends (Sender (TrySend (lane 1) 8)) (Refused Full)
     ∷ ends (Sender (DropSender (lane 1))) Done
     ∷ ends (Control (Pause (laneId 1))) Done
@@ -237,7 +237,7 @@ answers-read :
     Reads findsNothing
     ((Done, false)
     ∷ (Registered (lane 2), false)
-    ∷ (Taken true, false)
+    ∷ (Taken true 3, false)
     ∷ (Item 5 (laneId 0), false)
     ∷ (Items 0, false)
     ∷ (Empty, true)
@@ -260,13 +260,13 @@ registered x = ends (Sender (RegisterSender 9)) (Registered (lane x))
 
 -- an item sent ordinarily to lane x, to one that is idle and to one that is pending already, and one sent unsignalled
 sent : ℕ → Tick
-sent x = ends (Sender (TrySend (lane x) 6)) (Taken true)
+sent x = ends (Sender (TrySend (lane x) 6)) (Taken true 3)
 
 sentAgain : ℕ → Tick
-sentAgain x = ends (Sender (TrySend (lane x) 8)) (Taken false)
+sentAgain x = ends (Sender (TrySend (lane x) 8)) (Taken false 3)
 
 unsignalled : ℕ → Tick
-unsignalled x = ends (Sender (TrySendUnsignaled (lane x) 7)) (Taken false)
+unsignalled x = ends (Sender (TrySendUnsignaled (lane x) 7)) (Taken false 3)
 
 dropped : ℕ → Tick
 dropped x = ends (Sender (DropSender (lane x))) Done

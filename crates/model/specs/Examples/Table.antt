@@ -2,7 +2,7 @@
 -- Assumes nothing.
 use mathlib.Core.Bool.{true, false}
 use mathlib.Core.List.{List, [], _∷_}
-use Prim.Native.Nat.{ℕ, _-_}
+use Prim.Native.Nat.{ℕ, _+_, _-_}
 use Rattle.model.specs.declared.SenderCall.the-variants.{RegisterSender, TrySend, DropSender}
 use Rattle.model.specs.declared.ReceiveCall.the-variants.{TryRecvFrom}
 use Rattle.model.specs.declared.ControlCall.the-variants.{Pause, Resume, CloseLane, ReleaseConsumed, CloseReceiver}
@@ -20,15 +20,15 @@ creditAfter capacity C batch sent taken budget = record {
   generation = 0;
   budget = budget;
   said = (1, registers, lane 0 0)
-      ∷ (1, sends 0 5, Taken true)
-      ∷ (sent - 1, sends 0 5, Taken false)
+      ∷ (1, sends 0 5, Taken true (C - 1))
+      ∷ (sent - 1, sends 0 5, Taken false (C - 2))
       ∷ (taken, plain, gave 5 0)
-      ∷ (C - sent, sends 0 5, Taken false)
+      ∷ (C - sent, sends 0 5, Taken false (C - (sent + 1)))
       ∷ (1, sends 0 5, Refused Full)
       ∷ (batch - 1 - taken, plain, gave 5 0)
       ∷ (1, sends 0 5, Refused Full)
       ∷ (1, plain, gave 5 0)
-      ∷ (batch, sends 0 5, Taken false)
+      ∷ (batch, sends 0 5, Taken false (batch - 1))
       ∷ (1, sends 0 5, Refused Full)
       ∷ [];
 }
@@ -48,10 +48,10 @@ table =
       generation = 0;
       budget = 60;
       said = (1, registers, lane 0 0)
-          ∷ (1, sends 0 1, Taken true)
-          ∷ (1, sends 0 2, Taken false)
-          ∷ (1, sends 0 3, Taken false)
-          ∷ (1, sends 0 4, Taken false)
+          ∷ (1, sends 0 1, Taken true 3)
+          ∷ (1, sends 0 2, Taken false 2)
+          ∷ (1, sends 0 3, Taken false 1)
+          ∷ (1, sends 0 4, Taken false 0)
           ∷ (1, sends 0 5, Refused Full)
           ∷ (1, plain, gave 1 0)
           ∷ (1, sends 0 5, Refused Full)
@@ -60,7 +60,27 @@ table =
           ∷ (1, plain, gave 3 0)
           ∷ (1, sends 0 5, Refused Full)
           ∷ (1, plain, gave 4 0)
-          ∷ (1, sends 0 5, Taken false)
+          ∷ (1, sends 0 5, Taken false 3)
+          ∷ [];
+    }
+    -- document 02, N1, "how many further sends the ring would take", ordinary and unsignalled: after a plain receive the ring has three items and a send, and room for
+    -- none, as the credit is not back; it comes back all at once
+    ∷ record {
+      capacity = 4;
+      slots = 2;
+      generation = 0;
+      budget = 60;
+      said = (1, registers, lane 0 0)
+          ∷ (1, sends 0 1, Taken true 3)
+          ∷ (1, sendsUnsignalled 0 2, Taken false 2)
+          ∷ (1, sends 0 3, Taken false 1)
+          ∷ (1, plain, gave 1 0)
+          ∷ (1, sendsUnsignalled 0 4, Taken false 0)
+          ∷ (1, sendsUnsignalled 0 5, Refused Full)
+          ∷ (1, plain, gave 2 0)
+          ∷ (1, plain, gave 3 0)
+          ∷ (1, plain, gave 4 0)
+          ∷ (1, sendsUnsignalled 0 5, Taken false 3)
           ∷ [];
     }
     -- "P Lanes 0 and 1, three items each, lane 1 sent first; fair: 0, 1, 0, 1, 0, 1, Empty."
@@ -71,12 +91,12 @@ table =
       budget = 64;
       said = (1, registers, lane 0 0)
           ∷ (1, registers, lane 1 0)
-          ∷ (1, sends 1 11, Taken true)
-          ∷ (1, sends 1 12, Taken false)
-          ∷ (1, sends 1 13, Taken false)
-          ∷ (1, sends 0 1, Taken true)
-          ∷ (1, sends 0 2, Taken false)
-          ∷ (1, sends 0 3, Taken false)
+          ∷ (1, sends 1 11, Taken true 3)
+          ∷ (1, sends 1 12, Taken false 2)
+          ∷ (1, sends 1 13, Taken false 1)
+          ∷ (1, sends 0 1, Taken true 3)
+          ∷ (1, sends 0 2, Taken false 2)
+          ∷ (1, sends 0 3, Taken false 1)
           ∷ (1, fair, gave 1 0)
           ∷ (1, fair, gave 11 1)
           ∷ (1, fair, gave 2 0)
@@ -94,9 +114,9 @@ table =
       budget = 57;
       said = (1, registers, lane 0 0)
           ∷ (1, registers, lane 1 0)
-          ∷ (1, sends 0 5, Taken true)
-          ∷ (69, sends 0 5, Taken false)
-          ∷ (1, sends 1 6, Taken true)
+          ∷ (1, sends 0 5, Taken true 127)
+          ∷ (69, sends 0 5, Taken false 126)
+          ∷ (1, sends 1 6, Taken true 127)
           ∷ (64, plain, gave 5 0)
           ∷ (1, plain, gave 6 1)
           ∷ (6, plain, gave 5 0)
@@ -111,11 +131,11 @@ table =
       budget = 63;
       said = (1, registers, lane 0 0)
           ∷ (1, registers, lane 1 0)
-          ∷ (1, sends 0 5, Taken true)
-          ∷ (63, sends 0 5, Taken false)
+          ∷ (1, sends 0 5, Taken true 63)
+          ∷ (63, sends 0 5, Taken false 62)
           ∷ (64, plain, gave 5 0)
           ∷ (1, pauses 0, Done)
-          ∷ (1, sends 1 6, Taken true)
+          ∷ (1, sends 1 6, Taken true 63)
           ∷ (1, plain, gave 6 1)
           ∷ [];
     }
@@ -126,7 +146,7 @@ table =
       generation = 0;
       budget = 63;
       said = (1, registers, lane 0 0)
-          ∷ (1, sendsUnsignalled 0 5, Taken false)
+          ∷ (1, sendsUnsignalled 0 5, Taken false 3)
           ∷ (1, plain, Empty)
           ∷ (1, pollsAll, Done)
           ∷ (1, plain, gave 5 0)
@@ -155,7 +175,7 @@ table =
       generation = 0;
       budget = 63;
       said = (1, Sender (RegisterSender 2), lane 0 0)
-          ∷ (1, sends 0 11, Taken true)
+          ∷ (1, sends 0 11, Taken true 3)
           ∷ (1, plain, gave 11 0)
           ∷ (1, plain, Empty)
           ∷ (1, drops 0, Done)
@@ -170,7 +190,7 @@ table =
       budget = 64;
       said = (1, Sender (RegisterSender 0), Refused AtCapacity)
           ∷ (1, registers, lane 0 0)
-          ∷ (1, sends 0 1, Taken true)
+          ∷ (1, sends 0 1, Taken true 3)
           ∷ (1, pauses 0, Done)
           ∷ (1, drops 0, Done)
           ∷ (1, plain, Empty)
@@ -196,8 +216,8 @@ table =
       budget = 62;
       said = (1, registers, lane 0 0)
           ∷ (1, registers, lane 1 0)
-          ∷ (1, sends 0 1, Taken true)
-          ∷ (1, sends 1 2, Taken true)
+          ∷ (1, sends 0 1, Taken true 3)
+          ∷ (1, sends 1 2, Taken true 3)
           ∷ (1, batch 1 1, Items 1)
           ∷ (1, closes 0, Done)
           ∷ (1, registers, Refused OlderSenderLives)
@@ -215,11 +235,11 @@ table =
       budget = 61;
       said = (1, registers, lane 0 0)
           ∷ (1, registers, lane 1 0)
-          ∷ (1, sends 0 1, Taken true)
-          ∷ (1, sends 1 2, Taken true)
+          ∷ (1, sends 0 1, Taken true 3)
+          ∷ (1, sends 1 2, Taken true 3)
           ∷ (1, plain, gave 1 0)
           ∷ (1, pauses 0, Done)
-          ∷ (1, sends 0 3, Taken false)
+          ∷ (1, sends 0 3, Taken false 3)
           ∷ (1, resumes 0, Done)
           ∷ (1, plain, gave 2 1)
           ∷ (1, plain, gave 3 0)
@@ -234,10 +254,10 @@ table =
       budget = 63;
       said = (1, registers, lane 0 0)
           ∷ (1, registers, lane 1 0)
-          ∷ (1, sends 0 5, Taken true)
-          ∷ (199, sends 0 5, Taken false)
+          ∷ (1, sends 0 5, Taken true 255)
+          ∷ (199, sends 0 5, Taken false 254)
           ∷ (1, plain, gave 5 0)
-          ∷ (1, sends 1 6, Taken true)
+          ∷ (1, sends 1 6, Taken true 255)
           ∷ (127, plain, gave 5 0)
           ∷ (1, plain, gave 6 1)
           ∷ [];
@@ -250,9 +270,9 @@ table =
       budget = 63;
       said = (1, registers, lane 0 0)
           ∷ (1, registers, lane 1 0)
-          ∷ (1, sends 0 5, Taken true)
-          ∷ (69, sends 0 5, Taken false)
-          ∷ (1, sends 1 6, Taken true)
+          ∷ (1, sends 0 5, Taken true 127)
+          ∷ (69, sends 0 5, Taken false 126)
+          ∷ (1, sends 1 6, Taken true 127)
           ∷ (1, plain, gave 5 0)
           ∷ (1, targeted 0, gave 5 0)
           ∷ (63, plain, gave 5 0)
@@ -266,13 +286,13 @@ table =
       generation = 0;
       budget = 61;
       said = (1, registers, lane 0 0)
-          ∷ (1, sends 0 1, Taken true)
-          ∷ (1, sends 0 2, Taken false)
-          ∷ (1, sends 0 3, Taken false)
-          ∷ (1, sends 0 4, Taken false)
+          ∷ (1, sends 0 1, Taken true 3)
+          ∷ (1, sends 0 2, Taken false 2)
+          ∷ (1, sends 0 3, Taken false 1)
+          ∷ (1, sends 0 4, Taken false 0)
           ∷ (1, batch 2 2, Items 2)
-          ∷ (1, sends 0 5, Taken false)
-          ∷ (1, sends 0 6, Taken false)
+          ∷ (1, sends 0 5, Taken false 1)
+          ∷ (1, sends 0 6, Taken false 0)
           ∷ (1, sends 0 7, Refused Full)
           ∷ (1, plain, gave 3 0)
           ∷ (1, held, Held 3)
@@ -285,13 +305,13 @@ table =
       generation = 0;
       budget = 63;
       said = (1, registers, lane 0 0)
-          ∷ (1, sends 0 1, Taken true)
+          ∷ (1, sends 0 1, Taken true 3)
           ∷ (1, plain, gave 1 0)
           ∷ (1, plain, Empty)
-          ∷ (1, sends 0 2, Taken true)
-          ∷ (1, sends 0 3, Taken false)
-          ∷ (1, sends 0 4, Taken false)
-          ∷ (1, sends 0 5, Taken false)
+          ∷ (1, sends 0 2, Taken true 3)
+          ∷ (1, sends 0 3, Taken false 2)
+          ∷ (1, sends 0 4, Taken false 1)
+          ∷ (1, sends 0 5, Taken false 0)
           ∷ (1, sends 0 6, Refused Full)
           ∷ [];
     }
@@ -302,24 +322,24 @@ table =
       generation = 0;
       budget = 61;
       said = (1, registers, lane 0 0)
-          ∷ (1, sends 0 1, Taken true)
-          ∷ (1, sends 0 2, Taken false)
-          ∷ (1, sends 0 3, Taken false)
-          ∷ (1, sends 0 4, Taken false)
+          ∷ (1, sends 0 1, Taken true 3)
+          ∷ (1, sends 0 2, Taken false 2)
+          ∷ (1, sends 0 3, Taken false 1)
+          ∷ (1, sends 0 4, Taken false 0)
           ∷ (1, plain, gave 1 0)
           ∷ (1, sends 0 5, Refused Full)
           ∷ (1, Control ReleaseConsumed, Done)
-          ∷ (1, sends 0 5, Taken false)
+          ∷ (1, sends 0 5, Taken false 0)
           ∷ (1, sends 0 6, Refused Full)
           ∷ (1, plain, gave 2 0)
           ∷ (1, sends 0 6, Refused Full)
           ∷ (1, batch 0 0, Items 0)
-          ∷ (1, sends 0 6, Taken false)
+          ∷ (1, sends 0 6, Taken false 0)
           ∷ (1, sends 0 7, Refused Full)
           ∷ (1, plain, gave 3 0)
           ∷ (1, sends 0 7, Refused Full)
           ∷ (1, pauses 0, Done)
-          ∷ (1, sends 0 7, Taken false)
+          ∷ (1, sends 0 7, Taken false 0)
           ∷ (1, sends 0 8, Refused Full)
           ∷ [];
     }
@@ -362,8 +382,8 @@ table =
       budget = 64;
       said = (1, registers, lane 0 0)
           ∷ (1, registers, lane 1 0)
-          ∷ (1, sends 0 1, Taken true)
-          ∷ (1, sends 1 2, Taken true)
+          ∷ (1, sends 0 1, Taken true 0)
+          ∷ (1, sends 1 2, Taken true 0)
           ∷ (1, sends 0 3, Refused Full)
           ∷ (1, closes 0, Done)
           ∷ (1, sends 0 3, Refused LaneClosed)
@@ -391,7 +411,7 @@ table =
       generation = 0;
       budget = 64;
       said = (1, registers, lane 0 0)
-          ∷ (1, sends 0 1, Taken true)
+          ∷ (1, sends 0 1, Taken true 3)
           ∷ (1, Receive (TryRecvFrom (idOn 8 0 0)), Refused NoSuchLane)
           ∷ (1, Control (Pause (idOn 8 0 0)), Refused NoSuchLane)
           ∷ (1, Control (Resume (idOn 8 0 0)), Refused NoSuchLane)
@@ -437,7 +457,7 @@ table =
       said = (1, registers, lane 0 0)
           ∷ (1, pauses 0, Done)
           ∷ (1, resumes 0, Done)
-          ∷ (1, sends 0 1, Taken false)
+          ∷ (1, sends 0 1, Taken false 3)
           ∷ (1, plain, gave 1 0)
           ∷ [];
     }
@@ -448,10 +468,10 @@ table =
       generation = 0;
       budget = 62;
       said = (1, registers, lane 0 0)
-          ∷ (1, sendsUnsignalled 0 1, Taken false)
-          ∷ (1, sendsUnsignalled 0 2, Taken false)
+          ∷ (1, sendsUnsignalled 0 1, Taken false 3)
+          ∷ (1, sendsUnsignalled 0 2, Taken false 2)
           ∷ (1, targeted 0, gave 1 0)
-          ∷ (1, sends 0 3, Taken false)
+          ∷ (1, sends 0 3, Taken false 1)
           ∷ (1, plain, gave 2 0)
           ∷ (1, plain, gave 3 0)
           ∷ [];
@@ -463,8 +483,8 @@ table =
       generation = 0;
       budget = 63;
       said = (1, registers, lane 0 0)
-          ∷ (1, sendsUnsignalled 0 1, Taken false)
-          ∷ (1, sendsUnsignalled 0 2, Taken false)
+          ∷ (1, sendsUnsignalled 0 1, Taken false 3)
+          ∷ (1, sendsUnsignalled 0 2, Taken false 2)
           ∷ (1, pauses 0, Done)
           ∷ (1, targeted 0, gave 1 0)
           ∷ (1, plain, Empty)
@@ -496,11 +516,11 @@ table =
       said = (1, registers, lane 0 0)
           ∷ (1, registers, lane 1 0)
           ∷ (1, registers, lane 2 0)
-          ∷ (1, sends 2 31, Taken true)
-          ∷ (1, sends 2 32, Taken false)
+          ∷ (1, sends 2 31, Taken true 3)
+          ∷ (1, sends 2 32, Taken false 2)
           ∷ (1, plain, gave 31 2)
-          ∷ (1, sendsUnsignalled 1 21, Taken false)
-          ∷ (1, sendsUnsignalled 0 11, Taken false)
+          ∷ (1, sendsUnsignalled 1 21, Taken false 3)
+          ∷ (1, sendsUnsignalled 0 11, Taken false 3)
           ∷ (1, pollsAll, Done)
           ∷ (1, plain, gave 32 2)
           ∷ (1, plain, gave 11 0)
@@ -532,8 +552,8 @@ table =
       generation = 0;
       budget = 0;
       said = (1, registers, lane 0 0)
-          ∷ (1, sends 0 5, Taken true)
-          ∷ (63, sends 0 5, Taken false)
+          ∷ (1, sends 0 5, Taken true 63)
+          ∷ (63, sends 0 5, Taken false 62)
           ∷ (64, plain, gave 5 0)
           ∷ (1, pauses 0, Done)
           ∷ (1, plain, Empty)
@@ -546,8 +566,8 @@ table =
       generation = 0;
       budget = 64;
       said = (1, registers, lane 0 0)
-          ∷ (1, sends 0 5, Taken true)
-          ∷ (63, sends 0 5, Taken false)
+          ∷ (1, sends 0 5, Taken true 63)
+          ∷ (63, sends 0 5, Taken false 62)
           ∷ (64, plain, gave 5 0)
           ∷ (1, plain, Empty)
           ∷ [];
@@ -560,8 +580,8 @@ table =
       budget = 0;
       said = (1, registers, lane 0 0)
           ∷ (1, registers, lane 1 0)
-          ∷ (1, sends 0 5, Taken true)
-          ∷ (63, sends 0 5, Taken false)
+          ∷ (1, sends 0 5, Taken true 63)
+          ∷ (63, sends 0 5, Taken false 62)
           ∷ (64, plain, gave 5 0)
           ∷ (1, pauses 0, Done)
           ∷ (1, drops 1, Done)
@@ -577,8 +597,8 @@ table =
       said = (1, registers, lane 0 0)
           ∷ (1, registers, lane 1 0)
           ∷ (1, registers, lane 2 0)
-          ∷ (1, sends 0 5, Taken true)
-          ∷ (63, sends 0 5, Taken false)
+          ∷ (1, sends 0 5, Taken true 63)
+          ∷ (63, sends 0 5, Taken false 62)
           ∷ (64, plain, gave 5 0)
           ∷ (1, pauses 0, Done)
           ∷ (1, drops 1, Done)
@@ -593,8 +613,8 @@ table =
       generation = 0;
       budget = 64;
       said = (1, registers, lane 0 0)
-          ∷ (1, sends 0 5, Taken true)
-          ∷ (63, sends 0 5, Taken false)
+          ∷ (1, sends 0 5, Taken true 63)
+          ∷ (63, sends 0 5, Taken false 62)
           ∷ (64, plain, gave 5 0)
           ∷ (1, pauses 0, Done)
           ∷ (1, fair, Empty)
@@ -608,8 +628,8 @@ table =
       budget = 64;
       said = (1, registers, lane 0 0)
           ∷ (1, registers, lane 1 0)
-          ∷ (1, sends 0 1, Taken true)
-          ∷ (1, sends 1 2, Taken true)
+          ∷ (1, sends 0 1, Taken true 3)
+          ∷ (1, sends 1 2, Taken true 3)
           ∷ (1, pauses 1, Done)
           ∷ (1, Control CloseReceiver, Done)
           ∷ (1, held, Held 2)
@@ -627,10 +647,10 @@ table =
       budget = 63;
       said = (1, registers, lane 0 0)
           ∷ (1, registers, lane 1 0)
-          ∷ (1, sends 0 1, Taken true)
-          ∷ (1, sends 0 2, Taken false)
-          ∷ (1, sends 1 3, Taken true)
-          ∷ (1, sendsUnsignalled 1 4, Taken false)
+          ∷ (1, sends 0 1, Taken true 3)
+          ∷ (1, sends 0 2, Taken false 2)
+          ∷ (1, sends 1 3, Taken true 3)
+          ∷ (1, sendsUnsignalled 1 4, Taken false 2)
           ∷ (1, pauses 1, Done)
           ∷ (1, held, Held 4)
           ∷ (1, plain, gave 1 0)
@@ -647,12 +667,12 @@ table =
       budget = 62;
       said = (1, registers, lane 0 0)
           ∷ (1, registers, lane 1 0)
-          ∷ (1, sends 0 5, Taken true)
-          ∷ (69, sends 0 5, Taken false)
+          ∷ (1, sends 0 5, Taken true 127)
+          ∷ (69, sends 0 5, Taken false 126)
           ∷ (10, plain, gave 5 0)
           ∷ (1, pauses 0, Done)
           ∷ (1, resumes 0, Done)
-          ∷ (1, sends 1 6, Taken true)
+          ∷ (1, sends 1 6, Taken true 127)
           ∷ (1, pollsAll, Done)
           ∷ (54, plain, gave 5 0)
           ∷ (1, plain, gave 6 1)

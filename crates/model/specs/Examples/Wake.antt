@@ -99,8 +99,8 @@ sleeps-read :
     ∷ ((targeted 0, Item 5 (id 0)), false)
     ∷ ((targeted 0, Refused NoSuchLane), false)
     ∷ ((registers, Registered (key 0 0)), false)
-    ∷ ((sends 0, Taken true), false)
-    ∷ ((unsignalled 0, Taken false), false)
+    ∷ ((sends 0, Taken true 3), false)
+    ∷ ((unsignalled 0, Taken false 3), false)
     ∷ ((drops 0, Done), false)
     ∷ ((Control PollAllLanes, Done), false)
     ∷ ((held, Held 0), false)
@@ -114,10 +114,10 @@ sleep-ends-read :
     Reads endsSleep
     ((ends registers (Registered (key 0 0)), false)
     ∷ (ends registers (Refused AtCapacity), false)
-    ∷ (ends (sends 0) (Taken true), false)
+    ∷ (ends (sends 0) (Taken true 3), false)
     ∷ (ends (sends 0) (Refused Full), false)
-    ∷ (ends (unsignalled 0) (Taken false), false)
-    ∷ (ends (unsignalled 1) (Taken false), false)
+    ∷ (ends (unsignalled 0) (Taken false 3), false)
+    ∷ (ends (unsignalled 1) (Taken false 3), false)
     ∷ (ends (unsignalled 0) (Refused Full), false)
     ∷ (ends (drops 0) Done, false)
     ∷ (ends (drops 0) (Refused NoSuchSender), false)
@@ -142,12 +142,12 @@ sleep-ends-read = refl
 
 sent-to-one-read :
     Reads {B = Bool × Bool} (λ t. (sendsTo (key 1 0) t, wakes t))
-    ((ends (sends 1) (Taken true), (true, true))
-    ∷ (ends (sends 1) (Taken false), (true, false))
+    ((ends (sends 1) (Taken true 3), (true, true))
+    ∷ (ends (sends 1) (Taken false 3), (true, false))
     ∷ (ends (sends 1) (Refused Full), (false, false))
-    ∷ (ends (sends 0) (Taken true), (false, true))
-    ∷ (ends (Sender (TrySend (key 1 1) 5)) (Taken true), (false, true))
-    ∷ (ends (unsignalled 1) (Taken false), (false, false))
+    ∷ (ends (sends 0) (Taken true 3), (false, true))
+    ∷ (ends (Sender (TrySend (key 1 1) 5)) (Taken true 3), (false, true))
+    ∷ (ends (unsignalled 1) (Taken false 3), (false, false))
     ∷ (ends registers (Registered (key 1 0)), (false, false))
     ∷ (ends (drops 1) Done, (false, false))
     ∷ (ends plain Empty, (false, false))
@@ -162,15 +162,15 @@ sent-to-one-read = refl
 paused-one-read :
     Reads (λ ts. pausedIn (key 1 0) ((ledgerAfter atOpening (ends registers (Registered (key 0 0)) ∷ ends registers (Registered (key 1 0)) ∷ ts)) .lanes))
     (([], false)
-    ∷ (ends (sends 1) (Taken true) ∷ [], false)
-    ∷ (ends (unsignalled 1) (Taken false) ∷ [], false)
+    ∷ (ends (sends 1) (Taken true 3) ∷ [], false)
+    ∷ (ends (unsignalled 1) (Taken false 3) ∷ [], false)
     ∷ (ends (pauses 1) Done ∷ [], true)
     ∷ (ends (pauses 1) (Refused NoSuchLane) ∷ [], false)
     ∷ (ends (pauses 0) Done ∷ [], false)
     ∷ (ends (pauses 1) Done ∷ ends (resumes 1) Done ∷ [], false)
     ∷ (ends (pauses 1) Done ∷ ends (resumes 1) (Refused NoSuchLane) ∷ [], true)
     ∷ (ends (pauses 1) Done ∷ ends (resumes 0) Done ∷ [], true)
-    ∷ (ends (pauses 1) Done ∷ ends (sends 1) (Taken true) ∷ ends (drops 1) Done ∷ [], true)
+    ∷ (ends (pauses 1) Done ∷ ends (sends 1) (Taken true 3) ∷ ends (drops 1) Done ∷ [], true)
     ∷ (ends registers (Registered (key 1 1)) ∷ ends (Control (Pause record { channel = 7; key = key 1 1 })) Done ∷ [], false)
     ∷ [])
 unfolding computeWake
@@ -194,24 +194,24 @@ answered calls = lastAnswer (openedState record { capacity = 2; slots = 3; chann
 -- the receiver may sleep, and the next ordinary send to an unpaused lane wakes it
 woken-read :
     Reads answered
-    ((plain ∷ sends 0 ∷ [], Taken true)
-    ∷ (fair ∷ sends 0 ∷ [], Taken true)
-    ∷ (batch 1 ∷ sends 0 ∷ [], Taken true)
-    ∷ (drops 0 ∷ plain ∷ registers ∷ Sender (TrySend (key 0 1) 5) ∷ [], Taken true)
+    ((plain ∷ sends 0 ∷ [], Taken true 1)
+    ∷ (fair ∷ sends 0 ∷ [], Taken true 1)
+    ∷ (batch 1 ∷ sends 0 ∷ [], Taken true 1)
+    ∷ (drops 0 ∷ plain ∷ registers ∷ Sender (TrySend (key 0 1) 5) ∷ [], Taken true 1)
     -- a batch of one item less than its limit
-    ∷ (sends 0 ∷ batch 2 ∷ sends 0 ∷ [], Taken true)
-    ∷ (registers ∷ sends 0 ∷ sends 1 ∷ batch 3 ∷ sends 1 ∷ [], Taken true)
+    ∷ (sends 0 ∷ batch 2 ∷ sends 0 ∷ [], Taken true 1)
+    ∷ (registers ∷ sends 0 ∷ sends 1 ∷ batch 3 ∷ sends 1 ∷ [], Taken true 1)
     -- while it sleeps: an unsignalled send, a refused one, a drop, held, a send to a paused lane
-    ∷ (plain ∷ unsignalled 0 ∷ sends 0 ∷ [], Taken true)
-    ∷ (plain ∷ Sender (TrySend (key 0 1) 5) ∷ sends 0 ∷ [], Taken true)
-    ∷ (registers ∷ plain ∷ drops 1 ∷ sends 0 ∷ [], Taken true)
-    ∷ (plain ∷ held ∷ sends 0 ∷ [], Taken true)
-    ∷ (registers ∷ pauses 1 ∷ plain ∷ sends 1 ∷ sends 0 ∷ [], Taken true)
+    ∷ (plain ∷ unsignalled 0 ∷ sends 0 ∷ [], Taken true 0)
+    ∷ (plain ∷ Sender (TrySend (key 0 1) 5) ∷ sends 0 ∷ [], Taken true 1)
+    ∷ (registers ∷ plain ∷ drops 1 ∷ sends 0 ∷ [], Taken true 1)
+    ∷ (plain ∷ held ∷ sends 0 ∷ [], Taken true 1)
+    ∷ (registers ∷ pauses 1 ∷ plain ∷ sends 1 ∷ sends 0 ∷ [], Taken true 1)
     -- a lane registered while it sleeps, also in a freed slot whose page bit is set: a drop has marked it
-    ∷ (plain ∷ registers ∷ sends 1 ∷ [], Taken true)
-    ∷ (closes 0 ∷ plain ∷ drops 0 ∷ registers ∷ Sender (TrySend (key 0 1) 5) ∷ [], Taken true)
+    ∷ (plain ∷ registers ∷ sends 1 ∷ [], Taken true 1)
+    ∷ (closes 0 ∷ plain ∷ drops 0 ∷ registers ∷ Sender (TrySend (key 0 1) 5) ∷ [], Taken true 1)
     -- and of each lane the first
-    ∷ (registers ∷ plain ∷ sends 0 ∷ sends 1 ∷ [], Taken true)
+    ∷ (registers ∷ plain ∷ sends 0 ∷ sends 1 ∷ [], Taken true 1)
     ∷ [])
 unfolding computeWake lastAnswer answered
 woken-read = refl
@@ -220,18 +220,18 @@ woken-read = refl
 unwoken-read :
     Reads answered
     -- no look at all; a single item; a batch that reached its limit; one of limit 0; a targeted receive that answered Empty
-    ((sends 0 ∷ sends 0 ∷ [], Taken false)
-    ∷ (sends 0 ∷ plain ∷ sends 0 ∷ [], Taken false)
-    ∷ (sends 0 ∷ fair ∷ sends 0 ∷ [], Taken false)
-    ∷ (sends 0 ∷ batch 1 ∷ sends 0 ∷ [], Taken false)
-    ∷ (sends 0 ∷ batch 0 ∷ sends 0 ∷ [], Taken false)
-    ∷ (registers ∷ sends 0 ∷ targeted 1 ∷ sends 0 ∷ [], Taken false)
+    ((sends 0 ∷ sends 0 ∷ [], Taken false 0)
+    ∷ (sends 0 ∷ plain ∷ sends 0 ∷ [], Taken false 0)
+    ∷ (sends 0 ∷ fair ∷ sends 0 ∷ [], Taken false 0)
+    ∷ (sends 0 ∷ batch 1 ∷ sends 0 ∷ [], Taken false 1)
+    ∷ (sends 0 ∷ batch 0 ∷ sends 0 ∷ [], Taken false 0)
+    ∷ (registers ∷ sends 0 ∷ targeted 1 ∷ sends 0 ∷ [], Taken false 0)
     -- the second send; a send to a paused lane; one after another call of the receiver
-    ∷ (plain ∷ sends 0 ∷ sends 0 ∷ [], Taken false)
-    ∷ (sends 0 ∷ pauses 0 ∷ plain ∷ sends 0 ∷ [], Taken false)
-    ∷ (pauses 0 ∷ plain ∷ resumes 0 ∷ sends 0 ∷ [], Taken false)
+    ∷ (plain ∷ sends 0 ∷ sends 0 ∷ [], Taken false 0)
+    ∷ (sends 0 ∷ pauses 0 ∷ plain ∷ sends 0 ∷ [], Taken false 0)
+    ∷ (pauses 0 ∷ plain ∷ resumes 0 ∷ sends 0 ∷ [], Taken false 1)
     -- an unsignalled send, and a drop
-    ∷ (plain ∷ unsignalled 0 ∷ [], Taken false)
+    ∷ (plain ∷ unsignalled 0 ∷ [], Taken false 1)
     ∷ (plain ∷ drops 0 ∷ [], Done)
     -- a send that is not accepted: unsignalled sends, which wake nobody, have filled the ring
     ∷ (plain ∷ unsignalled 0 ∷ unsignalled 0 ∷ sends 0 ∷ [], Refused Full)
