@@ -6,7 +6,7 @@ use mathlib.Core.Bool.{Bool, true, false, not}
 use mathlib.Core.List.{List, [], _∷_, _++_}
 use Prim.Native.Nat.{ℕ, zero, suc, _+_, _-_, _*_, _/_, _^_, _%_, _<_, _≤_}
 use native.Mathlib.Omega.{arith}
-use lib.ListN.{length}
+use lib.ListN.{length, length-append}
 use lib.Dec.{eqb, leb}
 use lib.Pow.{pow-pos, pow-mono, pow-add}
 use borrow.Author.Tests.{eq-eqb, ne-eqb, le-leb, lt-leb, leb-true, leb-false}
@@ -21,7 +21,7 @@ use Rattle.model.specs.Turn.{refill, unreleasedAfterOne, giveItem}
 use Rattle.model.specs.Runs.{answers, afterList}
 use Rattle.model.specs.Opening.{nextPowerOfTwo, openedState}
 use Rattle.model.specs.Rules.{outcome, theRules}
-use Rattle.model.specs.Examples.Example.{openingOf, repeat, eachTime, saidCalls, saidAnswers, computeExamples, registers, sends, plain, lane, gave}
+use Rattle.model.specs.Examples.Example.{openingOf, repeat, inARow, callsOf, answersOf, saidCalls, saidAnswers, computeExamples, registers, sends, plain, lane, gave}
 use Rattle.model.specs.Examples.Table.{creditAfter}
 use Rattle.model.specs.Examples.Calls.{compute, found, expected}
 use Rattle.demands.proofs.Opened.{doubled-power}
@@ -69,11 +69,12 @@ put-only C l m q p g = ap (λ (f : ℕ → Slot). withSlots f (only C l q p g)) 
 
 send-taken : (C v : ℕ) (pending marked : Bool) (vs : List ℕ) (u b : ℕ) (q : List ℕ) (p g : ℕ) → length vs + u < C
     → (outcome (only C (slotWith pending marked vs u b) q p g) (sends 0 v)) .1
-    ≡ (Taken (not pending), only C (slotWith true (either (not pending) marked) (vs ++ (v ∷ [])) u b) q p g)
+    ≡ (Taken (not pending) (C - (length vs + u + 1)), only C (slotWith true (either (not pending) marked) (vs ++ (v ∷ [])) u b) q p g)
 unfolding compute computeExamples
 send-taken C v pending marked vs u b q p g h =
+    let one-less : C - (length (vs ++ (v ∷ [])) + u) ≡ C - (length vs + u + 1) = rw (length-append vs (v ∷ [])) (omega arith) in
     rw (lt-leb C (length vs + u) h)
-    (ap (λ (s : State). (Taken (not pending), s)) (put-only C (slotWith pending marked vs u b) (slotWith true (either (not pending) marked) (vs ++ (v ∷ [])) u b) q p g))
+    (ap₂ (λ (f : ℕ) (s : State). (Taken (not pending) f, s)) one-less (put-only C (slotWith pending marked vs u b) (slotWith true (either (not pending) marked) (vs ++ (v ∷ [])) u b) q p g))
 
 send-refused : (C v : ℕ) (pending marked : Bool) (vs : List ℕ) (u b : ℕ) (q : List ℕ) (p g : ℕ) → C ≤ length vs + u
     → let s = only C (slotWith pending marked vs u b) q p g in (outcome s (sends 0 v)) .1 ≡ (Refused Full, s)
@@ -146,6 +147,11 @@ unfolding repeat
 repeat-more zero v = refl
 repeat-more (suc n) v = ap (λ (l : List ℕ). v ∷ l) (repeat-more n v)
 
+one-in-a-row : (w : Bool) (f : ℕ) → inARow 1 (Taken w f) ≡ Taken w f ∷ []
+unfolding inARow
+one-in-a-row w zero = refl
+one-in-a-row w (suc f) = refl
+
 -- a burst is 64 items, and so is what the budget allows
 burst-next : (k : ℕ) → if (leb 63 (k % 64)) 0 (k % 64 + 1) ≡ suc k % 64
 burst-next k = go (leb 63 (k % 64)) refl
@@ -168,13 +174,13 @@ module _ (C : ℕ) where
   given zero u n = only C (slotWith true true (repeat n 5) u 0) [] 64 0
   given (suc k) u n = only C (slotWith true false (repeat n 5) u (suc k % 64)) (0 ∷ []) (63 - k % 64) 1
 
-  one-sent : (k u n : ℕ) → n + u < C → (outcome (given k u n) (sends 0 5)) .1 ≡ (Taken false, given k u (suc n))
+  one-sent : (k u n : ℕ) → n + u < C → (outcome (given k u n) (sends 0 5)) .1 ≡ (Taken false (C - (n + u + 1)), given k u (suc n))
   one-sent zero u n h =
       send-taken C 5 true true (repeat n 5) u 0 [] 64 0 (omega (arith, length-repeat n 5))
-      ∙ ap (λ (l : List ℕ). (Taken false, only C (slotWith true true l u 0) [] 64 0)) (repeat-more n 5)
+      ∙ ap₂ (λ (m : ℕ) (l : List ℕ). (Taken false (C - (m + u + 1)), only C (slotWith true true l u 0) [] 64 0)) (length-repeat n 5) (repeat-more n 5)
   one-sent (suc k) u n h =
       send-taken C 5 true false (repeat n 5) u (suc k % 64) (0 ∷ []) (63 - k % 64) 1 (omega (arith, length-repeat n 5))
-      ∙ ap (λ (l : List ℕ). (Taken false, only C (slotWith true false l u (suc k % 64)) (0 ∷ []) (63 - k % 64) 1)) (repeat-more n 5)
+      ∙ ap₂ (λ (m : ℕ) (l : List ℕ). (Taken false (C - (m + u + 1)), only C (slotWith true false l u (suc k % 64)) (0 ∷ []) (63 - k % 64) 1)) (length-repeat n 5) (repeat-more n 5)
 
   none-sent : (k u n : ℕ) → n + u ≡ C → (outcome (given k u n) (sends 0 5)) .1 ≡ (Refused Full, given k u n)
   none-sent zero u n h = send-refused C 5 true true (repeat n 5) u 0 [] 64 0 (omega (arith, length-repeat n 5))
@@ -187,17 +193,20 @@ module _ (C : ℕ) where
       next-given C 5 (repeat n 5) u (suc k % 64) (63 - k % 64)
       ∙ ap₂ (λ (b p : ℕ). (gave 5 0, only C (slotWith true false (repeat n 5) (oneMore C u) b) (0 ∷ []) p 1)) (burst-next (suc k)) (budget-next k)
 
-  -- so many sends, from n items in the ring to `after`
-  all-sent : (m k u n after : ℕ) {t : State} {cs : List Call} {told : List Answer} → n + m ≡ after → after + u ≤ C → Comes (given k u after) cs told t
-      → Comes (given k u n) (repeat m (sends 0 5) ++ cs) (repeat m (Taken false) ++ told) t
-  unfolding repeat
-  all-sent zero k u n after {t = t} {cs = cs} {told = told} e h r = let same : after ≡ n = omega (arith, e) in subst (λ (x : ℕ). Comes (given k u x) cs told t) same r
-  all-sent (suc m) k u n after e h r = then (one-sent k u n (omega (arith, e))) (all-sent m k u (suc n) after (omega (arith, e)) h r)
+  -- so many sends, from n items in the ring to `after`; the first says f
+  all-sent : (m k u n after f : ℕ) {t : State} {cs : List Call} {told : List Answer} → n + m ≡ after → after + u ≤ C → f ≡ C - (n + u + 1) → Comes (given k u after) cs told t
+      → Comes (given k u n) (repeat m (sends 0 5) ++ cs) (inARow m (Taken false f) ++ told) t
+  unfolding repeat inARow
+  all-sent zero k u n after f {t = t} {cs = cs} {told = told} e h z r = let same : after ≡ n = omega (arith, e) in subst (λ (x : ℕ). Comes (given k u x) cs told t) same r
+  all-sent (suc m) k u n after zero e h z r =
+      then (one-sent k u n (omega (arith, e)) ∙ ap (λ (f : ℕ). (Taken false f, given k u (suc n))) (sym z)) (all-sent m k u (suc n) after 0 (omega (arith, e)) h (omega (arith, z)) r)
+  all-sent (suc m) k u n after (suc f) e h z r =
+      then (one-sent k u n (omega (arith, e)) ∙ ap (λ (f : ℕ). (Taken false f, given k u (suc n))) (sym z)) (all-sent m k u (suc n) after f (omega (arith, e)) h (omega (arith, z)) r)
 
   -- so many receives, none of which reaches the release batch: from k items that are taken to `end`
   all-given : (m k end n left : ℕ) {t : State} {cs : List Call} {told : List Answer} → k + m ≡ end → left + m ≡ n → end < releaseBatch C → Comes (given end end left) cs told t
-      → Comes (given k k n) (repeat m plain ++ cs) (repeat m (gave 5 0) ++ told) t
-  unfolding repeat
+      → Comes (given k k n) (repeat m plain ++ cs) (inARow m (gave 5 0) ++ told) t
+  unfolding repeat inARow gave
   all-given zero k end n left {t = t} {cs = cs} {told = told} e l h r =
       let same : end ≡ k = omega (arith, e) in
       let rest : left ≡ n = omega (arith, l) in
@@ -220,21 +229,22 @@ module _ (C : ℕ) where
 
     credit-run : Comes (only C (slotWith false false [] 0 0) [] 64 0)
         (sends 0 5 ∷ repeat (n - 1) (sends 0 5) ++ (repeat j plain ++ (repeat (C - n) (sends 0 5) ++ (sends 0 5 ∷ repeat (k - j) plain ++ (sends 0 5 ∷ plain ∷ repeat (releaseBatch C) (sends 0 5) ++ (sends 0 5 ∷ []))))))
-        (Taken true ∷ repeat (n - 1) (Taken false) ++ (repeat j (gave 5 0) ++ (repeat (C - n) (Taken false) ++ (Refused Full ∷ repeat (k - j) (gave 5 0) ++ (Refused Full ∷ gave 5 0 ∷ repeat (releaseBatch C) (Taken false) ++ (Refused Full ∷ []))))))
+        (inARow 1 (Taken true (C - 1)) ++ (inARow (n - 1) (Taken false (C - 2)) ++ (inARow j (gave 5 0) ++ (inARow (C - n) (Taken false (C - (n + 1))) ++ (Refused Full ∷ inARow (k - j) (gave 5 0) ++ (Refused Full ∷ gave 5 0 ∷ inARow (releaseBatch C) (Taken false (releaseBatch C - 1)) ++ (Refused Full ∷ [])))))))
         (given (suc k) 0 C)
     unfolding repeat
     credit-run =
-        then (send-taken C 5 false false [] 0 0 [] 64 0 (omega arith))
-        (all-sent (n - 1) 0 0 1 n (omega arith) (omega arith)
+        rw (one-in-a-row true (C - 1))
+        (then (send-taken C 5 false false [] 0 0 [] 64 0 (omega arith))
+        (all-sent (n - 1) 0 0 1 n (C - 2) (omega arith) (omega arith) (omega arith)
         (all-given j 0 j n (n - j) (omega arith) (omega arith) (omega (arith, e))
-        (all-sent (C - n) j j (n - j) (C - j) (omega arith) (omega arith)
+        (all-sent (C - n) j j (n - j) (C - j) (C - (n + 1)) (omega arith) (omega arith) (omega arith)
         (then (none-sent j j (C - j) (omega arith))
         (all-given (k - j) j k (C - j) (C - k) (omega arith) (omega arith) (omega (arith, e))
         (then (none-sent k k (C - k) (omega arith))
         (then last-given
-        (all-sent (releaseBatch C) (suc k) 0 (C - suc k) C (omega (arith, e)) (omega arith)
+        (all-sent (releaseBatch C) (suc k) 0 (C - suc k) C (releaseBatch C - 1) (omega (arith, e)) (omega arith) (omega (arith, e))
         (then (none-sent (suc k) 0 C (omega arith))
-        (done (given (suc k) 0 C)))))))))))
+        (done (given (suc k) 0 C))))))))))))
 
 -- ---- every capacity
 
@@ -269,7 +279,7 @@ batch-within C h = (omega arith, omega arith)
 pub credit-after : (c sent taken : ℕ)
     → let C = nextPowerOfTwo c in 1 ≤ sent → sent ≤ C → taken ≤ sent → taken < releaseBatch C
     → let e = creditAfter c C (releaseBatch C) sent taken (64 - releaseBatch C) in found e ≡ expected e
-unfolding found expected creditAfter saidCalls saidAnswers eachTime repeat
+unfolding found expected creditAfter saidCalls saidAnswers callsOf answersOf inARow repeat lane gave
 credit-after c sent taken some most d l =
     let C = nextPowerOfTwo c in
     let k = releaseBatch C - 1 in

@@ -169,10 +169,10 @@ move-kept k o z (credits s c a h) = kept-quiet k s _ c a (h .sends-none k) (ring
 move-kept k o z (registers-new s m e lt) = rw append-nil (ring-put s _ (s .issued) (newLane (s .firstGeneration) (s .slotOf (s .issued))) k (λ y. refl) (λ g. empty-ring (newLane (s .firstGeneration) (s .slotOf (s .issued))) g refl ∙ sym (ring-none (s .slotOf (s .issued)) g (unissued s o))))
 move-kept k o z (registers-old s m x f e) = rw append-nil (ring-put s _ x (newLane (s .slotOf x .generation + 1) (s .slotOf x)) k (λ y. refl)
     (λ g. empty-ring (newLane (s .slotOf x .generation + 1) (s .slotOf x)) g refl ∙ sym (ring-none (s .slotOf x) g (o .each-slot x .free-unregistered (omega (arith, ap (count x) e, first-own x f))))))
-move-kept k o z (sends s j v w a r nf) =
+move-kept k o z (sends s j v w free a r nf) =
     let g = sender-parts s j a in
     kept-send k j s _ (j .slot) v (signalled (pushed v (s .slotOf (j .slot)))) refl (rings s _ (j .slot) _ j k (λ y. refl) refl r (g .1) r (g .1))
-move-kept k o z (posts s j v w a r nf) =
+move-kept k o z (posts s j v w free a r nf) =
     let g = sender-parts s j a in
     kept-send k j s _ (j .slot) v (pushed v (s .slotOf (j .slot))) refl (rings s _ (j .slot) _ j k (λ y. refl) refl r (g .1) r (g .1))
 move-kept k o z (drops-it s j a) = rw append-nil (ring-put s _ (j .slot) (signalled (senderDropped (s .slotOf (j .slot)))) k (λ y. refl) (λ g. ring-same (s .slotOf (j .slot)) _ g refl refl refl))

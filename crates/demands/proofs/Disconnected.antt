@@ -279,7 +279,7 @@ isDisconnected : Answer → Bool
 isDisconnected Disconnected = true
 isDisconnected Done = false
 isDisconnected (Registered k) = false
-isDisconnected (Taken w) = false
+isDisconnected (Taken w f) = false
 isDisconnected (Item v i) = false
 isDisconnected (Items n) = false
 isDisconnected Empty = false

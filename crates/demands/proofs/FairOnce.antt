@@ -137,8 +137,8 @@ module _ (E R : ℕ) (K j : LaneKey) where
   move-once n k w (credits s c a h) f b o = calmly s _ (shrinks-same _ _) o
   move-once n k w (registers-new s m e lt) f b o = calmly s _ (shrinks-same _ _) o
   move-once n k w (registers-old s m y r e) f b o = calmly s _ (shrinks-same _ _) o
-  move-once n k w (sends s i v a c r nf) f b o = calmly s _ (shrinks-same _ _) o
-  move-once n k w (posts s i v a c r nf) f b o = calmly s _ (shrinks-same _ _) o
+  move-once n k w (sends s i v a free c r nf) f b o = calmly s _ (shrinks-same _ _) o
+  move-once n k w (posts s i v a free c r nf) f b o = calmly s _ (shrinks-same _ _) o
   move-once n k w (drops-it s i a) f b o = calmly s _ (shrinks-same _ _) o
   move-once n k w (pauses-it s i c) f b o = calmly s _ (shrinks-without (K .slot) (i .key .slot) (s .queue) (not-own s K (i .key) (w .hold) (has-lane-parts s (i .key) c .1) f)) o
   move-once n k w (resumes s i c p) f b o = calmly s _ (shrinks-append (K .slot) (s .queue) (i .key .slot ∷ [])) o

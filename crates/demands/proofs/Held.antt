@@ -224,8 +224,8 @@ move-keys L o h (registers-old s m x f e) =
     let k : LaneKey = record { slot = x; generation = s .slotOf x .generation + 1 } in
     keys-new L _ s _ record { key = k; holds = []; paused = false; closed = false; dropped = false } refl
     (none-yet (times k (L .lanes)) (λ n. omega (arith, h .known k n .1))) (o .each-slot x .free-issued (omega (arith, ap (count x) e, first-own x f))) (rw (self x) (omega arith)) (move-grows (registers-old s m x f e)) h
-move-keys L o h (sends s k v w a r nf) = keys-changed L k _ (add-item-key record { value = v; ordinary = true }) (move-grows (sends s k v w a r nf)) h
-move-keys L o h (posts s k v w a r nf) = keys-changed L k _ (add-item-key record { value = v; ordinary = false }) (move-grows (posts s k v w a r nf)) h
+move-keys L o h (sends s k v w free a r nf) = keys-changed L k _ (add-item-key record { value = v; ordinary = true }) (move-grows (sends s k v w free a r nf)) h
+move-keys L o h (posts s k v w free a r nf) = keys-changed L k _ (add-item-key record { value = v; ordinary = false }) (move-grows (posts s k v w free a r nf)) h
 move-keys L o h (drops-it s k a) = keys-changed L k _ set-dropped-key (move-grows (drops-it s k a)) h
 move-keys L o h (pauses-it s i c) = keys-changed L (i .key) _ (set-paused-key true) (move-grows (pauses-it s i c)) h
 move-keys L o h (resumes s i c p) = keys-changed L (i .key) _ (set-paused-key false) (move-grows (resumes s i c p)) h
@@ -255,14 +255,14 @@ move-sum L h (registers-new s m e lt) =
 move-sum L h (registers-old s m x f e) =
     let z = count-unregistered (s .slotOf x) (h .ord .each-slot x .free-unregistered (omega (arith, ap (count x) e, first-own x f))) in
     new-sum (L .lanes) _ ∙ h .sum ∙ sym (held-put-alike s _ x (newLane (s .slotOf x .generation + 1) (s .slotOf x)) (λ y. refl) refl (new-count _ (s .slotOf x) ∙ sym z))
-move-sum L h (sends s k v w a r nf) =
+move-sum L h (sends s k v w free a r nf) =
     let g = sender-parts s k a in
     sum-changed L s _ k _ (add-item-key record { value = v; ordinary = true }) (signalled (pushed v (s .slotOf (k .slot)))) (λ y. refl) r (g .1) refl (h .ord .each-slot (k .slot) .registered-issued r) (h .agrees) (h .keys) (h .sum) r (g .1)
-    (move-agrees L (h .ord) (h .agrees) (sends s k v w a r nf))
-move-sum L h (posts s k v w a r nf) =
+    (move-agrees L (h .ord) (h .agrees) (sends s k v w free a r nf))
+move-sum L h (posts s k v w free a r nf) =
     let g = sender-parts s k a in
     sum-changed L s _ k _ (add-item-key record { value = v; ordinary = false }) (pushed v (s .slotOf (k .slot))) (λ y. refl) r (g .1) refl (h .ord .each-slot (k .slot) .registered-issued r) (h .agrees) (h .keys) (h .sum) r (g .1)
-    (move-agrees L (h .ord) (h .agrees) (posts s k v w a r nf))
+    (move-agrees L (h .ord) (h .agrees) (posts s k v w free a r nf))
 move-sum L h (drops-it s k a) =
     held-same k setDropped dropped-same L ∙ h .sum ∙ sym (held-put-alike s _ (k .slot) (signalled (senderDropped (s .slotOf (k .slot)))) (λ y. refl) refl (count-alike (s .slotOf (k .slot)) _ refl refl))
 move-sum L h (pauses-it s i c) =

@@ -440,11 +440,11 @@ move-agrees L o h (registers-old s m x f e) =
     record { key = record { slot = x; generation = s .slotOf x .generation + 1 }; holds = []; paused = false; closed = false; dropped = false } refl
     record { values-same = refl; signal = λ a. absurd (no a (none-held [] refl)); pauses-same = refl; unclosed = refl; senders = refl } refl
     (omega (arith, h .issued-same, o .each-slot x .free-issued n)) (h .shut-same) h
-move-agrees L o h (sends s k v w a r nf) =
+move-agrees L o h (sends s k v w free a r nf) =
     let g = sender-parts s k a in
     agrees-change L s _ k (addItem record { value = v; ordinary = true }) (add-item-key record { value = v; ordinary = true }) (signalled (pushed v (s .slotOf (k .slot)))) (λ y. refl) r (g .1) refl refl h r (g .1)
     (λ l. add-item-matches l (s .slotOf (k .slot)) (signalled (pushed v (s .slotOf (k .slot)))) v true refl (λ e. refl) (λ e. refl) refl refl)
-move-agrees L o h (posts s k v w a r nf) =
+move-agrees L o h (posts s k v w free a r nf) =
     let g = sender-parts s k a in
     agrees-change L s _ k (addItem record { value = v; ordinary = false }) (add-item-key record { value = v; ordinary = false }) (pushed v (s .slotOf (k .slot))) (λ y. refl) r (g .1) refl refl h r (g .1)
     (λ l. add-item-matches l (s .slotOf (k .slot)) (pushed v (s .slotOf (k .slot))) v false refl (λ e. absurd (no e refl)) (λ e. e) refl refl)

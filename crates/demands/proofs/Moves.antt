@@ -58,10 +58,10 @@ pub data Moves : State → Tick → State → Type 0 where
       → Moves s (ends (Sender (RegisterSender m)) (Registered record { slot = s .issued; generation = s .firstGeneration })) (withIssued (suc (s .issued)) (put (s .issued) (newLane (s .firstGeneration) (s .slotOf (s .issued))) s))
   registers-old : (s : State) (m x : ℕ) (f : List ℕ) → s .free ≡ x ∷ f
       → Moves s (ends (Sender (RegisterSender m)) (Registered record { slot = x; generation = s .slotOf x .generation + 1 })) (withFree f (put x (newLane (s .slotOf x .generation + 1) (s .slotOf x)) s))
-  sends : (s : State) (k : LaneKey) (v : ℕ) (w : Bool) → senderLives s k ≡ true → s .slotOf (k .slot) .registered ≡ true → isFull s (k .slot) ≡ false
-      → Moves s (ends (Sender (TrySend k v)) (Taken w)) (put (k .slot) (signalled (pushed v (s .slotOf (k .slot)))) s)
-  posts : (s : State) (k : LaneKey) (v : ℕ) (w : Bool) → senderLives s k ≡ true → s .slotOf (k .slot) .registered ≡ true → isFull s (k .slot) ≡ false
-      → Moves s (ends (Sender (TrySendUnsignaled k v)) (Taken w)) (put (k .slot) (pushed v (s .slotOf (k .slot))) s)
+  sends : (s : State) (k : LaneKey) (v : ℕ) (w : Bool) (free : ℕ) → senderLives s k ≡ true → s .slotOf (k .slot) .registered ≡ true → isFull s (k .slot) ≡ false
+      → Moves s (ends (Sender (TrySend k v)) (Taken w free)) (put (k .slot) (signalled (pushed v (s .slotOf (k .slot)))) s)
+  posts : (s : State) (k : LaneKey) (v : ℕ) (w : Bool) (free : ℕ) → senderLives s k ≡ true → s .slotOf (k .slot) .registered ≡ true → isFull s (k .slot) ≡ false
+      → Moves s (ends (Sender (TrySendUnsignaled k v)) (Taken w free)) (put (k .slot) (pushed v (s .slotOf (k .slot))) s)
   drops-it : (s : State) (k : LaneKey) → senderLives s k ≡ true → Moves s (ends (Sender (DropSender k)) Done) (put (k .slot) (signalled (senderDropped (s .slotOf (k .slot)))) s)
   pauses-it : (s : State) (i : LaneId) → hasLane s (i .key) ≡ true
       → Moves s (ends (Control (Pause i)) Done) (withQueue (without (i .key .slot) (s .queue)) (put (i .key .slot) (withPaused true (credited (s .slotOf (i .key .slot)))) s))
@@ -134,10 +134,10 @@ sender-move s (RegisterSender m) =
     go (x ∷ f) e h = registers-old s m x f e
 sender-move s (TrySend k v) =
     unless-law (λ o. Moves s (ends (Sender (TrySend k v)) (o .1 .0)) (o .1 .1)) _ s _ (λ n. stays-put s _ _ (turned-away _ n))
-    (λ p. sends s k v _ (not-false (p .0)) (both-true (s .isOpen) (s .slotOf (k .slot) .registered) (not-false (p .1 .0)) .1) (p .1 .1 .0))
+    (λ p. sends s k v _ _ (not-false (p .0)) (both-true (s .isOpen) (s .slotOf (k .slot) .registered) (not-false (p .1 .0)) .1) (p .1 .1 .0))
 sender-move s (TrySendUnsignaled k v) =
     unless-law (λ o. Moves s (ends (Sender (TrySendUnsignaled k v)) (o .1 .0)) (o .1 .1)) _ s _ (λ n. stays-put s _ _ (turned-away _ n))
-    (λ p. posts s k v false (not-false (p .0)) (both-true (s .isOpen) (s .slotOf (k .slot) .registered) (not-false (p .1 .0)) .1) (p .1 .1 .0))
+    (λ p. posts s k v false _ (not-false (p .0)) (both-true (s .isOpen) (s .slotOf (k .slot) .registered) (not-false (p .1 .0)) .1) (p .1 .1 .0))
 sender-move s (DropSender k) =
     unless-law (λ o. Moves s (ends (Sender (DropSender k)) (o .1 .0)) (o .1 .1)) _ s _ (λ n. stays-put s _ _ (turned-away _ n)) (λ p. drops-it s k (not-false (p .0)))
 

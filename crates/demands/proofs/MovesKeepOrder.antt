@@ -139,8 +139,8 @@ move-ordered o (stays-put s c a h) = o
 move-ordered o (credits s c a h) = release-all-ordered s o
 move-ordered o (registers-new s m e lt) = new-slot-ordered s lt o
 move-ordered o (registers-old s m x f e) = freed-slot-ordered s x _ f e o
-move-ordered o (sends s k v w a r nf) = put-ordered s (k .slot) _ o (signal-fine _ _ _ _ (s .slotOf (k .slot)) _ (o .each-slot (k .slot)) refl refl refl refl refl refl (o .each-slot (k .slot) .registered-issued r))
-move-ordered o (posts s k v w a r nf) = let f = o .each-slot (k .slot) in
+move-ordered o (sends s k v w free a r nf) = put-ordered s (k .slot) _ o (signal-fine _ _ _ _ (s .slotOf (k .slot)) _ (o .each-slot (k .slot)) refl refl refl refl refl refl (o .each-slot (k .slot) .registered-issued r))
+move-ordered o (posts s k v w free a r nf) = let f = o .each-slot (k .slot) in
     put-ordered s (k .slot) _ o record { queued-once = f .queued-once; free-once = f .free-once; queued-registered = f .queued-registered; queued-unpaused = f .queued-unpaused; is-marked = f .is-marked; registered-issued = f .registered-issued; free-issued = f .free-issued; free-unregistered = f .free-unregistered; burst-most = f .burst-most; living-issued = f .living-issued; marked-issued = f .marked-issued; free-generation = f .free-generation }
 move-ordered o (drops-it s k a) = put-ordered s (k .slot) _ o (signal-fine _ _ _ _ (s .slotOf (k .slot)) _ (o .each-slot (k .slot)) refl refl refl refl refl refl (o .each-slot (k .slot) .living-issued (living-of s k a)))
 move-ordered o (pauses-it s i c) =

@@ -162,7 +162,7 @@ item-for-ever-shut-out demand =
 heldIn : Answer → ℕ
 heldIn Done = 0
 heldIn (Registered k) = 0
-heldIn (Taken w) = 0
+heldIn (Taken w f) = 0
 heldIn (Item v i) = 0
 heldIn (Items n) = 0
 heldIn Empty = 0
@@ -198,7 +198,7 @@ same-key-again-shut-out h =
 -- a send that never says woken 1: after a plain receive that answered Empty
 pub never-wakes-shut-out : NoLostWake sendNeverWakes → ⊥
 unfolding computeWrong NoLostWake NoLostWakeIn sendUnwoken maySleep belowLimit itemsBelow endsSleep sendsTo pausedIn wakes saysWoken
-never-wakes-shut-out h = no (h opening lent refl calls tt (take 1 run) [] [] plain Empty (ends (sends 0 5) (Taken false)) refl refl refl (lane 0) refl refl refl) refl
+never-wakes-shut-out h = no (h opening lent refl calls tt (take 1 run) [] [] plain Empty (ends (sends 0 5) (Taken false 3)) refl refl refl (lane 0) refl refl refl) refl
   where
     calls : List Call
     calls = registers ∷ plain ∷ sends 0 5 ∷ []

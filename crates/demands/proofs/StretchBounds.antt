@@ -65,7 +65,7 @@ add-registered-up : (a : Answer) (L : Ledger) → L .issued ≤ (addRegistered a
 unfolding addRegistered
 add-registered-up (Registered k) L = omega arith
 add-registered-up Done L = omega arith
-add-registered-up (Taken w) L = omega arith
+add-registered-up (Taken w f) L = omega arith
 add-registered-up (Item v i) L = omega arith
 add-registered-up (Items vs) L = omega arith
 add-registered-up Empty L = omega arith

@@ -196,12 +196,12 @@ module _ (E R : ℕ) (K : LaneKey) where
       let v = o .each-slot y .free-unregistered (omega (arith, ap (count y) e, first-own y r)) in
       off s _ k y _ (λ p. no (w .hold .is-registered) (ap (λ (z : ℕ). s .slotOf z .registered) p ∙ v)) (λ z. refl) refl refl
       (λ c. absurd (omega (arith, c, unqueued-of (o .each-slot y) v))) (shrinks-same (K .slot) (s .queue)) (λ z. z) w
-  move-on k w n (sends s j v i a r nf) f =
+  move-on k w n (sends s j v i free a r nf) f =
       let l = s .slotOf (j .slot) in
       at-sender s k (j .slot) (signalled (pushed v l)) (λ e p. either-true (not (l .pending)) (l .marked) (ap (λ (z : ℕ). s .slotOf z .marked) (sym p) ∙ e))
       (share-less l (signalled (pushed v l)) refl (live-living l (sender-parts s j a .0)))
       (λ p h. put-hold s (j .slot) _ p h refl refl refl refl (omega (arith, length-append (l .ring) (v ∷ [])))) w
-  move-on k w n (posts s j v i a r nf) f =
+  move-on k w n (posts s j v i free a r nf) f =
       let l = s .slotOf (j .slot) in
       at-sender s k (j .slot) (pushed v l) (λ e p. ap (λ (z : ℕ). s .slotOf z .marked) (sym p) ∙ e)
       (share-less l (pushed v l) refl (live-living l (sender-parts s j a .0)))

@@ -147,10 +147,10 @@ module _ (k : LaneKey) where
   move-asleep (credits s c a n) e f h = record { idle = h .idle }
   move-asleep (registers-new s m n lt) e f h = record { idle = put-asleep k s (s .issued) (newLane (s .firstGeneration) (s .slotOf (s .issued))) (λ p r g v. refl) h .idle }
   move-asleep (registers-old s m x l n) e f h = record { idle = put-asleep k s x (newLane (s .slotOf x .generation + 1) (s .slotOf x)) (λ p r g v. refl) h .idle }
-  move-asleep (sends s j v w a r nf) e f h =
+  move-asleep (sends s j v w free a r nf) e f h =
       put-asleep k s (j .slot) (signalled (pushed v (s .slotOf (j .slot))))
       (λ p r g l. elim (keys? j k) [ alike q b ↦ absurd (no b f) | unlike d b ↦ absurd (d (key-path j k p (sym (sender-parts s j a .1) ∙ g))) ]) h
-  move-asleep (posts s j v w a r nf) e f h =
+  move-asleep (posts s j v w free a r nf) e f h =
       put-asleep k s (j .slot) (pushed v (s .slotOf (j .slot)))
       (λ p r g l.
       ap (λ (x : ℕ). s .slotOf x .pending) p
@@ -247,7 +247,7 @@ sleep-noted L (Receive r) (Registered k) m = absurd (no m (never r))
     never (TryRecvFrom i) = refl
     never (TryRecvBatchInto zero room) = refl
     never (TryRecvBatchInto (suc n) room) = refl
-sleep-noted L (Receive r) (Taken w) m = refl
+sleep-noted L (Receive r) (Taken w f) m = refl
 sleep-noted L (Receive r) (Item v i) m = refl
 sleep-noted L (Receive r) (Held n) m = refl
 sleep-noted L (Receive r) (Refused n) m = refl

@@ -122,8 +122,8 @@ sender-marked (stays-put s c a h) = unchanged s
 sender-marked (credits s c a h) = release-all-marked s
 sender-marked (registers-new s m e lt) = let p = put-marked s (s .issued) (newLane (s .firstGeneration) (s .slotOf (s .issued))) (λ h. h) in record { issues = omega arith; bits = p .bits }
 sender-marked (registers-old s m x f e) = let p = put-marked s x (newLane (s .slotOf x .generation + 1) (s .slotOf x)) (λ h. h) in record { issues = omega arith; bits = p .bits }
-sender-marked (sends s j v w a r nf) = put-marked s (j .slot) (signalled (pushed v (s .slotOf (j .slot)))) (signalled-marked (pushed v (s .slotOf (j .slot))))
-sender-marked (posts s j v w a r nf) = put-marked s (j .slot) (pushed v (s .slotOf (j .slot))) (λ h. h)
+sender-marked (sends s j v w free a r nf) = put-marked s (j .slot) (signalled (pushed v (s .slotOf (j .slot)))) (signalled-marked (pushed v (s .slotOf (j .slot))))
+sender-marked (posts s j v w free a r nf) = put-marked s (j .slot) (pushed v (s .slotOf (j .slot))) (λ h. h)
 sender-marked (drops-it s j a) = put-marked s (j .slot) (signalled (senderDropped (s .slotOf (j .slot)))) (signalled-marked (senderDropped (s .slotOf (j .slot))))
 
 control-marked : {s u : State} {c : ControlCall} {a : Answer} → Moves s (ends (Control c) a) u → Marked s u

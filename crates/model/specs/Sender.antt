@@ -38,7 +38,7 @@ registerSender s most =
     s (issueSlot (s .free) s)
 
 -- An item is in slot x's ring. Document 02, N1: the send "answers also how many further sends the ring would take", after it.
-unfoldable pub itemIn : Bool → ℕ → State → Outcome
+abbrev pub itemIn : Bool → ℕ → State → Outcome
 itemIn woken x s = says (Taken woken (freePlaces s x)) s
 
 -- "no living sender has this key"; "lane closed, or the receiver (`Disconnected`)"; "ring full (`Full`)"
