@@ -15,7 +15,7 @@ use Rattle.lane.specs.declared.producer.Sent.the-variants as Sent
 
 -- the ring store that goes with what a send answers
 abbrev pub storedBy : Ring → List ℕ → ℕ → Lane → Sent → List ℕ
-storedBy ring store item l (Sent.Taken m) = put ring store (l .tail) item
+storedBy ring store item l (Sent.Taken m free) = put ring store (l .tail) item
 storedBy ring store item l (Sent.Full m) = store
 
 pub flushed-then-put : (ring : Ring) (store : List ℕ) (item : ℕ) (l : Lane)
@@ -28,9 +28,9 @@ flushed-then-put ring store item l = go (eqb (distance (l .tail) (l .released)) 
     go true e = simp e
     go false e = simp e
 
-pub flush-taken : (ring : Ring) (store : List ℕ) (item : ℕ) (l m : Lane) → Sent.Taken m ≡ pushAndFlush ring l
-    → pushAndFlushItem ring store item l ≡ (Sent.Taken m, put ring store (l .tail) item)
-flush-taken ring store item l m e =
+pub flush-taken : (ring : Ring) (store : List ℕ) (item : ℕ) (l m : Lane) (free : ℕ) → Sent.Taken m free ≡ pushAndFlush ring l
+    → pushAndFlushItem ring store item l ≡ (Sent.Taken m free, put ring store (l .tail) item)
+flush-taken ring store item l m free e =
     flushed-then-put ring store item l ∙ ap (λ (s : Sent). (s, storedBy ring store item l s)) (sym e)
 
 pub flush-full : (ring : Ring) (store : List ℕ) (item : ℕ) (l m : Lane) → Sent.Full m ≡ pushAndFlush ring l

@@ -116,7 +116,7 @@ heldItems ring store l = items ring store (l .head) (distance (l .tail) (l .head
 
 -- a send: "push refuses exactly if .."; else the item is stored and published
 unfoldable pub sent : Lane → Push × List ℕ → Sent × List ℕ
-sent l (Pushed cursor, store) = (Sent.Taken (withCursors cursor (l .released) (l .head) (l .known) l), store)
+sent l (Pushed cursor free, store) = (Sent.Taken (withCursors cursor (l .released) (l .head) (l .known) l) free, store)
 sent l (Full, store) = (Sent.Full l, store)
 
 unfoldable pub pushAndFlushItem : Ring → List ℕ → ℕ → Lane → Sent × List ℕ
@@ -124,7 +124,7 @@ pushAndFlushItem ring store item l = sent l (pushItem ring store (l .tail) (l .r
 
 -- the lane that a send leaves, or the full one: a send but for the item's word
 unfoldable pub sentBy : Lane → Push → Sent
-sentBy l (Pushed cursor) = Sent.Taken (withCursors cursor (l .released) (l .head) (l .known) l)
+sentBy l (Pushed cursor free) = Sent.Taken (withCursors cursor (l .released) (l .head) (l .known) l) free
 sentBy l Full = Sent.Full l
 
 unfoldable pub pushAndFlush : Ring → Lane → Sent

@@ -64,7 +64,7 @@ pub record Refundable (l : Lane) : Type 0 where
 
 -- the lane that an answer hands back
 abbrev pub sentLane : Sent → Lane
-sentLane (Sent.Taken l) = l
+sentLane (Sent.Taken l free) = l
 sentLane (Sent.Full l) = l
 
 abbrev pub poppedLane : Popped → Lane

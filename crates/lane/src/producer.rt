@@ -6,7 +6,8 @@ use yring::ring::Push;
 use yring::ring::Ring;
 
 pub enum Sent {
-    Taken { lane: Lane },
+    // The lane with the item, and how many places are free then.
+    Taken { lane: Lane, free: u64 },
     Full { lane: Lane },
 }
 
@@ -18,9 +19,12 @@ impl Lane {
     {
         match ring.push(self.tail, self.released) {
             Push::Full => Sent::Full { lane: self },
-            Push::Pushed { cursor } => {
+            Push::Pushed { cursor, free } => {
                 self.tail = cursor;
-                Sent::Taken { lane: self }
+                Sent::Taken {
+                    lane: self,
+                    free: free,
+                }
             }
         }
     }

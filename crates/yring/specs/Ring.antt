@@ -32,16 +32,21 @@ itemAt ring store cursor = getD store (index ring cursor) 0
 unfoldable pub items : Ring → List ℕ → ℕ → ℕ → List ℕ
 items ring store head n = tab n (λ i. itemAt ring store (after head i))
 
+-- Document 02, N1: "how many further sends the ring would take", once an item is pushed at the cursor: C less the next cursor's wrapped distance from the released
+-- head.
+abbrev pub freeAfter : Ring → ℕ → ℕ → ℕ
+freeAfter ring cursor released = distance (ring .capacity) (distance (after cursor 1) released)
+
 -- "push refuses exactly if the cursor's wrapped distance from the released head is C; flush publishes everything pushed"
 unfoldable pub pushItem : Ring → List ℕ → ℕ → ℕ → ℕ → Push × List ℕ
 pushItem ring store cursor released item =
     cond (eqb (distance cursor released) (ring .capacity))
     (Full, store)
-    (Pushed (after cursor 1), set store (index ring cursor) item)
+    (Pushed (after cursor 1) (freeAfter ring cursor released), set store (index ring cursor) item)
 
 -- what a push answers, before the item's word is stored
 unfoldable pub push : Ring → ℕ → ℕ → Push
-push ring cursor released = cond (eqb (distance cursor released) (ring .capacity)) Full (Pushed (after cursor 1))
+push ring cursor released = cond (eqb (distance cursor released) (ring .capacity)) Full (Pushed (after cursor 1) (freeAfter ring cursor released))
 
 -- an item's word stored at a cursor
 abbrev pub put : Ring → List ℕ → ℕ → ℕ → List ℕ

@@ -13,7 +13,8 @@ pub struct Ring {
 }
 
 pub enum Push {
-    Pushed { cursor: u64 },
+    // The cursor after the item, and how many places are free then.
+    Pushed { cursor: u64, free: u64 },
     Full,
 }
 
@@ -51,7 +52,8 @@ impl Ring {
         (self.base + (cursor & (self.capacity - 1))) as usize
     }
 
-    // The cursor after a push, unless the ring is full. The item's word is `put` once the cursor is
+    // The cursor after a push and the places that are left, unless the ring is full. A place is taken
+    // until its credit is back. The item's word is `put` once the cursor is
     // stored: the compiler then sees which words of the lane did not change.
     pub fn push(self, cursor: u64, released: u64) -> Push
         ensures { λ r. ⌜ r ≡ push self cursor released ⌝ }
@@ -59,8 +61,10 @@ impl Ring {
         if distance(cursor, released) == self.capacity {
             return Push::Full;
         }
+        let next = after(cursor, 1);
         Push::Pushed {
-            cursor: after(cursor, 1),
+            cursor: next,
+            free: distance(self.capacity, distance(next, released)),
         }
     }
 

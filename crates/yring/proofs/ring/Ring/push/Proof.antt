@@ -13,7 +13,7 @@ returns c = simp (eq-eqb _ _ (sym (c .before .before .distance .ensures) ∙ c .
 
 returns-2 : tie.Need-returns-2
 unfolding push
-returns-2 c = simp (ne-eqb _ _ (λ e. c .before .if1 .left (c .before .before .before .distance .ensures ∙ e)), c .after .ensures)
+returns-2 c = simp (ne-eqb _ _ (λ e. c .before .before .before .if1 .left (c .before .before .before .before .before .distance .ensures ∙ e)), c .distance3 .ensures, c .before .distance2 .ensures, c .before .before .after .ensures)
 
 pub push-spec : {M : Type 1} → statement M
 push-spec =
@@ -21,5 +21,7 @@ push-spec =
     (tie.spec
     (λ c κs. search needs)
     returns
+    (λ c κs. search needs)
+    (λ c κs. search needs)
     (λ c κs. search needs)
     returns-2)
