@@ -12,7 +12,7 @@ use Rattle.store.specs.Words.{Words}
 unfoldable pub tag : Answer → ℕ
 tag Done = 0
 tag (Registered k) = 1
-tag (Taken w) = 2
+tag (Taken w f) = 2
 tag (Item v i) = 3
 tag (Items n) = 4
 tag Empty = 5
@@ -25,8 +25,8 @@ unfoldable pub put : Answer → List ℕ → List ℕ
 put Done ws = ws
 -- "`lane 0 0` (slot, generation)"
 put (Registered k) ws = set (set ws 0 (k .slot)) 1 (k .generation)
--- "`taken 1` (woken: 1 or 0; unsignalled always 0)"
-put (Taken w) ws = set ws 0 (bit w)
+-- "`taken W F`, W as before and F that number" (document 02, N1); before: "`taken 1` (woken: 1 or 0; unsignalled always 0)"
+put (Taken w f) ws = set (set ws 0 (bit w)) 1 f
 -- "Single receives answer item and lane id (channel id, key)."
 put (Item v i) ws = set (set (set (set ws 0 v) 1 (i .channel)) 2 (i .key .slot)) 3 (i .key .generation)
 -- "`items N`"; the N values are in the output

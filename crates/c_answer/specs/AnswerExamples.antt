@@ -1,7 +1,7 @@
 -- Each kind of answer as C gets it, where the eight words held 9 before.
 -- Assumes nothing.
 use mathlib.Core.Path.{_≡_, refl}
-use mathlib.Core.Bool.{true}
+use mathlib.Core.Bool.{true, false}
 use mathlib.Core.List.{List, [], _∷_, map}
 use Prim.Native.Nat.{ℕ}
 use Rattle.model.specs.declared.LaneKey.{LaneKey}
@@ -22,10 +22,11 @@ gets : Answer → List ℕ
 gets a = tag a ∷ put a (9 ∷ 9 ∷ 9 ∷ 9 ∷ 9 ∷ 9 ∷ 9 ∷ 9 ∷ [])
 
 answers-told :
-    map gets (Done ∷ Registered key ∷ Taken true ∷ Item 11 id ∷ Items 2 ∷ Empty ∷ Disconnected ∷ Held 5 ∷ Refused Full ∷ [])
+    map gets (Done ∷ Registered key ∷ Taken true 5 ∷ Taken false 0 ∷ Item 11 id ∷ Items 2 ∷ Empty ∷ Disconnected ∷ Held 5 ∷ Refused Full ∷ [])
     ≡ (0 ∷ 9 ∷ 9 ∷ 9 ∷ 9 ∷ 9 ∷ 9 ∷ 9 ∷ 9 ∷ [])
     ∷ (1 ∷ 3 ∷ 8 ∷ 9 ∷ 9 ∷ 9 ∷ 9 ∷ 9 ∷ 9 ∷ [])
-    ∷ (2 ∷ 1 ∷ 9 ∷ 9 ∷ 9 ∷ 9 ∷ 9 ∷ 9 ∷ 9 ∷ [])
+    ∷ (2 ∷ 1 ∷ 5 ∷ 9 ∷ 9 ∷ 9 ∷ 9 ∷ 9 ∷ 9 ∷ [])
+    ∷ (2 ∷ 0 ∷ 0 ∷ 9 ∷ 9 ∷ 9 ∷ 9 ∷ 9 ∷ 9 ∷ [])
     ∷ (3 ∷ 11 ∷ 7 ∷ 3 ∷ 8 ∷ 9 ∷ 9 ∷ 9 ∷ 9 ∷ [])
     ∷ (4 ∷ 2 ∷ 9 ∷ 9 ∷ 9 ∷ 9 ∷ 9 ∷ 9 ∷ 9 ∷ [])
     ∷ (5 ∷ 9 ∷ 9 ∷ 9 ∷ 9 ∷ 9 ∷ 9 ∷ 9 ∷ 9 ∷ [])

@@ -4,15 +4,15 @@ ghost use Rattle.c_answer.specs.Answer.{tag, put};
 ghost use lib.ListN.{set};
 use model::Answer;
 use model::LaneId;
-use model::LaneKey;
 
-fn put_key(words: &mut [u64; 8], key: LaneKey) -> u64
-    ensures { λ r. ⌜ r ≡ 1 ⌝ }
-    ensures { λ _. ⌜ now (words .exit) ≡ set (set (now (words .entry)) 0 (key .slot)) 1 (key .generation) ⌝ }
+// Two numbers, and the tag that the answer has.
+fn put_two(words: &mut [u64; 8], first: u64, second: u64, kind: u64) -> u64
+    ensures { λ r. ⌜ r ≡ kind ⌝ }
+    ensures { λ _. ⌜ now (words .exit) ≡ set (set (now (words .entry)) 0 first) 1 second ⌝ }
 {
-    words[0] = key.slot;
-    words[1] = key.generation;
-    1
+    words[0] = first;
+    words[1] = second;
+    kind
 }
 
 fn put_item(words: &mut [u64; 8], item: u64, lane: LaneId) -> u64
@@ -42,8 +42,8 @@ pub fn tell(answer: Answer, words: &mut [u64; 8]) -> u64
 {
     match answer {
         Answer::Done => 0,
-        Answer::Registered { key } => put_key(words, key),
-        Answer::Taken { woken } => put_one(words, woken as u64, 2),
+        Answer::Registered { key } => put_two(words, key.slot, key.generation, 1),
+        Answer::Taken { woken, free } => put_two(words, woken as u64, free, 2),
         Answer::Item { item, lane } => put_item(words, item, lane),
         Answer::Items { count } => put_one(words, count, 4),
         Answer::Empty => 5,

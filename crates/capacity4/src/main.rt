@@ -37,7 +37,10 @@ fn send(lane: Lane, store: &mut [u64; 4], item: u64) -> Lane
             io::write_all(1, b": refused 11\n");
             full
         }
-        Sent::Taken { lane: next } => {
+        Sent::Taken {
+            lane: next,
+            free: _,
+        } => {
             ring.put(store, lane.tail, item);
             io::write_all(1, b": taken\n");
             next

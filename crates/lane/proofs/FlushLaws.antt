@@ -28,9 +28,9 @@ flushed-then-put ring store item l = go (eqb (distance (l .tail) (l .released)) 
     go true e = simp e
     go false e = simp e
 
-pub flush-taken : (ring : Ring) (store : List ℕ) (item : ℕ) (l m : Lane) (free : ℕ) → Sent.Taken m free ≡ pushAndFlush ring l
+pub flush-taken : (ring : Ring) (store : List ℕ) (item : ℕ) (l m : Lane) {free : ℕ} → Sent.Taken m free ≡ pushAndFlush ring l
     → pushAndFlushItem ring store item l ≡ (Sent.Taken m free, put ring store (l .tail) item)
-flush-taken ring store item l m free e =
+flush-taken ring store item l m e =
     flushed-then-put ring store item l ∙ ap (λ (s : Sent). (s, storedBy ring store item l s)) (sym e)
 
 pub flush-full : (ring : Ring) (store : List ℕ) (item : ℕ) (l m : Lane) → Sent.Full m ≡ pushAndFlush ring l

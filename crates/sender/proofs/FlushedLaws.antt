@@ -24,25 +24,25 @@ use Rattle.sender.specs.Sender.{takeSignaled, sendSignaled, sendUnsignal
 
 module _ (ring : Ring) (l m : Lane) (s : Sent) (e : s ≡ pushAndFlush ring l) where
   -- the lane that a push hands back has the lane's key
-  pub flushed-key : s ≡ Sent.Taken m → m .key ≡ l .key
+  pub flushed-key : {free : ℕ} → s ≡ Sent.Taken m free → m .key ≡ l .key
   unfolding pushAndFlush sentBy
   flushed-key f = ap (λ (z : Sent). sentLane z .key) (sym f ∙ e) ∙ go (push ring (l .tail) (l .released))
     where
       go : (p : Push) → sentLane (sentBy l p) .key ≡ l .key
-      go (Pushed c) = refl
+      go (Pushed c f) = refl
       go Full = refl
 
   module _ (t r : List ℕ) (k : LaneKey) (v : ℕ) (a : ring ≡ newRing (k .slot) (capacity t)) (b : l ≡ laneAt t (k .slot)) where
     here : pushed t r k v ≡ pushAndFlushItem ring r v l
     here = ap₂ (λ (g : Ring) (x : Lane). pushAndFlushItem g r v x) (sym a) (sym b)
 
-    pushed-taken : s ≡ Sent.Taken m → pushed t r k v ≡ (Sent.Taken m, put ring r (l .tail) v)
+    pushed-taken : {free : ℕ} → s ≡ Sent.Taken m free → pushed t r k v ≡ (Sent.Taken m free, put ring r (l .tail) v)
     pushed-taken f = here ∙ flush-taken ring r v l m (sym f ∙ e)
 
     pushed-full : s ≡ Sent.Full m → pushed t r k v ≡ (Sent.Full m, r)
     pushed-full f = here ∙ flush-full ring r v l m (sym f ∙ e)
 
-    pub signaled-taken : s ≡ Sent.Taken m → (x : Answer) (u q : List ℕ) → (x, u) ≡ takeSignaled t m → q ≡ put ring r (l .tail) v
+    pub signaled-taken : {free : ℕ} → s ≡ Sent.Taken m free → (x : Answer) (u q : List ℕ) → (x, u) ≡ takeSignaled t m free → q ≡ put ring r (l .tail) v
         → (x, u, q) ≡ sendSignaled t (pushed t r k v)
     unfolding sendSignaled
     signaled-taken f x u q g h = ap₂ (λ (o : Answer × List ℕ) (y : List ℕ). (o .0, o .1, y)) g h ∙ sym (ap (sendSignaled t) (pushed-taken f))
@@ -51,10 +51,10 @@ module _ (ring : Ring) (l m : Lane) (s : Sent) (e : s ≡ pushAndFlush ring l) w
     unfolding sendSignaled
     signaled-full f = sym (ap (sendSignaled t) (pushed-full f))
 
-    pub unsignaled-taken : s ≡ Sent.Taken m → (u q : List ℕ) → u ≡ putLane t m → q ≡ put ring r (l .tail) v
-        → (Taken false, u, q) ≡ sendUnsignaled t (pushed t r k v)
+    pub unsignaled-taken : {free : ℕ} → s ≡ Sent.Taken m free → (u q : List ℕ) → u ≡ putLane t m → q ≡ put ring r (l .tail) v
+        → (Taken false free, u, q) ≡ sendUnsignaled t (pushed t r k v)
     unfolding sendUnsignaled
-    unsignaled-taken f u q g h = ap₂ (λ (o y : List ℕ). (Taken false, o, y)) g h ∙ sym (ap (sendUnsignaled t) (pushed-taken f))
+    unsignaled-taken {free} f u q g h = ap₂ (λ (o y : List ℕ). (Taken false free, o, y)) g h ∙ sym (ap (sendUnsignaled t) (pushed-taken f))
 
     pub unsignaled-full : s ≡ Sent.Full m → (Refused Refusal.Full, t, r) ≡ sendUnsignaled t (pushed t r k v)
     unfolding sendUnsignaled

@@ -4,11 +4,11 @@ use mathlib.Core.Path.{_≡_, refl, sym, ap, _∙_, subst}
 use mathlib.Core.Logic.{_≢_}
 use mathlib.Core.Bool.{Bool, true, false, not}
 use mathlib.Core.List.{List, [], _∷_, _++_}
-use Prim.Native.Nat.{ℕ, _*_, _≤_, _<_}
+use Prim.Native.Nat.{ℕ, _+_, _*_, _-_, _≤_, _<_}
 use native.Mathlib.Omega.{arith}
 use borrow.Author.Tests.{eq-eqb, ne-eqb, eqb-true, eqb-false, le-leb, lt-leb}
 use lib.Dec.{eqb, leb}
-use lib.ListN.{length, set, length-set}
+use lib.ListN.{length, set, length-set, length-append}
 use Rattle.model.specs.declared.LaneKey.{LaneKey}
 use Rattle.model.specs.declared.Refusal.{Refusal}
 use Rattle.model.specs.declared.Refusal.the-variants.{NoSuchSender, LaneClosed, Full}
@@ -17,10 +17,10 @@ use Rattle.model.specs.declared.Answer.the-variants.{Taken}
 use Rattle.model.specs.declared.SenderCall.the-variants.{TrySend, TrySendUnsignaled}
 use Rattle.model.specs.declared.Call.the-variants.{Sender}
 use Rattle.model.specs.Lists.{both}
-use Rattle.model.specs.State.{Slot, State, senderLives, isFull}
+use Rattle.model.specs.State.{Slot, State, senderLives, isFull, freePlaces}
 use Rattle.model.specs.Changes as rules
 use Rattle.model.specs.Changes.{put}
-use Rattle.model.specs.Outcome.{Outcome, says, unless}
+use Rattle.model.specs.Outcome.{Outcome, unless}
 use Rattle.model.specs.Sender as rules-sender
 use Rattle.model.specs.Rules.{outcome}
 use Rattle.lane.specs.declared.lane.Lane.{Lane}
@@ -28,13 +28,14 @@ use Rattle.yring.specs.declared.ring.Ring.{Ring}
 use Rattle.lane.specs.declared.producer.Sent.{Sent}
 use Rattle.lane.specs.declared.producer.Sent.the-variants as Sent
 use Rattle.yring.specs.Cursor.{after, distance}
-use Rattle.yring.specs.Ring.{Within, newRing, index, pushItem}
+use Rattle.yring.specs.Ring.{Within, newRing, index, freeAfter, pushItem}
 use Rattle.lane.specs.Lane.{withCursors, heldItems, sent, pushAndFlushItem}
 use Rattle.lane.specs.Order.{InOrder, sentLane}
 use Rattle.lane.specs.Table.{head, laneAt, putLane}
 use Rattle.lane.proofs.TableLaws.{frames, slot-of-lane}
 use Rattle.yring.proofs.RingLaws.{length-items}
 use Rattle.lane.proofs.OrderLaws.{push-and-flush-keeps}
+use Rattle.lane.proofs.CursorOrder.{free-is}
 use Rattle.queues.specs.Header.{issued, slots, budget, capacity}
 use Rattle.queues.specs.Queue.{queueOf}
 use Rattle.ready.specs.Ready.{pageBit}
@@ -62,7 +63,7 @@ module _ (ring : Ring) (r : List ℕ) (v : ℕ) (l : Lane) where
   unfolding pushAndFlushItem sent pushItem
   push-full e = rw (eq-eqb _ _ e)
 
-  push-taken : distance (l .tail) (l .released) ≢ ring .capacity → pushAndFlushItem ring r v l ≡ (Sent.Taken (grown l), set r (index ring (l .tail)) v)
+  push-taken : distance (l .tail) (l .released) ≢ ring .capacity → pushAndFlushItem ring r v l ≡ (Sent.Taken (grown l) (freeAfter ring (l .tail) (l .released)), set r (index ring (l .tail)) v)
   unfolding pushAndFlushItem sent pushItem
   push-taken n = rw (ne-eqb _ _ n)
 
@@ -105,9 +106,13 @@ module _ (t r : List ℕ) (k : LaneKey) (v : ℕ) (o : Stores t r) (p : Sends t 
       rw (slot-in t r x is-issued, length-items (newRing x C) r (l .head) (distance (l .tail) (l .head)), ← span-is C (o .power .most) l order)
       (reached (distance (l .tail) (l .released)) C (order .cursors .tail-within))
 
+  -- what the ring says of its free places after one more item
+  abbrev free : ℕ
+  free = freeAfter (newRing x C) (l .tail) (l .released)
+
   -- an item refused as full, or taken
   sent-case : (P : Sent × List ℕ → Bool → Type 0) → P (Sent.Full l, r) true
-      → (distance (l .tail) (l .released) ≢ C → P (Sent.Taken (grown l), set r (index (newRing x C) (l .tail)) v) false) → P (pushed t r k v) (isFull s x)
+      → (distance (l .tail) (l .released) ≢ C → P (Sent.Taken (grown l) free, set r (index (newRing x C) (l .tail)) v) false) → P (pushed t r k v) (isFull s x)
   sent-case P f g = rw full-alike (go (eqb (distance (l .tail) (l .released)) C) refl)
     where
       go : (b : Bool) → eqb (distance (l .tail) (l .released)) C ≡ b → P (pushed t r k v) b
@@ -122,7 +127,7 @@ module _ (t r : List ℕ) (k : LaneKey) (v : ℕ) (o : Stores t r) (p : Sends t 
     view-taken : (m : Lane) → m .key .slot ≡ x → m .head ≡ l .head → m .tail ≡ after (l .tail) 1
         → view (putLane t m) q ≡ put x (slotOf m (pageBit t x) (heldItems (newRing x C) r l ++ (v ∷ []))) s
     view-taken m e a b =
-        let w : pushAndFlushItem (newRing x C) r v l ≡ (Sent.Taken (grown l), q) = push-taken (newRing x C) r v l n in
+        let w : pushAndFlushItem (newRing x C) r v l ≡ (Sent.Taken (grown l) free, q) = push-taken (newRing x C) r v l n in
         ap (λ (z : Sent × List ℕ). view (putLane t m) (z .1)) (sym w)
         ∙ view-sent t r (o .shaped) x is-issued ring-in v order n m e
         (a ∙ ap (λ (z : Sent × List ℕ). sentLane (z .0) .head) (sym w)) (b ∙ ap (λ (z : Sent × List ℕ). sentLane (z .0) .tail) (sym w))
@@ -153,20 +158,34 @@ module _ (t r : List ℕ) (k : LaneKey) (v : ℕ) (o : Stores t r) (p : Sends t 
 
     -- ---- the two kinds
 
-    signaled-view : seen (sendSignaled t (Sent.Taken (grown l), q)) ≡ (Taken (not (s .slotOf x .pending)), put x (rules.signalled (rules.pushed v (s .slotOf x))) s)
+    -- the ring's number is the rules', of the slot with the item in it
+    free-alike : (z : Slot) → z .ring ≡ s .slotOf x .ring ++ (v ∷ []) → z .unreleased ≡ s .slotOf x .unreleased → free ≡ freePlaces (put x z s) x
+    unfolding freePlaces view slotAt heldItems
+    free-alike z e f =
+        free-is C (l .tail) (l .released) (o .power .most) (order .cursors .tail-u64) (order .cursors .released-u64) (order .cursors .tail-within) n
+        ∙ rw (eq-eqb x x refl, e, f, slot-in t r x is-issued, length-append, length-items (newRing x C) r (l .head) (distance (l .tail) (l .head)), span-is C (o .power .most) l order) (omega arith)
+
+    signaled-view : let u = put x (rules.signalled (rules.pushed v (s .slotOf x))) s in
+        seen (sendSignaled t (Sent.Taken (grown l) free, q)) ≡ (Taken (not (s .slotOf x .pending)) (freePlaces u x), u)
     unfolding sendSignaled takeSignaled slotAt
     signaled-view =
         let m : Lane = withSender 1 (l .living) (grown l) in
         let at : l .key .slot ≡ x = slot-of-lane t x in
         let idle = idle-flag (l .pending) (o .flags x is-issued .pending-flag) in
-        ap (λ (z : State). (Taken (eqb (l .pending) 0), z))
+        let z : Slot = rules.signalled (rules.pushed v (s .slotOf x)) in
+        let left : seen (sendSignaled t (Sent.Taken (grown l) free, q)) ≡ (Taken (not (s .slotOf x .pending)) free, put x z s) =
+        ap (λ (u : State). (Taken (eqb (l .pending) 0) free, u))
         (view-put-marked-if-idle (putLane t m) q (shaped-putLane t (o .shaped) m) (grown l) x at (simp frames is-issued) _ s (view-taken m at refl refl))
         ∙ rw (slot-in t r x is-issued, idle)
+        in left ∙ ap (λ (f : ℕ). (Taken (not (s .slotOf x .pending)) f, put x z s)) (free-alike z refl refl)
 
-    unsignaled-view : seen (sendUnsignaled t (Sent.Taken (grown l), q)) ≡ (Taken false, put x (rules.pushed v (s .slotOf x)) s)
+    unsignaled-view : let u = put x (rules.pushed v (s .slotOf x)) s in seen (sendUnsignaled t (Sent.Taken (grown l) free, q)) ≡ (Taken false (freePlaces u x), u)
     unfolding sendUnsignaled slotAt
     unsignaled-view =
-        ap (λ (z : State). (Taken false, z)) (view-taken (grown l) (slot-of-lane t x) refl refl) ∙ rw (slot-in t r x is-issued)
+        let z : Slot = rules.pushed v (s .slotOf x) in
+        let left : seen (sendUnsignaled t (Sent.Taken (grown l) free, q)) ≡ (Taken false free, put x z s) =
+        ap (λ (u : State). (Taken false free, u)) (view-taken (grown l) (slot-of-lane t x) refl refl) ∙ rw (slot-in t r x is-issued)
+        in left ∙ ap (λ (f : ℕ). (Taken false f, put x z s)) (free-alike z refl refl)
 
     start : Step t t x l (queueOf t) (head t)
     start = step-start t r o x
@@ -186,20 +205,20 @@ module _ (t r : List ℕ) (k : LaneKey) (v : ℕ) (o : Stores t r) (p : Sends t 
   -- ---- full, or taken
 
   -- the rules' outcome where the lane is open
-  abbrev unlessFull : Answer → Slot → Answer × State
-  unlessFull a z = (unless ((isFull s x, Full) ∷ []) s (says a (put x z s))) .1
+  abbrev unlessFull : Bool → Slot → Answer × State
+  unlessFull w z = (unless ((isFull s x, Full) ∷ []) s (rules-sender.itemIn w x (put x z s))) .1
 
-  signaled-alike : seen (sendSignaled t (pushed t r k v)) ≡ unlessFull (Taken (not (s .slotOf x .pending))) (rules.signalled (rules.pushed v (s .slotOf x)))
+  signaled-alike : seen (sendSignaled t (pushed t r k v)) ≡ unlessFull (not (s .slotOf x .pending)) (rules.signalled (rules.pushed v (s .slotOf x)))
   unfolding sendSignaled unless
   signaled-alike =
       sent-case
-      (λ z b. seen (sendSignaled t z) ≡ (unless ((b, Full) ∷ []) s (says (Taken (not (s .slotOf x .pending))) (put x (rules.signalled (rules.pushed v (s .slotOf x))) s))) .1)
+      (λ z b. seen (sendSignaled t z) ≡ (unless ((b, Full) ∷ []) s (rules-sender.itemIn (not (s .slotOf x .pending)) x (put x (rules.signalled (rules.pushed v (s .slotOf x))) s))) .1)
       refl signaled-view
 
-  unsignaled-alike : seen (sendUnsignaled t (pushed t r k v)) ≡ unlessFull (Taken false) (rules.pushed v (s .slotOf x))
+  unsignaled-alike : seen (sendUnsignaled t (pushed t r k v)) ≡ unlessFull false (rules.pushed v (s .slotOf x))
   unfolding sendUnsignaled unless
   unsignaled-alike =
-      sent-case (λ z b. seen (sendUnsignaled t z) ≡ (unless ((b, Full) ∷ []) s (says (Taken false) (put x (rules.pushed v (s .slotOf x)) s))) .1) refl unsignaled-view
+      sent-case (λ z b. seen (sendUnsignaled t z) ≡ (unless ((b, Full) ∷ []) s (rules-sender.itemIn false x (put x (rules.pushed v (s .slotOf x)) s))) .1) refl unsignaled-view
 
   signaled-keeps : Stores ((sendSignaled t (pushed t r k v)) .1) ((sendSignaled t (pushed t r k v)) .2)
   unfolding sendSignaled takeSignaled

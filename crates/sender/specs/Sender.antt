@@ -31,17 +31,17 @@ use Rattle.store.specs.Words.{Words, unlessRefused}
 abbrev pub withSender : ℕ → ℕ → Lane → Lane
 withSender pending living l = withFlags pending (l .queued) (l .paused) (l .registered) living l
 
--- "answers whether the signal went from idle to pending"
-unfoldable pub takeSignaled : List ℕ → Lane → Answer × List ℕ
-takeSignaled t l = (Taken (eqb (l .pending) 0), markIfIdle (putLane t (withSender 1 (l .living) l)) l)
+-- "answers whether the signal went from idle to pending", and what the ring's push said of its free places
+unfoldable pub takeSignaled : List ℕ → Lane → ℕ → Answer × List ℕ
+takeSignaled t l free = (Taken (eqb (l .pending) 0) free, markIfIdle (putLane t (withSender 1 (l .living) l)) l)
 
 unfoldable pub sendSignaled : List ℕ → Sent × List ℕ → Words
-sendSignaled t (Sent.Taken l, r) = let a = takeSignaled t l in (a .0, a .1, r)
+sendSignaled t (Sent.Taken l free, r) = let a = takeSignaled t l free in (a .0, a .1, r)
 sendSignaled t (Sent.Full l, r) = (Refused Refusal.Full, t, r)
 
 -- "unsignalled always 0"
 unfoldable pub sendUnsignaled : List ℕ → Sent × List ℕ → Words
-sendUnsignaled t (Sent.Taken l, r) = (Taken false, putLane t l, r)
+sendUnsignaled t (Sent.Taken l free, r) = (Taken false free, putLane t l, r)
 sendUnsignaled t (Sent.Full l, r) = (Refused Refusal.Full, t, r)
 
 -- what the ring of a key's slot answers to an item

@@ -28,16 +28,20 @@ fn with_sender(mut l: Lane, pending: u64, living: u64) -> Lane
     l
 }
 
-// The lane that a send left is stored and marked; answers whether its signal went from idle to pending.
-fn take_signaled(t: &mut [u64], lane: Lane) -> Answer
+// The lane that a send left is stored and marked; answers whether its signal went from idle to pending,
+// and the ring's free places.
+fn take_signaled(t: &mut [u64], lane: Lane, free: u64) -> Answer
     requires { ⌜ Shaped (now t) × (lane .key .slot < slots (now t)) ⌝ }
-    ensures { λ a. ⌜ (a, now (t .exit)) ≡ takeSignaled (now (t .entry)) lane ⌝ }
+    ensures { λ a. ⌜ (a, now (t .exit)) ≡ takeSignaled (now (t .entry)) lane free ⌝ }
 {
     let woken = lane.pending == 0;
     let marked = with_sender(lane, 1, lane.living);
     marked.store(t);
     signal::mark_if_idle(t, lane);
-    Answer::Taken { woken: woken }
+    Answer::Taken {
+        woken: woken,
+        free: free,
+    }
 }
 
 fn send_signaled(t: &mut [u64], r: &mut [u64], key: LaneKey, item: u64) -> Answer
@@ -48,10 +52,10 @@ fn send_signaled(t: &mut [u64], r: &mut [u64], key: LaneKey, item: u64) -> Answe
     let l = Lane::load(t, key.slot);
     match l.push_and_flush(ring) {
         Sent::Full { lane: _ } => Answer::Refused { why: Refusal::Full },
-        Sent::Taken { lane } => {
+        Sent::Taken { lane, free } => {
             // Known before the lane is stored, the place is one number to keep meanwhile.
             let at = ring.index(l.tail);
-            let answer = take_signaled(t, lane);
+            let answer = take_signaled(t, lane, free);
             ring::put_at(r, at, item);
             answer
         }
@@ -66,15 +70,19 @@ fn send_unsignaled(t: &mut [u64], r: &mut [u64], key: LaneKey, item: u64) -> Ans
     let l = Lane::load(t, key.slot);
     match l.push_and_flush(ring) {
         Sent::Full { lane: _ } => Answer::Refused { why: Refusal::Full },
-        Sent::Taken { lane } => {
+        Sent::Taken { lane, free } => {
             lane.store(t);
             ring.put(r, l.tail, item);
-            Answer::Taken { woken: false }
+            Answer::Taken {
+                woken: false,
+                free: free,
+            }
         }
     }
 }
 
-// Stores one item and marks the lane; answers whether its signal went from idle to pending.
+// Stores one item and marks the lane; answers whether its signal went from idle to pending, and how
+// many further sends the ring takes.
 pub fn try_send(t: &mut [u64], r: &mut [u64], key: LaneKey, item: u64) -> Answer
     requires { ⌜ StoreInOrder (now t) (now r) ⌝ }
     ensures { λ a. ⌜ (a, now (t .exit), now (r .exit)) ≡ trySend (now (t .entry)) (now (r .entry)) key item ⌝ }
@@ -85,7 +93,7 @@ pub fn try_send(t: &mut [u64], r: &mut [u64], key: LaneKey, item: u64) -> Answer
     }
 }
 
-// Stores one item and marks nothing.
+// Stores one item and marks nothing; answers how many further sends the ring takes.
 pub fn try_send_unsignaled(t: &mut [u64], r: &mut [u64], key: LaneKey, item: u64) -> Answer
     requires { ⌜ StoreInOrder (now t) (now r) ⌝ }
     ensures { λ a. ⌜ (a, now (t .exit), now (r .exit)) ≡ trySendUnsignaled (now (t .entry)) (now (r .entry)) key item ⌝ }

@@ -9,12 +9,12 @@ use Rattle.model.specs.declared.Refusal.the-variants as Refusal
 use Rattle.wire_line.specs.Text.{codes, digitsIn, digits, decimal, spaced}
 use Rattle.wire_line.specs.Examples.{sevenAnswers, texts}
 
--- "`done`, `lane 0 0`, `taken 1`, `item 11 0 0`, `empty`, `done`, `disconnected`", "one line each, no header"
-pub seven-lines : texts sevenAnswers [] ≡ codes "done\nlane 0 0\ntaken 1\nitem 11 0 0\nempty\ndone\ndisconnected\n"
+-- "`done`, `lane 0 0`, `taken 1`, `item 11 0 0`, `empty`, `done`, `disconnected`", "one line each, no header"; since document 02, N1, `taken 1 3`
+pub seven-lines : texts sevenAnswers [] ≡ codes "done\nlane 0 0\ntaken 1 3\nitem 11 0 0\nempty\ndone\ndisconnected\n"
 unfolding line spaced decimal digits digitsIn
 seven-lines = refl
 
 -- "`items N` and the N values on that line, a space before each; `held N`; `refused N`"; "(woken: 1 or 0)"
-pub other-lines : texts (Items 2 ∷ Items 0 ∷ Held 1203 ∷ Refused Refusal.Malformed ∷ Taken false ∷ []) (100 ∷ 9 ∷ 7 ∷ []) ≡ codes "items 2 100 9\nitems 0\nheld 1203\nrefused 15\ntaken 0\n"
+pub other-lines : texts (Items 2 ∷ Items 0 ∷ Held 1203 ∷ Refused Refusal.Malformed ∷ Taken false 65535 ∷ []) (100 ∷ 9 ∷ 7 ∷ []) ≡ codes "items 2 100 9\nitems 0\nheld 1203\nrefused 15\ntaken 0 65535\n"
 unfolding line number spaced decimal digits digitsIn
 other-lines = refl

@@ -12,7 +12,7 @@ abbrev pub sevenAnswers : List Answer
 sevenAnswers =
     Done
     ∷ Registered (record { slot = 0; generation = 0 })
-    ∷ Taken true
+    ∷ Taken true 3
     ∷ Item 11 (record { channel = 7; key = record { slot = 0; generation = 0 } })
     ∷ Empty
     ∷ Done

@@ -107,6 +107,14 @@ fn put_item(text: &mut [u8], at: usize, item: u64, lane: LaneId) -> usize
     put_words(text, at, b"item", &numbers)
 }
 
+fn put_taken(text: &mut [u8], at: usize, woken: bool, free: u64) -> usize
+    requires { ⌜ at + longest ≤ length (now text) ⌝ }
+    ensures { λ r. ⌜ Puts (now (text .entry)) at (answerText (Answer.Taken woken free) []) (now (text .exit)) r × (r ≤ at + longest) ⌝ }
+{
+    let numbers = [bit_of(woken), free];
+    put_words(text, at, b"taken", &numbers)
+}
+
 // How many words of the output are items.
 fn items_in(out: &[u64], count: u64) -> usize
     ensures { λ r. ⌜ (r ≤ length (now (out .entry))) × (take r (now (out .entry)) ≡ take count (now (out .entry))) ⌝ }
@@ -144,7 +152,7 @@ pub fn put_line(text: &mut [u8], at: usize, answer: Answer, out: &[u64]) -> usiz
     match answer {
         Answer::Done => put(text, at, b"done\n"),
         Answer::Registered { key } => put_lane(text, at, key),
-        Answer::Taken { woken } => put_one(text, at, b"taken", bit_of(woken)),
+        Answer::Taken { woken, free } => put_taken(text, at, woken, free),
         Answer::Item { item, lane } => put_item(text, at, item, lane),
         Answer::Items { count } => put_items(text, at, count, out),
         Answer::Empty => put(text, at, b"empty\n"),

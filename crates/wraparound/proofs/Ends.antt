@@ -10,7 +10,7 @@ use lib.Dec.{eqb}
 use lib.ListN.{set}
 use Rattle.model.specs.State.{releaseBatch}
 use Rattle.yring.specs.Cursor.{after, distance}
-use Rattle.yring.specs.Ring.{index, pushItem}
+use Rattle.yring.specs.Ring.{index, freeAfter, pushItem}
 use Rattle.lane.specs.Lane.{pushAndFlushItem, sent, poll, pollRefilled, pollItem, polled, popTargeted, targeted, refill, readyOrIdle, reload, prefetch, closeFast, settleEmpty, emptied, settled, releasePending, releaseAny, release, releaseAtBatch, charge, advance, addBurst, endBurst, endFullBurst, chunkLimit, moveChunk}
 use Rattle.lane.specs.Order.{Counts, InOrder, Filled, sentLane, polledLane, refilledLane}
 use Rattle.yring.specs.declared.ring.Ring.{Ring}
@@ -58,7 +58,7 @@ module _ (ring : Ring) (small : ring .capacity ≤ 65536) (store : List ℕ) (it
   refused e = (sent-keeps (Sent.Full m) e, go (eqb (distance (l .tail) (l .released)) (ring .capacity)) refl e)
     where
       go : (t : Bool) → eqb (distance (l .tail) (l .released)) (ring .capacity) ≡ t
-          → (Sent.Full m, after-store) ≡ sent l (cond t (Full, store) (Pushed (after (l .tail) 1), set store (index ring (l .tail)) item))
+          → (Sent.Full m, after-store) ≡ sent l (cond t (Full, store) (Pushed (after (l .tail) 1) (freeAfter ring (l .tail) (l .released)), set store (index ring (l .tail)) item))
           → distance (m .tail) (m .released) ≡ ring .capacity
       go true s f = rw (ap (λ (p : Sent × List ℕ). sentLane (p .0)) f) (eqb-true (distance (l .tail) (l .released)) (ring .capacity) s)
       go false s f =
@@ -66,15 +66,15 @@ module _ (ring : Ring) (small : ring .capacity ≤ 65536) (store : List ℕ) (it
           let z : _≡_ {A = ℕ} 0 1 = cc in absurd (omega arith)
 
   -- a send that is taken leaves less room
-  pub taken : (Sent.Taken m, after-store) ≡ pushAndFlushItem ring store item l → InOrder (ring .capacity) m × (room (ring .capacity) m < room (ring .capacity) l)
+  pub taken : {free : ℕ} → (Sent.Taken m free, after-store) ≡ pushAndFlushItem ring store item l → InOrder (ring .capacity) m × (room (ring .capacity) m < room (ring .capacity) l)
   unfolding pushAndFlushItem sent pushItem
-  taken e = (sent-keeps (Sent.Taken m) e, go (eqb (distance (l .tail) (l .released)) (ring .capacity)) refl e)
+  taken {free} e = (sent-keeps (Sent.Taken m free) e, go (eqb (distance (l .tail) (l .released)) (ring .capacity)) refl e)
     where
       less : (C a b : ℕ) → C ≤ 65536 → a ≤ C → (a ≡ C → ⊥) → b ≡ a + 1 → C - b < C - a
       less C a b h k n f = omega arith
 
       go : (t : Bool) → eqb (distance (l .tail) (l .released)) (ring .capacity) ≡ t
-          → (Sent.Taken m, after-store) ≡ sent l (cond t (Full, store) (Pushed (after (l .tail) 1), set store (index ring (l .tail)) item))
+          → (Sent.Taken m free, after-store) ≡ sent l (cond t (Full, store) (Pushed (after (l .tail) 1) (freeAfter ring (l .tail) (l .released)), set store (index ring (l .tail)) item))
           → room (ring .capacity) m < room (ring .capacity) l
       go true s f =
           let g = ap (λ (p : Sent × List ℕ). p .0) f in

@@ -42,7 +42,10 @@ fn fill(run: Run, ring: Ring, store: &mut [u64; 64]) -> Run
                     good: run.good,
                 };
             }
-            Sent::Taken { lane: next } => {
+            Sent::Taken {
+                lane: next,
+                free: _,
+            } => {
                 ring.put(store, lane.tail, send);
                 lane = next;
                 send = ring::after(send, 1);

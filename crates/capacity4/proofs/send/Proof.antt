@@ -19,7 +19,7 @@ returns c =
 returns-2 : tie.Need-returns-2
 returns-2 c =
     rw (c .before .before .put .ensures)
-    (sends (c .before .before .before .before .before .before .before .before .before .before .before .before .args .store .now) (c .before .before .before .before .before .before .before .before .before .before .before .before .args .lane) (c .before .before .before .before .before .before .before .before .before .before .before .before .pre) (c .before .before .before .before .before .before .before .before .new .result) (c .before .before .before .before .before .before .before .before .new .ensures) _ (c .before .before .before .before .before .before .before .before .before .before .before .before .args .item) (Sent.Taken _) _
+    (sends (c .before .before .before .before .before .before .before .before .before .before .before .before .args .store .now) (c .before .before .before .before .before .before .before .before .before .before .before .before .args .lane) (c .before .before .before .before .before .before .before .before .before .before .before .before .pre) (c .before .before .before .before .before .before .before .before .new .result) (c .before .before .before .before .before .before .before .before .new .ensures) _ (c .before .before .before .before .before .before .before .before .before .before .before .before .args .item) (Sent.Taken _ _) _
     (sym (flush-taken (c .before .before .before .before .before .before .before .before .new .result) (c .before .before .before .before .before .before .before .before .before .before .before .before .args .store .now) (c .before .before .before .before .before .before .before .before .before .before .before .before .args .item) (c .before .before .before .before .before .before .before .before .before .before .before .before .args .lane) _ (sym (c .before .before .before .before .before .next .given .1) ∙ c .before .before .before .before .before .before .before .push-and-flush .ensures))) refl)
 
 pub send-spec : {M : Type 1} → statement M

@@ -15,11 +15,11 @@ returns c = tells (c .before .before .args .words .now) (c .enum-told .given .1)
 
 returns-2 : tie.Need-returns-2
 unfolding tag put
-returns-2 c = tells (c .before .before .before .before .before .args .words .now) (c .before .before .before .answer .given .1) (c .put-key .ensures)
+returns-2 c = tells (c .before .before .before .before .before .args .words .now) (c .before .before .before .answer .given .1) (c .put-two .ensures)
 
 returns-3 : tie.Need-returns-3
 unfolding tag put
-returns-3 c = tells (c .before .before .before .before .before .args .words .now) (c .before .before .before .answer2 .given .1) (c .put-one .ensures)
+returns-3 c = tells (c .before .before .before .before .before .args .words .now) (c .before .before .before .answer2 .given .1) (c .put-two2 .ensures)
 
 returns-4 : tie.Need-returns-4
 unfolding tag put
@@ -27,7 +27,7 @@ returns-4 c = tells (c .before .before .before .before .before .args .words .now
 
 returns-5 : tie.Need-returns-5
 unfolding tag put
-returns-5 c = tells (c .before .before .before .before .before .args .words .now) (c .before .before .before .answer4 .given .1) (c .put-one2 .ensures)
+returns-5 c = tells (c .before .before .before .before .before .args .words .now) (c .before .before .before .answer4 .given .1) (c .put-one .ensures)
 
 returns-6 : tie.Need-returns-6
 unfolding tag put
@@ -39,11 +39,11 @@ returns-7 c = tells (c .before .before .args .words .now) (c .enum-told3 .given 
 
 returns-8 : tie.Need-returns-8
 unfolding tag put
-returns-8 c = tells (c .before .before .before .before .before .args .words .now) (c .before .before .before .answer5 .given .1) (c .put-one3 .ensures)
+returns-8 c = tells (c .before .before .before .before .before .args .words .now) (c .before .before .before .answer5 .given .1) (c .put-one2 .ensures)
 
 returns-9 : tie.Need-returns-9
 unfolding tag put
-returns-9 c = tells (c .before .before .before .before .before .before .args .words .now) (c .before .before .before .before .answer6 .given .1) (c .put-one4 .ensures .0, c .put-one4 .ensures .1 ∙ ap (λ (x : ℕ). set (c .before .before .before .before .before .before .args .words .now) 0 x) (c .before .number .ensures))
+returns-9 c = tells (c .before .before .before .before .before .before .args .words .now) (c .before .before .before .before .answer6 .given .1) (c .put-one3 .ensures .0, c .put-one3 .ensures .1 ∙ ap (λ (x : ℕ). set (c .before .before .before .before .before .before .args .words .now) 0 x) (c .before .number .ensures))
 
 pub tell-spec : {M : Type 1} → statement M
 tell-spec =

@@ -18,7 +18,7 @@ returns-2 c = (line-of (c .before .before .before .before .before .before .befor
 
 returns-3 : tie.Need-returns-3
 unfolding line spaced
-returns-3 c = (line-of (c .before .before .before .before .before .before .before .before .before .before .before .args .out .now) (c .before .before .before .before .before .before .before .answer2 .given .1) (line-with (codes "taken") (c .before .before .before .bit-of .ensures) (c .before .before .put-one .ensures .0)), omega (arith, c .before .before .put-one .ensures .1))
+returns-3 c = (line-of (c .before .before .before .before .before .before .before .before .before .args .out .now) (c .before .before .before .before .before .answer2 .given .1) (c .before .before .put-taken .ensures .0), c .before .before .put-taken .ensures .1)
 
 returns-4 : tie.Need-returns-4
 unfolding line spaced
@@ -38,11 +38,11 @@ returns-7 c = (line-of (c .before .before .before .before .before .before .befor
 
 returns-8 : tie.Need-returns-8
 unfolding line spaced
-returns-8 c = (line-of (c .before .before .before .before .before .before .before .before .before .before .args .out .now) (c .before .before .before .before .before .before .answer5 .given .1) (c .before .before .put-one2 .ensures .0), omega (arith, c .before .before .put-one2 .ensures .1))
+returns-8 c = (line-of (c .before .before .before .before .before .before .before .before .before .before .args .out .now) (c .before .before .before .before .before .before .answer5 .given .1) (c .before .before .put-one .ensures .0), omega (arith, c .before .before .put-one .ensures .1))
 
 returns-9 : tie.Need-returns-9
 unfolding line spaced
-returns-9 c = (line-of (c .before .before .before .before .before .before .before .before .before .before .before .args .out .now) (c .before .before .before .before .before .before .before .answer6 .given .1) (line-with (codes "refused") (c .before .before .before .number .ensures) (c .before .before .put-one3 .ensures .0)), omega (arith, c .before .before .put-one3 .ensures .1))
+returns-9 c = (line-of (c .before .before .before .before .before .before .before .before .before .before .before .args .out .now) (c .before .before .before .before .before .before .before .answer6 .given .1) (line-with (codes "refused") (c .before .before .before .number .ensures) (c .before .before .put-one2 .ensures .0)), omega (arith, c .before .before .put-one2 .ensures .1))
 
 pub put-line-spec : {M : Type 1} → statement M
 put-line-spec =
@@ -54,8 +54,6 @@ put-line-spec =
     (λ c. search needs)
     (λ c κs. search needs)
     (λ c. search needs)
-    (λ c. search needs)
-    (λ c κs. search needs)
     (λ c κs. search needs)
     (λ c. search needs)
     (λ c κs. search needs)
