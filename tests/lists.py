@@ -14,11 +14,12 @@ def repeated(times, answer):
     """The answers that a line stores for so many calls: the same to each, or where it ends in A..B with numbers from A down to B."""
     if ".." not in answer:
         return [answer] * times
-    found = re.fullmatch(r"(.+ )(0|[1-9][0-9]*)\.\.(0|[1-9][0-9]*)", answer)
-    first, last = map(int, found.group(2, 3)) if found else (0, 0)
-    if not found or ".." in found[1] or first - last + 1 != times:
+    before, space, last = answer.rpartition(" ")
+    found = re.fullmatch(r"([0-9]+)\.\.([0-9]+)", last)
+    high, low = map(int, found.groups()) if found else (0, 0)
+    if not found or ".." in before or high >= 2**64 or high < low or high - low + 1 != times:
         raise ValueError(f"not {times} answers that count down: {answer}")
-    return [f"{found[1]}{here}" for here in range(first, last - 1, -1)]
+    return [f"{before}{space}{here}" for here in range(high, low - 1, -1)]
 
 
 def answers(name):

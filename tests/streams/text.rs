@@ -16,21 +16,19 @@ struct Line<'a> {
     times: u64,
     words: Vec<&'a str>,
     answer: &'a str,
-    /// Where the answers count down: the last number of the first one, which `answer` then lacks.
+    /// Where the answers count down: the last word of the first one, which `answer` then lacks.
     from: Option<u64>,
 }
 
-/// A number as answers have it: decimal, without zeros in front.
-fn number(word: &str) -> Option<u64> {
-    let number = word.parse::<u64>().ok()?;
-    (number.to_string() == word).then_some(number)
+fn decimal(word: &str) -> Option<u64> {
+    word.parse().ok().filter(|_| word.bytes().all(|byte| byte.is_ascii_digit()))
 }
 
-/// The answers `.. A..B` to so many calls: what is before A, and A.
+/// Of the answers to so many calls that end in A..B: what is before A, and A.
 fn count_down(answer: &str, times: u64) -> Option<(&str, u64)> {
-    let (before, range) = answer.rsplit_once(' ')?;
+    let (before, range) = answer.split_at(answer.rfind(' ').map_or(0, |at| at + 1));
     let (from, to) = range.split_once("..")?;
-    let (from, to) = (number(from)?, number(to)?);
+    let (from, to) = (decimal(from)?, decimal(to)?);
     let counts = !before.contains("..") && from.checked_sub(to)?.checked_add(1) == Some(times);
     counts.then_some((before, from))
 }
@@ -79,7 +77,7 @@ pub fn expected(input: impl BufRead, mut output: impl Write) -> io::Result<()> {
         let Some(parsed) = parse(&line) else { continue };
         for i in 0..parsed.times {
             match parsed.from {
-                Some(from) => writeln!(output, "{} {}", parsed.answer, from - i)?,
+                Some(from) => writeln!(output, "{}{}", parsed.answer, from - i)?,
                 None => writeln!(output, "{}", parsed.answer)?,
             }
         }
