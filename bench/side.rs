@@ -9,7 +9,7 @@ pub struct Key {
 
 #[derive(Debug, PartialEq, Eq)]
 pub enum Sent {
-    /// And whether the lane's signal went from idle to pending.
+    /// And whether the lane's signal went from idle to pending. The free places that the library answers too are not read: the original has none.
     Taken(bool),
     Full,
     Disconnected,

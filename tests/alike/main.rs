@@ -1,9 +1,10 @@
 //! Whether two files of answers agree, line by line.
 //!
-//!     alike LEFT RIGHT
+//!     alike [--original] LEFT RIGHT
 //!
-//! A line `outside` of LEFT, where the original has no answer, agrees with every line and is not counted. Prints `difference N`, with the number of
-//! the first line that differs; or counts, one to a line: of lines compared, of lines outside, of lines that answer a call made with more
+//! A line `outside` of LEFT, where the original has no answer, agrees with every line and is not counted. With --original LEFT is the original's, which
+//! does not say how many places are free: its `taken W` agrees with `taken W F` for every number F, and with nothing else. Prints `difference N`, with
+//! the number of the first line that differs; or counts, one to a line: of lines compared, of lines outside, of lines that answer a call made with more
 //! than 4,096 slots issued, and of each answer, the refusals by their numbers.
 
 use std::collections::BTreeMap;
@@ -15,6 +16,19 @@ const OUTSIDE: &[u8] = b"outside";
 fn lines(bytes: &[u8]) -> impl Iterator<Item = &[u8]> {
     let whole = bytes.iter().rposition(|&byte| byte == b'\n').map_or(0, |at| at + 1);
     bytes[..whole].split_inclusive(|&byte| byte == b'\n').map(|line| &line[..line.len() - 1])
+}
+
+/// A number in decimal, without zeros in front.
+fn is_number(word: &[u8]) -> bool {
+    word.iter().all(u8::is_ascii_digit) && (word.first().is_some_and(|&digit| digit != b'0') || word == b"0")
+}
+
+/// Whether a line of the right side is the left side's, or with `original` that and the free places.
+fn agree(left: &[u8], right: &[u8], original: bool) -> bool {
+    if !original || !left.starts_with(b"taken ") {
+        return left == right;
+    }
+    right.strip_prefix(left).and_then(|rest| rest.strip_prefix(b" ")).is_some_and(is_number)
 }
 
 #[derive(Default)]
@@ -49,8 +63,10 @@ impl<'a> Counts<'a> {
 }
 
 fn main() -> io::Result<()> {
-    let paths: Vec<String> = std::env::args().skip(1).collect();
-    let [left, right] = &paths[..] else { panic!("alike LEFT RIGHT") };
+    let mut words: Vec<String> = std::env::args().skip(1).collect();
+    let original = words.first().is_some_and(|word| word == "--original");
+    words.drain(..usize::from(original));
+    let [left, right] = &words[..] else { panic!("alike [--original] LEFT RIGHT") };
     let (left, right) = (std::fs::read(left)?, std::fs::read(right)?);
     let (mut left, mut right) = (lines(&left), lines(&right));
     let mut counts = Counts::default();
@@ -58,7 +74,7 @@ fn main() -> io::Result<()> {
         match (left.next(), right.next()) {
             (None, None) => break,
             (Some(a), Some(_)) if a == OUTSIDE => counts.outside += 1,
-            (Some(a), Some(b)) if a == b => counts.count(a),
+            (Some(a), Some(b)) if agree(a, b, original) => counts.count(a),
             _ => {
                 println!("difference {number}");
                 return Ok(());

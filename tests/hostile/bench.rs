@@ -4,7 +4,7 @@ use std::time::Duration;
 
 use crate::calls::{self, CHECKED, INNER, Stores, WORDS, Words};
 use crate::memory::Guarded;
-use crate::order::in_order;
+use crate::order::{free_places, in_order};
 use crate::records::{self, Answer, Record};
 use crate::watch;
 
@@ -128,8 +128,8 @@ impl Bench {
     fn look_at_words(&mut self, record: &Record, answer: &Answer) {
         let used = match answer {
             Answer::Item(..) => 4,
-            Answer::Lane(..) => 2,
-            Answer::Taken(_) | Answer::Items(_) | Answer::Held(_) | Answer::Refused(_) => 1,
+            Answer::Lane(..) | Answer::Taken(..) => 2,
+            Answer::Items(_) | Answer::Held(_) | Answer::Refused(_) => 1,
             _ => 0,
         };
         assert!(self.words.words()[used..].iter().all(|&word| word == UNSET), "{record:?}: {answer} leaves other words");
@@ -158,7 +158,8 @@ impl Bench {
         }
     }
 
-    /// A refusal changes nothing; a send writes one item, a batch its items, and no other call writes to rings or output.
+    /// A refusal changes nothing; a send writes one item and says the free places that it leaves, a batch writes its items, and no other call writes to
+    /// rings or output.
     fn look_at_stores(&mut self, record: &Record, answer: &Answer) {
         let (table, rings, output) = (self.table.words(), self.rings.words(), self.output.words());
         if matches!(answer, Answer::Refused(_) | Answer::Held(_)) {
@@ -166,7 +167,8 @@ impl Bench {
         } else {
             self.table_before.copy_from_slice(table);
         }
-        if matches!(answer, Answer::Taken(_)) {
+        if let Answer::Taken(_, free) = *answer {
+            assert_eq!(free, Some(free_places(table, record.fields[0])), "{record:?}: the free places");
             let changed = |(now, before): (&u64, &u64)| now != before;
             if let Some(place) = rings.iter().zip(&self.rings_before).position(changed) {
                 assert_eq!(rings[place], record.fields[2], "{record:?}: {answer} writes something else");

@@ -134,7 +134,7 @@ impl<'a> Episode<'a> {
         for _ in 0..20 {
             let record = self.record();
             match self.call(&record) {
-                Answer::Taken(_) => held += 1,
+                Answer::Taken(..) => held += 1,
                 Answer::Item(..) => held -= 1,
                 Answer::Items(items) => held -= items.len() as u64,
                 Answer::Held(count) => assert_eq!(count, held, "held"),

@@ -140,6 +140,13 @@ fn marks(t: &Table) -> bool {
     }) && (0..pages.div_ceil(64)).all(|group| only(t.group(group), pages - 64 * group))
 }
 
+/// The places of a lane's ring that a send can take: C less those from the released cursor to the tail, which hold an item or wait for their credit.
+/// Of a store in order.
+pub fn free_places(table: &[u64], x: u64) -> u64 {
+    let t = Table(table);
+    t.capacity() - t.cell(1, x).wrapping_sub(t.cell(2, x))
+}
+
 pub fn in_order(table: &[u64], rings: &[u64]) -> bool {
     let t = Table(table);
     if !lengths(table, rings) || !header(&t) {

@@ -165,7 +165,7 @@ impl Channel {
             }
         };
         self.held[slot as usize] += 1;
-        say(Answer::Taken(woken))
+        say(Answer::Taken(woken, None))
     }
 
     fn drop_sender(&mut self, slot: u64, generation: u64) -> Reply {

@@ -139,7 +139,7 @@ pub fn answer(tag: u64, words: &Words, output: &[u64]) -> Answer {
     match tag {
         0 => Answer::Done,
         1 => Answer::Lane(a, b),
-        2 if a < 2 => Answer::Taken(a == 1),
+        2 if a < 2 && b < 65_536 => Answer::Taken(a == 1, Some(b)),
         3 => Answer::Item(a, c, d),
         4 => Answer::Items(output[..a as usize].to_vec()),
         5 => Answer::Empty,

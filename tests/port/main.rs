@@ -34,6 +34,8 @@ impl Port {
         if self.inner && record.kind != records::OPEN && self.channel.is_none() {
             return Answer::Refused(5);
         }
+        // So that a word that this answer should have written is not an earlier one's.
+        self.words = [u64::MAX; WORDS];
         let mut stores = Stores { table: &mut self.table, rings: &mut self.rings, output: &mut self.output };
         let tag = if record.kind == records::OPEN {
             calls::open(&mut stores, record.fields, &mut self.words)

@@ -152,6 +152,12 @@ impl State {
         self.capacity.div_ceil(2).max(64).min(self.capacity)
     }
 
+    /// "how many further sends the ring would take with no other call between" (document 02, N1). A place is taken by an item in
+    /// the ring, and by one that was handed out and whose credit has not gone back.
+    fn free_places(&self, x: usize) -> u64 {
+        self.capacity - self.slots[x].ring.len() as u64 - self.slots[x].unreleased
+    }
+
     // Sender calls
 
     fn register(&mut self, most: u64) -> Outcome {
@@ -193,7 +199,8 @@ impl State {
         let taken = self.slots[x].ring.len() as u64 + self.slots[x].unreleased;
         unless(taken == self.capacity, 11)?;
         self.slots[x].ring.push_back(item);
-        Ok(Answer::Taken(signalled && self.mark(x)))
+        let free = self.free_places(x);
+        Ok(Answer::Taken(signalled && self.mark(x), Some(free)))
     }
 
     /// "Dropping a sender marks its lane (a closed lane's signal is kept while its sender lives)"

@@ -5,8 +5,9 @@
 //!     streams expected < FILE    the lines that it expects
 //!
 //! A stream is a row of openings, each in a style of its own; the first has style SEED modulo the number of styles. The rules run
-//! along, so that a style can aim at a state. --slots N makes every opening wide: up to N lanes, for stores that hold them. --deep gives
-//! every opening a large capacity, up to 65,536, as far as the stores hold it, and so many records that its rings fill.
+//! along, so that a style can aim at a state; on the way their free places are held to the sends that follow. --slots N makes every
+//! opening wide: up to N lanes, for stores that hold them. --deep gives every opening a large capacity, up to 65,536, as far as the stores
+//! hold it, and so many records that its rings fill.
 //! --shifted gives every opening a first cursor and generation near 2^64, which the original does not have.
 
 mod random;
@@ -204,6 +205,8 @@ struct Stream<W: Write> {
     deep: bool,
     /// Every opening has a first cursor and generation that the original does not have.
     shifted: bool,
+    /// If the last call was a send that was taken, or one refused 11 after it: its lane's key, and the free places then.
+    free: Option<([u64; 2], u64)>,
 }
 
 impl<W: Write> Stream<W> {
@@ -216,7 +219,25 @@ impl<W: Write> Stream<W> {
         record.write(&mut self.output).expect("output is open");
         self.left = self.left.saturating_sub(1);
         self.here = self.here.saturating_sub(1);
-        self.rules.answer(&record)
+        let answer = self.rules.answer(&record);
+        self.hold_to_free(&record, &answer);
+        answer
+    }
+
+    /// What free places mean, by sends themselves: of those to one lane with no other call between, each leaves one place less, and they are refused 11
+    /// from where none is left.
+    fn hold_to_free(&mut self, record: &Record, answer: &Answer) {
+        let key = [record.fields[0], record.fields[1]];
+        let sends = matches!(record.kind, SEND | UNSIGNALLED);
+        let before = self.free.take().filter(|&(last, _)| sends && last == key);
+        let free = match (before, answer) {
+            (None, Answer::Taken(_, free)) => *free,
+            (None, _) => None,
+            (Some((_, 0)), Answer::Refused(11)) => Some(0),
+            (Some((_, before)), Answer::Taken(_, Some(free))) if free + 1 == before => Some(*free),
+            (Some((_, before)), _) => panic!("{before} free places, and then {record:?} answers {answer}"),
+        };
+        self.free = free.map(|free| (key, free));
     }
 
     fn over(&self) -> bool {
@@ -833,6 +854,7 @@ fn main() -> io::Result<()> {
         most_slots,
         deep,
         shifted,
+        free: None,
     };
     if stream.random.one_in(10) {
         stream.emit(PLAIN, &[]);

@@ -146,12 +146,13 @@ impl Lent {
     }
 }
 
-/// What a record is answered with; `Display` gives document 01's line.
+/// What a record is answered with; `Display` gives document 01's line, of an accepted send that of document 02's N1.
 #[derive(Clone, Debug, PartialEq, Eq)]
 pub enum Answer {
     Done,
     Lane(u64, u64),
-    Taken(bool),
+    /// Whether the signal was idle, and the free places left, which the original does not say.
+    Taken(bool, Option<u64>),
     Item(u64, u64, u64),
     Items(Vec<u64>),
     Empty,
@@ -167,7 +168,10 @@ impl fmt::Display for Answer {
         match self {
             Self::Done => f.write_str("done"),
             Self::Lane(slot, generation) => write!(f, "lane {slot} {generation}"),
-            Self::Taken(woken) => write!(f, "taken {}", u8::from(*woken)),
+            Self::Taken(woken, free) => {
+                write!(f, "taken {}", u8::from(*woken))?;
+                free.iter().try_for_each(|free| write!(f, " {free}"))
+            }
             Self::Item(item, slot, generation) => write!(f, "item {item} {slot} {generation}"),
             Self::Items(items) => {
                 write!(f, "items {}", items.len())?;

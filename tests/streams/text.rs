@@ -2,9 +2,11 @@
 //!
 //!     open 4 2 7 0 0 => done
 //!     3 * send 0 0 11 => refused 11      three times, the same answer to each
+//!     3 * send 0 0 11 => taken 0 2..0    three times, and the answers' last number counts down: taken 0 2, taken 0 1, taken 0 0
 //!     bytes 02 00 => refused 15          bytes as they are, in hex
 //!
-//! Blank lines and lines that begin with # are passed over.
+//! Blank lines and lines that begin with # are passed over. An answer with .. in it that does not count down so, by as many as there are calls, is an
+//! error.
 
 use std::io::{self, BufRead, Write};
 
@@ -14,6 +16,21 @@ struct Line<'a> {
     times: u64,
     words: Vec<&'a str>,
     answer: &'a str,
+    /// Where the answers count down: the last word of the first one, which `answer` then lacks.
+    from: Option<u64>,
+}
+
+fn decimal(word: &str) -> Option<u64> {
+    word.parse().ok().filter(|_| word.bytes().all(|byte| byte.is_ascii_digit()))
+}
+
+/// Of the answers to so many calls that end in A..B: what is before A, and A.
+fn count_down(answer: &str, times: u64) -> Option<(&str, u64)> {
+    let (before, range) = answer.split_at(answer.rfind(' ').map_or(0, |at| at + 1));
+    let (from, to) = range.split_once("..")?;
+    let (from, to) = (decimal(from)?, decimal(to)?);
+    let counts = !before.contains("..") && from.checked_sub(to)?.checked_add(1) == Some(times);
+    counts.then_some((before, from))
 }
 
 fn parse(line: &str) -> Option<Line<'_>> {
@@ -23,11 +40,15 @@ fn parse(line: &str) -> Option<Line<'_>> {
     }
     let (call, answer) = line.split_once(" => ").unwrap_or_else(|| panic!("no answer: {line}"));
     let (times, call) = call.split_once(" * ").unwrap_or(("1", call));
-    Some(Line {
-        times: times.trim().parse().unwrap_or_else(|_| panic!("not a number: {line}")),
-        words: call.split_whitespace().collect(),
-        answer: answer.trim(),
-    })
+    let times = times.trim().parse().unwrap_or_else(|_| panic!("not a number: {line}"));
+    let answer = answer.trim();
+    let (answer, from) = if answer.contains("..") {
+        let counted = count_down(answer, times).unwrap_or_else(|| panic!("not {times} answers that count down: {line}"));
+        (counted.0, Some(counted.1))
+    } else {
+        (answer, None)
+    };
+    Some(Line { times, words: call.split_whitespace().collect(), answer, from })
 }
 
 pub fn records(input: impl BufRead, mut output: impl Write) -> io::Result<()> {
@@ -54,8 +75,11 @@ pub fn expected(input: impl BufRead, mut output: impl Write) -> io::Result<()> {
     for line in input.lines() {
         let line = line?;
         let Some(parsed) = parse(&line) else { continue };
-        for _ in 0..parsed.times {
-            writeln!(output, "{}", parsed.answer)?;
+        for i in 0..parsed.times {
+            match parsed.from {
+                Some(from) => writeln!(output, "{}{}", parsed.answer, from - i)?,
+                None => writeln!(output, "{}", parsed.answer)?,
+            }
         }
     }
     output.flush()
