@@ -1,4 +1,4 @@
-//! The checked calls' own test of order, after each of many inner calls.
+//! The checked calls' own test of order, after each of many inner calls; and free places, by sending on a copy.
 
 use super::{StoresInOrder, Words};
 use crate::answer::Answer;
@@ -18,6 +18,25 @@ impl StoresInOrder {
         let tag = unsafe { fanring_held(table.as_ptr(), table.len(), rings.as_ptr(), rings.len(), &mut words) };
         Answer::read(tag, words)
     }
+
+    /// What no user of the crate can have: a channel is not `Clone`.
+    fn copy(&self) -> Self {
+        Self { stores: self.stores.clone() }
+    }
+
+    /// The free places that further sends of either kind answer, with no other call between, until one is refused.
+    fn free_until_full(mut self, key: LaneKey, random: &mut Random) -> Vec<usize> {
+        let mut free = Vec::new();
+        loop {
+            match if random.below(2) == 0 { self.try_send(key, 1) } else { self.try_send_unsignaled(key, 2) } {
+                Answer::Taken(taken) => free.push(taken.free),
+                answer => {
+                    assert_eq!(answer, Answer::Refused(11));
+                    return free;
+                }
+            }
+        }
+    }
 }
 
 struct Random(u64);
@@ -31,8 +50,11 @@ impl Random {
     }
 }
 
-fn any_call(stores: &mut StoresInOrder, random: &mut Random, output: &mut [u64]) -> Answer {
-    let key = LaneKey { slot: random.below(4), generation: random.below(3) };
+fn any_key(random: &mut Random) -> LaneKey {
+    LaneKey { slot: random.below(4), generation: random.below(3) }
+}
+
+fn any_call(stores: &mut StoresInOrder, key: LaneKey, random: &mut Random, output: &mut [u64]) -> Answer {
     let id = LaneId { channel_id: 7 + random.below(16) / 15, key };
     match random.below(40) {
         0..=3 => stores.register_sender(random.below(6)),
@@ -66,11 +88,43 @@ fn stores_stay_in_order() {
         let stores = Stores { table: vec![round; 24 * 4 + 512], rings: vec![round; 4 * 8] };
         let Ok(mut stores) = StoresInOrder::open(&opening, stores) else { panic!("{opening:?} is refused") };
         for _ in 0..300 {
-            let answer = any_call(&mut stores, &mut random, &mut [0; 8]);
+            let key = any_key(&mut random);
+            let answer = any_call(&mut stores, key, &mut random, &mut [0; 8]);
             assert_ne!(answer, Answer::Refused(5));
             assert_eq!(stores.checked_held(), stores.held(), "after {answer:?}, opened with {opening:?}");
         }
     }
+}
+
+#[test]
+fn free_places_are_the_sends_taken_until_one_is_refused() {
+    let mut random = Random(0x9e37_79b9_7f4a_7c15);
+    let (mut sends, mut full, mut unreleased) = (0, 0, 0);
+    for round in 0..300 {
+        // From 128 on the release batch is less than the capacity.
+        let opening = Opening {
+            channel_id: 7,
+            first_cursor: 0_u64.wrapping_sub(random.below(100)),
+            ..Opening::new(1 << (round % 8), 1 + random.below(4) as usize)
+        };
+        let stores = Stores { table: vec![0; 24 * 4 + 512], rings: vec![0; 4 * 128] };
+        let Ok(mut stores) = StoresInOrder::open(&opening, stores) else { panic!("{opening:?} is refused") };
+        for _ in 0..600 {
+            let key = any_key(&mut random);
+            if let Answer::Taken(taken) = any_call(&mut stores, key, &mut random, &mut [0; 8]) {
+                let further = stores.copy().free_until_full(key, &mut random);
+                assert_eq!(further, (0..taken.free).rev().collect::<Vec<_>>(), "opened with {opening:?}");
+                sends += 1;
+                full += u64::from(taken.free == 0);
+                let mut released = stores.copy();
+                released.release_consumed();
+                unreleased += u64::from(released.free_until_full(key, &mut random).len() > taken.free);
+            }
+        }
+    }
+    let told =
+        format!("{sends} sends, {full} that left no place, {unreleased} with places of items taken not released");
+    assert!(sends > 5_000 && full > 500 && unreleased > 500, "only {told}");
 }
 
 #[test]
