@@ -109,7 +109,7 @@ fn line(channel: &mut Channel, call: &str, numbers: &[u64]) -> String {
 #[derive(Debug, PartialEq)]
 enum Expected<'a> {
     Same(&'a str),
-    /// The last number counts down from this one.
+    /// What stands before the last number, which counts down from this one.
     Down(&'a str, u64),
 }
 
@@ -119,7 +119,7 @@ impl<'a> Expected<'a> {
         if !answer.contains("..") {
             return Ok(Self::Same(answer));
         }
-        let (start, last) = answer.rsplit_once(' ').unwrap_or(("", answer));
+        let (start, last) = answer.split_at(answer.rfind(' ').map_or(0, |at| at + 1));
         let Some((from, to)) = last.split_once("..").filter(|_| !start.contains("..")) else {
             return Err("`..` stands in the last word alone");
         };
@@ -134,7 +134,7 @@ impl<'a> Expected<'a> {
     fn is(&self, at: u64, line: &str) -> bool {
         match self {
             Self::Same(answer) => line == *answer || *answer == "outside",
-            Self::Down(start, from) => line == format!("{start} {}", from - at),
+            Self::Down(start, from) => line == format!("{start}{}", from - at),
         }
     }
 }
@@ -197,6 +197,20 @@ fn document_01() {
     assert!(replay(&data("large/capacity-65536.txt"), &Lengths { table: 536, rings: 65_536 }) > 65_536);
 }
 
+/// Free places, each way that places come back; and with the largest ring.
+#[test]
+fn free_places() {
+    let large = Lengths { table: 536, rings: 65_536 };
+    for (name, lengths, calls) in [
+        ("free-places.txt", &REPLAY, 300),
+        ("release-batches.txt", &REPLAY, 5_000),
+        ("large/free-places.txt", &large, 100_000),
+        ("large/release-batches.txt", &large, 100_000),
+    ] {
+        assert!(replay(&data(name), lengths) >= calls, "{name} is shorter than it was");
+    }
+}
+
 #[test]
 fn refused_openings() {
     replay(&data("openings.txt"), &REPLAY);
@@ -220,8 +234,8 @@ fn random_streams() {
 #[test]
 fn answers_that_count_down() {
     assert_eq!(Expected::read("taken 0", 3), Ok(Expected::Same("taken 0")));
-    assert_eq!(Expected::read("taken 0 62..0", 63), Ok(Expected::Down("taken 0", 62)));
-    assert_eq!(Expected::read("taken 1 3..3", 1), Ok(Expected::Down("taken 1", 3)));
+    assert_eq!(Expected::read("taken 0 62..0", 63), Ok(Expected::Down("taken 0 ", 62)));
+    assert_eq!(Expected::read("taken 1 3..3", 1), Ok(Expected::Down("taken 1 ", 3)));
     let down = Expected::read("taken 0 5..3", 3).unwrap();
     assert!(down.is(0, "taken 0 5") && down.is(1, "taken 0 4") && down.is(2, "taken 0 3"));
     assert!(!down.is(1, "taken 0 5") && !down.is(1, "taken 1 4") && !down.is(1, "taken 0"));
