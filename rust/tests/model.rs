@@ -30,6 +30,8 @@ struct Lane {
     /// Items taken whose places are not released: at least so many, and at most so many. They differ only where a receive
     /// may have found the lane empty, which no answer tells; the free places that a send answers tell it afterwards.
     unreleased: (usize, usize),
+    /// Free places, as the last accepted send answered. Other calls than sends can only raise them.
+    free: usize,
     sender_dropped: bool,
     paused: bool,
     closed: bool,
@@ -142,11 +144,14 @@ impl Run {
                 self.foretold += u64::from(lane.unreleased.0 == lane.unreleased.1 && lane.unreleased.0 > 0);
                 assert!(lane.items.len() + free <= capacity, "{free} free, with {} items", lane.items.len());
                 lane.occupied(capacity - lane.items.len() - free);
+                assert!(free + 1 >= lane.free, "{free} free, and {} when it was sent to before", lane.free);
+                lane.free = free;
             }
             (Err(TrySendError::Full(back)), Some(lane)) => {
                 assert_eq!(back, item);
                 assert!(lane.takes_sends());
                 lane.occupied(capacity - lane.items.len());
+                assert_eq!(lane.free, 0, "it was to take that many");
             }
             (Err(TrySendError::Disconnected(back)), Some(lane)) => {
                 assert_eq!(back, item);
