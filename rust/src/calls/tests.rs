@@ -1,5 +1,6 @@
 //! The checked calls' own test of order, after each of many inner calls; and free places, by sending on a copy.
 
+use super::library::{fanring_inner_try_send, fanring_inner_try_send_unsignaled};
 use super::{StoresInOrder, Words};
 use crate::answer::Answer;
 use crate::{LaneId, LaneKey, Opening, Stores};
@@ -125,6 +126,30 @@ fn free_places_are_the_sends_taken_until_one_is_refused() {
     let told =
         format!("{sends} sends, {full} that left no place, {unreleased} with places of items taken not released");
     assert!(sends > 5_000 && full > 500 && unreleased > 500, "only {told}");
+}
+
+type Send = unsafe extern "C" fn(*mut u64, usize, *mut u64, usize, u64, u64, u64, *mut Words) -> u64;
+
+#[test]
+fn a_send_sets_the_words_of_its_answer_and_no_others() {
+    let sends: [(Send, u64); 2] = [(fanring_inner_try_send, 1), (fanring_inner_try_send_unsignaled, 0)];
+    for (send, woken) in sends {
+        let Ok(mut stores) =
+            StoresInOrder::open(&Opening::new(2, 1), Stores { table: vec![0; 536], rings: vec![0; 2] })
+        else {
+            panic!("the opening is refused")
+        };
+        assert_eq!(stores.register_sender(1), Answer::Registered(LaneKey { slot: 0, generation: 0 }));
+        for (tag, first, second) in [(2, woken, 1), (2, 0, 0), (8, 11, 9)] {
+            let Stores { table, rings } = &mut stores.stores;
+            let mut words = [9; 8];
+            let (table, table_len, rings, rings_len) =
+                (table.as_mut_ptr(), table.len(), rings.as_mut_ptr(), rings.len());
+            // SAFETY: the stores are in order; the slices are whole and apart. The item goes to the ring store.
+            assert_eq!(unsafe { send(table, table_len, rings, rings_len, 0, 0, 5, &mut words) }, tag);
+            assert_eq!(words, [first, second, 9, 9, 9, 9, 9, 9]);
+        }
+    }
 }
 
 #[test]
