@@ -103,7 +103,7 @@ fn free_places_are_those_of_the_lane() {
     let free = |channel: &mut Channel, lane: usize| channel.try_send(keys[lane], 9).unwrap().free;
     assert_eq!([free(&mut channel, 0), free(&mut channel, 0), free(&mut channel, 0)], [3, 2, 1]);
     assert_eq!([free(&mut channel, 1), free(&mut channel, 0)], [3, 0]);
-    // A ceiling of registered lanes does not enter, nor does a pause.
+    // A paused lane's are told as any other's.
     channel.pause(&channel.lane(keys[1])).unwrap();
     assert_eq!([free(&mut channel, 1), free(&mut channel, 1), free(&mut channel, 1)], [2, 1, 0]);
     assert_eq!(channel.try_send(keys[1], 9), Err(TrySendError::Full(9)));
