@@ -29,6 +29,11 @@
    do on release_consumed and at the end of every batch, one of limit 0 too. So a send may still be refused 11 after a receive. No answer tells of credit
    that goes back; after a batch or release_consumed, all of it has: that is when to try again.
 
+   FREE PLACES. A send that is taken answers how many further sends, of either kind, this lane takes with no other call between; the one after them is
+   refused 11. It is C less the items in the ring and the items handed out whose credit has not gone back, so a receive does not always raise it. Calls
+   between other than this lane's sends can only raise it, but for a drop or a close: sends are then refused 10 or 12. So a send is refused 11 only where
+   the last one taken answered 0, and a sender can slow down before that: examples/c/belt.c.
+
    WHAT EVERY CALL RELIES ON. Each pointer is to as many words as its length says, `words` to FANRING_WORDS, aligned as uint64_t is; it is not NULL, also
    where the length is 0. `table`, `rings`, `out` and `words` do not overlap. Nothing else uses them during the call: one call at a time on a pair of
    stores. (Calls of fanring_held and fanring_inner_held, which only read the stores, may run at one time.)
@@ -62,7 +67,7 @@ extern "C" {
 enum fanring_tag {
     FANRING_DONE = 0,         /* no words */
     FANRING_REGISTERED = 1,   /* a lane's key: slot, generation */
-    FANRING_TAKEN = 2,        /* woken: 1 or 0 */
+    FANRING_TAKEN = 2,        /* woken: 1 or 0; free places */
     FANRING_ITEM = 3,         /* item, channel, slot, generation */
     FANRING_ITEMS = 4,        /* count; the items are in the output */
     FANRING_EMPTY = 5,        /* no words */
@@ -104,14 +109,14 @@ uint64_t fanring_open(
 uint64_t fanring_register_sender(
     uint64_t *table, size_t table_len, const uint64_t *rings, size_t rings_len, uint64_t most, uint64_t words[FANRING_WORDS]);
 
-/* Sends an item through the sender with this key. Answers FANRING_TAKEN with words[0], woken: 1 if the lane's signal went from idle to pending, else 0;
-   or refused 5, 10, 12, 11. */
+/* Sends an item through the sender with this key. Answers FANRING_TAKEN with words[0], woken: 1 if the lane's signal went from idle to pending, else 0,
+   and words[1], free places: how many further sends this lane takes with no other call between (0: the next is refused 11); or refused 5, 10, 12, 11. */
 uint64_t fanring_try_send(
     uint64_t *table, size_t table_len, uint64_t *rings, size_t rings_len, uint64_t slot, uint64_t generation,
     uint64_t item, uint64_t words[FANRING_WORDS]);
 
 /* Sends an item and marks nothing: only a targeted receive finds it, until the lane is marked or queued otherwise; see fanring_poll_all_lanes. Answers
-   FANRING_TAKEN with words[0] 0; or refused 5, 10, 12, 11. */
+   FANRING_TAKEN with words[0] 0 and words[1] the free places, as fanring_try_send; or refused 5, 10, 12, 11. */
 uint64_t fanring_try_send_unsignaled(
     uint64_t *table, size_t table_len, uint64_t *rings, size_t rings_len, uint64_t slot, uint64_t generation,
     uint64_t item, uint64_t words[FANRING_WORDS]);
@@ -187,12 +192,14 @@ uint64_t fanring_held(const uint64_t *table, size_t table_len, const uint64_t *r
 uint64_t fanring_inner_register_sender(
     uint64_t *table, size_t table_len, const uint64_t *rings, size_t rings_len, uint64_t most, uint64_t words[FANRING_WORDS]);
 
-/* Premise: the stores are in order. As fanring_try_send: sends an item through the sender with this key. Answers FANRING_TAKEN; or refused 10, 12, 11. */
+/* Premise: the stores are in order. As fanring_try_send: sends an item through the sender with this key. Answers FANRING_TAKEN with woken and free places;
+   or refused 10, 12, 11. */
 uint64_t fanring_inner_try_send(
     uint64_t *table, size_t table_len, uint64_t *rings, size_t rings_len, uint64_t slot, uint64_t generation,
     uint64_t item, uint64_t words[FANRING_WORDS]);
 
-/* Premise: the stores are in order. As fanring_try_send_unsignaled: sends an item and marks nothing. Answers FANRING_TAKEN; or refused 10, 12, 11. */
+/* Premise: the stores are in order. As fanring_try_send_unsignaled: sends an item and marks nothing. Answers FANRING_TAKEN with 0 and free places;
+   or refused 10, 12, 11. */
 uint64_t fanring_inner_try_send_unsignaled(
     uint64_t *table, size_t table_len, uint64_t *rings, size_t rings_len, uint64_t slot, uint64_t generation,
     uint64_t item, uint64_t words[FANRING_WORDS]);

@@ -21,7 +21,7 @@ static void print(uint64_t tag) {
     switch (tag) {
     case FANRING_DONE: numbers("done", words, 0); break;
     case FANRING_REGISTERED: numbers("lane", words, 2); break;
-    case FANRING_TAKEN: numbers("taken", words, 1); break;
+    case FANRING_TAKEN: numbers("taken", words, 2); break;
     case FANRING_ITEM: numbers("item", words, 1); numbers("", words + 2, 2); break;
     case FANRING_ITEMS: numbers("items", words, 1); numbers("", out, words[0]); break;
     case FANRING_EMPTY: numbers("empty", words, 0); break;

@@ -23,7 +23,7 @@ fn line(tag: u64, words: &[u64; 8], out: &[u64]) -> String {
     match tag {
         0 => "done".to_string(),
         1 => numbers("lane", &words[..2]),
-        2 => numbers("taken", &words[..1]),
+        2 => numbers("taken", &words[..2]),
         3 => numbers("item", &[words[0], words[2], words[3]]),
         4 => numbers(&numbers("items", &words[..1]), &out[..words[0] as usize]),
         5 => "empty".to_string(),

@@ -2,7 +2,7 @@
 //! One lock guards the channel. examples/c/recorder.c of the repository is the same in C.
 //!
 //! - The receiver sleeps only where the documentation of `try_send` says that it may: after a batch of fewer items than
-//!   its limit. Sends that answer `true` wake it.
+//!   its limit. Sends that answer `woken: true` wake it.
 //! - Where a ring is full, the headbox keeps samples back, and tries again once a batch has released places. None is
 //!   lost by that.
 //! - Headbox 1 is unplugged at midnight: its lane is closed, with the samples in it. Plugged in again, it has a lane
@@ -114,10 +114,10 @@ impl Recorder {
             }
             while full_at != Some(shared.batches) && !kept.is_empty() {
                 match shared.channel.try_send(plugged, kept[0]) {
-                    Ok(woken) => {
+                    Ok(taken) => {
                         kept.pop_front();
                         sent.taken += 1;
-                        if woken {
+                        if taken.woken {
                             self.wake_receiver(&mut shared);
                         }
                     }

@@ -1,15 +1,14 @@
 //! An answer of the library, read from its tag and words.
 
 use crate::calls::Words;
-use crate::{LaneId, LaneKey};
+use crate::{LaneId, LaneKey, Taken};
 
 /// An answer, as the library gives it.
 #[derive(Debug, Clone, Copy, PartialEq, Eq)]
 pub(crate) enum Answer {
     Done,
     Registered(LaneKey),
-    /// Whether the lane's signal went from idle to pending.
-    Taken(bool),
+    Taken(Taken),
     Item(LaneId, u64),
     /// How many; they are in the output.
     Items(u64),
@@ -28,7 +27,7 @@ impl Answer {
         match tag {
             0 => Self::Done,
             1 => Self::Registered(key(words[0], words[1])),
-            2 => Self::Taken(words[0] == 1),
+            2 => Self::Taken(Taken { woken: words[0] == 1, free: words[1] as usize }),
             3 => Self::Item(lane, words[0]),
             4 => Self::Items(words[0]),
             5 => Self::Empty,

@@ -165,7 +165,7 @@ impl Error for TryRegisterBoundedError {}
 /// An item was not sent; each variant gives it back.
 #[derive(Debug, Clone, Copy, PartialEq, Eq)]
 pub enum TrySendError {
-    /// This sender's ring is full. Refusal 11.
+    /// This sender's ring is full: its last accepted send answered 0 as [`free`](crate::Taken::free). Refusal 11.
     Full(u64),
     /// The lane is closed, or the receiver. Refusal 12.
     Disconnected(u64),

@@ -36,11 +36,13 @@
 //! [`try_recv_batch_into`](Channel::try_recv_batch_into) with a limit other than 0. The receiver may sleep after a look
 //! that answered `Empty` or `Disconnected`, and after a batch of fewer items than its limit. From such an answer on,
 //! while no calls but those of senders and [`held`](Channel::held) are made, the first accepted
-//! [`try_send`](Channel::try_send) to a lane that is not paused answers `true`: wake the receiver then.
+//! [`try_send`](Channel::try_send) to a lane that is not paused answers [`woken: true`](Taken::woken): wake the
+//! receiver then.
 //!
 //! - It may not sleep after a single item, a batch that reached its limit, a batch of limit 0, or
-//!   [`try_recv_from`](Channel::try_recv_from): a lane may still be pending, and then its sends answer `false` until its
-//!   ring is full. After the receiver's other calls it looks again first; made while it sleeps, they are to wake it.
+//!   [`try_recv_from`](Channel::try_recv_from): a lane may still be pending, and then its sends answer `woken: false`
+//!   until its ring is full. After the receiver's other calls it looks again first; made while it sleeps, they are to
+//!   wake it.
 //! - A drop, an unsignalled send and a send that is refused wake nobody. A drop is seen at the latest by a look that finds
 //!   nothing, so wake the receiver after it. Unsignalled sends may fill a ring while the receiver sleeps; ordinary ones are
 //!   then refused as `Full`, so wake it there too.
@@ -48,7 +50,8 @@
 //!   woken. Once all senders are dropped, look until it is answered; or until `Empty`, where a paused lane still holds
 //!   items, which is answered then until that lane is resumed, closed or emptied.
 //! - A sender that was refused as `Full` tries again after a batch or [`release_consumed`](Channel::release_consumed):
-//!   then all places of items that were taken are free again. No answer tells of it.
+//!   then all places of items that were taken are free again. No answer tells of it. By [`Taken::free`], which every
+//!   accepted send answers, a sender can slow down before it is refused: examples/belt.rs.
 //! - A batch names no lanes and keeps no order between them; a lane's own items are in the order sent. Where it matters
 //!   whose an item is, the item has to say so, or single receives do.
 //!
@@ -66,6 +69,7 @@
 //! | `try_register_bounded(n)`; `try_clone`, `try_register` | [`register_sender(n)`](Channel::register_sender); with `usize::MAX` |
 //! | `Sender::lane`, `lane_id`, `capacity` | [`Channel::lane`], [`LaneKey::slot`], [`Channel::capacity_per_sender`] |
 //! | `with_lane_ids` | [`try_recv`](Channel::try_recv) and [`try_recv_fair`](Channel::try_recv_fair) always answer the lane's id |
+//! | `Ok(())` of a send | [`Taken`]: whether to wake the receiver, and how many more sends the lane takes |
 //! | a `Sender` or the `Receiver` is dropped | [`drop_sender`](Channel::drop_sender), [`close_receiver`](Channel::close_receiver) |
 //!
 //! Absent:
@@ -76,7 +80,8 @@
 //! - admit predicates: `try_recv_batch_into_while`, `try_recv_scan_into_while` (without a predicate,
 //!   [`poll_all_lanes`](Channel::poll_all_lanes) and then [`try_recv_batch_into`](Channel::try_recv_batch_into));
 //! - `try_send_deferred` and `flush`; `try_register_with_capacity`; teardown policies other than `Deferred`;
-//! - `is_full`, `is_disconnected`, `registered_lanes`, `sender_count`, `receiver_count`, `same_channel`.
+//! - `is_full` (a send that leaves the ring full answers 0 as [`Taken::free`]), `is_disconnected`, `registered_lanes`,
+//!   `sender_count`, `receiver_count`, `same_channel`.
 //!
 //! # What is proved, and what is not
 //!
@@ -134,6 +139,7 @@ mod channel;
 mod error;
 mod lane;
 mod opening;
+mod taken;
 
 pub use channel::Channel;
 pub use error::{
@@ -141,3 +147,4 @@ pub use error::{
 };
 pub use lane::{LaneId, LaneKey};
 pub use opening::{channel, try_channel, Opening, Stores, MAX_CAPACITY_PER_SENDER, MAX_SLOTS};
+pub use taken::Taken;

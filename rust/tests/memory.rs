@@ -3,7 +3,7 @@
 use std::env;
 use std::process::Command;
 
-use proved_fanring::{channel, try_channel, ChannelError, Opening, MAX_CAPACITY_PER_SENDER, MAX_SLOTS};
+use proved_fanring::{channel, try_channel, ChannelError, Opening, Taken, MAX_CAPACITY_PER_SENDER, MAX_SLOTS};
 
 /// The words of the two largest stores.
 const WORDS: usize = MAX_SLOTS * MAX_CAPACITY_PER_SENDER + 24 * MAX_SLOTS + 512;
@@ -37,7 +37,7 @@ fn too_large_for_memory() {
     assert_eq!(try_channel(MAX_CAPACITY_PER_SENDER + 1, MAX_SLOTS).unwrap_err().refusal(), Some(1));
     let mut channel = try_channel(MAX_CAPACITY_PER_SENDER, 8).unwrap();
     let key = channel.register_sender(1).unwrap();
-    assert_eq!(channel.try_send(key, 5), Ok(true));
+    assert_eq!(channel.try_send(key, 5), Ok(Taken { woken: true, free: MAX_CAPACITY_PER_SENDER - 1 }));
     assert_eq!(channel.try_recv(), Ok((channel.lane(key), 5)));
 }
 

@@ -2,7 +2,8 @@
 
 use proved_fanring::{
     channel, try_channel, Channel, ChannelError, LaneControlError, LaneId, LaneKey, NoSuchSender, Opening,
-    ReceiverClosed, Stores, TryRecvError, TryRegisterBoundedError, TrySendError, MAX_CAPACITY_PER_SENDER, MAX_SLOTS,
+    ReceiverClosed, Stores, Taken, TryRecvError, TryRegisterBoundedError, TrySendError, MAX_CAPACITY_PER_SENDER,
+    MAX_SLOTS,
 };
 
 #[test]
@@ -83,7 +84,7 @@ fn stale_keys() {
     let new = channel.register_sender(1).unwrap();
     assert_eq!((new.slot, new.generation), (old.slot, old.generation + 1));
     refused_everywhere(&mut channel, old);
-    assert_eq!(channel.try_send(new, 5), Ok(true));
+    assert_eq!(channel.try_send(new, 5), Ok(Taken { woken: true, free: 3 }));
     assert_eq!(channel.try_recv(), Ok((channel.lane(new), 5)));
 }
 

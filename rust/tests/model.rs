@@ -1,9 +1,9 @@
-//! Random calls against a small model: a queue of items for each lane.
+//! Random calls against a small model: a queue of items for each lane, and how many of its places are occupied still.
 
 use std::collections::{BTreeMap, BTreeSet, VecDeque};
 
 use proved_fanring::{
-    Channel, LaneControlError, LaneKey, Opening, TryRecvError, TryRegisterBoundedError, TrySendError,
+    Channel, LaneControlError, LaneKey, Opening, Taken, TryRecvError, TryRegisterBoundedError, TrySendError,
 };
 
 struct Random(u64);
@@ -17,18 +17,49 @@ impl Random {
     }
 }
 
+/// "the release batch min(max(C / 2 rounded up, 64), C)"
+fn release_batch(capacity: usize) -> usize {
+    (capacity - capacity / 2).max(64).min(capacity)
+}
+
 /// A lane as the answers tell of it. A lane that has retired stays here, empty.
 #[derive(Default)]
 struct Lane {
     /// Items not yet handed out, oldest first, and whether each was sent ordinarily.
     items: VecDeque<(u64, bool)>,
-    /// Items taken since their places were last released for certain: at most so many places are still occupied.
-    taken: usize,
+    /// Items taken whose places are not released: at least so many, and at most so many. They differ only where a receive
+    /// may have found the lane empty, which no answer tells; the free places that a send answers tell it afterwards.
+    unreleased: (usize, usize),
+    /// Free places, as the last accepted send answered. Other calls than sends can only raise them.
+    free: usize,
     sender_dropped: bool,
     paused: bool,
     closed: bool,
     /// A receive found nothing since the lane was last marked: the next ordinary send wakes.
     quiet: bool,
+}
+
+impl Lane {
+    fn takes_sends(&self) -> bool {
+        !self.sender_dropped && !self.closed
+    }
+
+    /// So many places are occupied by items taken: what the model knew has to allow it.
+    fn occupied(&mut self, places: usize) {
+        let (least, most) = self.unreleased;
+        assert!(least <= places && places <= most, "{places} places occupied, and the model has {least} to {most}");
+        self.unreleased = (places, places);
+    }
+
+    fn item_taken(&mut self, capacity: usize) {
+        let (least, most) = (self.unreleased.0 + 1, self.unreleased.1 + 1);
+        let batch = release_batch(capacity);
+        self.unreleased = match (least == batch, most == batch) {
+            (true, true) => (0, 0),
+            (false, true) => (0, batch - 1),
+            _ => (least, most),
+        };
+    }
 }
 
 struct Run {
@@ -41,6 +72,8 @@ struct Run {
     handed_out: u64,
     woken: u64,
     refusals: BTreeSet<u64>,
+    /// Accepted sends of which the model knew the free places, with places occupied by items taken.
+    foretold: u64,
 }
 
 impl Run {
@@ -58,6 +91,7 @@ impl Run {
             handed_out: 0,
             woken: 0,
             refusals: BTreeSet::new(),
+            foretold: 0,
         }
     }
 
@@ -90,30 +124,34 @@ impl Run {
         }
     }
 
-    fn send(&mut self, ordinary: bool) {
-        let key = self.any_key();
+    fn send(&mut self, key: LaneKey, ordinary: bool) -> Option<Taken> {
         self.sends += 1;
         // The lane can be told from the item, for the batch, which answers with items alone.
         let item = key.slot << 48 | key.generation << 24 | self.sends;
-        let result = if ordinary {
-            self.channel.try_send(key, item)
-        } else {
-            self.channel.try_send_unsignaled(key, item).map(|()| false)
-        };
+        let result =
+            if ordinary { self.channel.try_send(key, item) } else { self.channel.try_send_unsignaled(key, item) };
         self.refusals.extend(result.err().map(|error| error.refusal()));
         let capacity = self.channel.capacity_per_sender();
         let lane = self.lanes.get_mut(&key);
         match (result, lane) {
-            (Ok(woken), Some(lane)) => {
-                assert!(!lane.sender_dropped && !lane.closed && !self.receiver_closed && lane.items.len() < capacity);
+            (Ok(Taken { woken, free }), Some(lane)) => {
+                assert!(lane.takes_sends() && !self.receiver_closed && lane.items.len() < capacity);
                 assert!(woken || !lane.quiet || !ordinary, "{key:?} is not woken");
+                assert!(ordinary || !woken, "{key:?} is woken by an unsignalled send");
                 self.woken += u64::from(woken && lane.quiet);
                 lane.quiet &= !ordinary;
                 lane.items.push_back((item, ordinary));
+                self.foretold += u64::from(lane.unreleased.0 == lane.unreleased.1 && lane.unreleased.0 > 0);
+                assert!(lane.items.len() + free <= capacity, "{free} free, with {} items", lane.items.len());
+                lane.occupied(capacity - lane.items.len() - free);
+                assert!(free + 1 >= lane.free, "{free} free, and {} when it was sent to before", lane.free);
+                lane.free = free;
             }
             (Err(TrySendError::Full(back)), Some(lane)) => {
                 assert_eq!(back, item);
-                assert!(lane.items.len() + lane.taken >= capacity && !lane.closed && !lane.sender_dropped);
+                assert!(lane.takes_sends());
+                lane.occupied(capacity - lane.items.len());
+                assert_eq!(lane.free, 0, "it was to take that many");
             }
             (Err(TrySendError::Disconnected(back)), Some(lane)) => {
                 assert_eq!(back, item);
@@ -125,6 +163,32 @@ impl Run {
             }
             (result, None) => panic!("{key:?} was never given out: {result:?}"),
         }
+        result.ok()
+    }
+
+    /// Sends to each lane until it is full: the first send says how many more are taken.
+    fn fill(&mut self) {
+        let keys: Vec<LaneKey> = self
+            .lanes
+            .iter()
+            .filter(|(_, lane)| lane.takes_sends() && !self.receiver_closed)
+            .map(|(key, _)| *key)
+            .collect();
+        for key in keys {
+            if let Some(Taken { free, .. }) = self.send_either(key) {
+                for left in (0..free).rev() {
+                    assert_eq!(self.send_either(key).map(|taken| taken.free), Some(left));
+                }
+            }
+            for ordinary in [false, true] {
+                assert_eq!(self.send(key, ordinary), None);
+            }
+        }
+    }
+
+    fn send_either(&mut self, key: LaneKey) -> Option<Taken> {
+        let ordinary = self.random.below(2) == 0;
+        self.send(key, ordinary)
     }
 
     fn drop_sender(&mut self) {
@@ -140,11 +204,21 @@ impl Run {
 
     /// An item was handed out: it is the oldest of its lane.
     fn handed_out(&mut self, key: LaneKey, item: u64, targeted: bool) {
+        if !targeted {
+            self.may_have_found_empty();
+        }
+        let capacity = self.channel.capacity_per_sender();
         let lane = self.lanes.get_mut(&key).expect("a lane that was given out");
         assert_eq!(lane.items.pop_front().map(|(item, _)| item), Some(item), "of {key:?}");
         assert!(!lane.closed && (targeted || !lane.paused) && !self.receiver_closed);
-        lane.taken += 1;
+        lane.item_taken(capacity);
         self.handed_out += 1;
+    }
+
+    /// An untargeted receive took an item: which lanes it found empty before is not told.
+    fn may_have_found_empty(&mut self) {
+        let empty = |lane: &&mut Lane| !lane.paused && lane.items.is_empty();
+        self.lanes.values_mut().filter(empty).for_each(|lane| lane.unreleased.0 = 0);
     }
 
     /// An untargeted receive took nothing.
@@ -159,7 +233,12 @@ impl Run {
         }
         let gone = self.lanes.values().all(|lane| lane.sender_dropped && lane.items.is_empty());
         assert_eq!(error, if gone { TryRecvError::Disconnected } else { TryRecvError::Empty });
-        self.lanes.values_mut().filter(|lane| !lane.paused).for_each(|lane| lane.quiet = true);
+        for lane in self.lanes.values_mut().filter(|lane| !lane.paused) {
+            lane.quiet = true;
+            if lane.items.is_empty() {
+                lane.unreleased = (0, 0);
+            }
+        }
     }
 
     fn receive(&mut self, fair: bool) {
@@ -183,6 +262,9 @@ impl Run {
                 assert_eq!(error == TryRecvError::ReceiverClosed, self.receiver_closed);
                 let empty = self.lanes.get(&key).map_or(true, |lane| lane.items.is_empty());
                 assert!(empty || self.receiver_closed, "{key:?} has items, and the answer is {error:?}");
+                if error == TryRecvError::Empty {
+                    self.lanes.get_mut(&key).expect("a lane that was given out").unreleased = (0, 0);
+                }
             }
         }
     }
@@ -211,7 +293,7 @@ impl Run {
     }
 
     fn released(&mut self) {
-        self.lanes.values_mut().for_each(|lane| lane.taken = 0);
+        self.lanes.values_mut().for_each(|lane| lane.unreleased = (0, 0));
     }
 
     fn control(&mut self) {
@@ -229,7 +311,7 @@ impl Run {
                 assert!(!lane.closed && !self.receiver_closed);
                 match which {
                     0 => *lane = Lane { closed: true, sender_dropped: lane.sender_dropped, ..Lane::default() },
-                    1..=3 => (lane.paused, lane.taken) = (true, 0),
+                    1..=3 => (lane.paused, lane.unreleased) = (true, (0, 0)),
                     _ => (lane.paused, lane.quiet) = (false, lane.quiet && !lane.paused),
                 }
             }
@@ -260,8 +342,10 @@ impl Run {
     fn call(&mut self) {
         match self.random.below(100) {
             0..=6 => self.register(),
-            7..=44 => self.send(true),
-            45..=50 => self.send(false),
+            which @ 7..=50 => {
+                let key = self.any_key();
+                self.send(key, which <= 44);
+            }
             51..=53 => self.drop_sender(),
             54..=69 => self.receive(false),
             70..=82 => self.receive(true),
@@ -277,18 +361,21 @@ impl Run {
 
 #[test]
 fn items_come_out_as_they_went_in() {
-    let (mut handed_out, mut woken) = (0, 0);
+    let (mut handed_out, mut woken, mut foretold) = (0, 0, 0);
     let mut refusals = BTreeSet::new();
     for seed in 1..=400 {
         let mut run = Run::new(seed);
         for _ in 0..1_000 {
             run.call();
         }
+        run.fill();
         handed_out += run.handed_out;
         woken += run.woken;
+        foretold += run.foretold;
         refusals.append(&mut run.refusals);
     }
     assert!(handed_out > 50_000, "only {handed_out} items");
     assert!(woken > 5_000, "only {woken} sends that woke");
+    assert!(foretold > 5_000, "only {foretold} sends with places occupied by items taken");
     assert!((6..=13).all(|number| refusals.contains(&number)), "only refusals {refusals:?}");
 }

@@ -1,7 +1,8 @@
-//! What the documentation of the calls and include/fanring.h say of credit, waking, Disconnected and lanes, by running.
+//! What the documentation of the calls and include/fanring.h say of credit, free places, waking, Disconnected and lanes,
+//! by running.
 
 use proved_fanring::{
-    channel, Channel, LaneControlError, LaneKey, TryRecvError, TryRegisterBoundedError, TrySendError,
+    channel, Channel, LaneControlError, LaneKey, Taken, TryRecvError, TryRegisterBoundedError, TrySendError,
 };
 
 fn with_senders(capacity: usize, slots: usize, senders: usize) -> (Channel, Vec<LaneKey>) {
@@ -23,9 +24,11 @@ fn two_taken() -> (Channel, LaneKey) {
     (channel, keys[0])
 }
 
-/// How many sends are taken before the ring is full.
+/// How many sends are taken before the ring is full: each answers how many are left.
 fn free_places(channel: &mut Channel, key: LaneKey) -> usize {
-    (0..).take_while(|_| channel.try_send(key, 9).is_ok()).count()
+    let free: Vec<usize> = (0..).map_while(|_| channel.try_send(key, 9).ok()).map(|taken| taken.free).collect();
+    assert_eq!(free, (0..free.len()).rev().collect::<Vec<_>>());
+    free.len()
 }
 
 #[test]
@@ -62,16 +65,61 @@ fn places_come_back_in_batches() {
 }
 
 #[test]
+fn a_receive_does_not_always_raise_free_places() {
+    let (mut channel, keys) = with_senders(256, 1, 1);
+    let free = |channel: &mut Channel| channel.try_send(keys[0], 9).unwrap().free;
+    for left in (56..256).rev() {
+        assert_eq!(free(&mut channel), left);
+    }
+    // The release batch is 128 here: the places of 127 items taken are not free, and those of 128 are.
+    for _ in 0..127 {
+        channel.try_recv().unwrap();
+    }
+    assert_eq!(free(&mut channel), 55);
+    channel.try_recv().unwrap();
+    assert_eq!(free(&mut channel), 54 + 128);
+    channel.try_recv().unwrap();
+    assert_eq!(free(&mut channel), 53 + 128);
+    channel.release_consumed().unwrap();
+    assert_eq!(free(&mut channel), 52 + 129);
+}
+
+#[test]
+fn free_places_of_a_ring_of_one() {
+    let (mut channel, keys) = with_senders(1, 1, 1);
+    for signaled in [true, false] {
+        let taken = if signaled { channel.try_send(keys[0], 1) } else { channel.try_send_unsignaled(keys[0], 1) };
+        assert_eq!(taken, Ok(Taken { woken: signaled, free: 0 }));
+        assert_eq!(channel.try_send_unsignaled(keys[0], 2), Err(TrySendError::Full(2)));
+        assert_eq!(channel.try_send(keys[0], 2), Err(TrySendError::Full(2)));
+        assert_eq!(channel.try_recv_from(&channel.lane(keys[0])), Ok(1));
+        assert_eq!(channel.try_recv(), Err(TryRecvError::Empty));
+    }
+}
+
+#[test]
+fn free_places_are_those_of_the_lane() {
+    let (mut channel, keys) = with_senders(4, 2, 2);
+    let free = |channel: &mut Channel, lane: usize| channel.try_send(keys[lane], 9).unwrap().free;
+    assert_eq!([free(&mut channel, 0), free(&mut channel, 0), free(&mut channel, 0)], [3, 2, 1]);
+    assert_eq!([free(&mut channel, 1), free(&mut channel, 0)], [3, 0]);
+    // A paused lane's are told as any other's.
+    channel.pause(&channel.lane(keys[1])).unwrap();
+    assert_eq!([free(&mut channel, 1), free(&mut channel, 1), free(&mut channel, 1)], [2, 1, 0]);
+    assert_eq!(channel.try_send(keys[1], 9), Err(TrySendError::Full(9)));
+}
+
+#[test]
 fn woken_once_until_the_lane_is_found_empty() {
     let (mut channel, keys) = with_senders(4, 1, 1);
-    assert_eq!(channel.try_send(keys[0], 1), Ok(true));
-    assert_eq!(channel.try_send(keys[0], 2), Ok(false));
+    assert_eq!(channel.try_send(keys[0], 1), Ok(Taken { woken: true, free: 3 }));
+    assert_eq!(channel.try_send(keys[0], 2), Ok(Taken { woken: false, free: 2 }));
     channel.try_recv().unwrap();
     channel.try_recv().unwrap();
-    assert_eq!(channel.try_send(keys[0], 3), Ok(false));
+    assert_eq!(channel.try_send(keys[0], 3), Ok(Taken { woken: false, free: 1 }));
     channel.try_recv().unwrap();
     assert_eq!(channel.try_recv(), Err(TryRecvError::Empty));
-    assert_eq!(channel.try_send(keys[0], 4), Ok(true));
+    assert_eq!(channel.try_send(keys[0], 4), Ok(Taken { woken: true, free: 3 }));
 }
 
 #[test]
@@ -95,7 +143,7 @@ fn targeted_disconnected_is_of_its_lane() {
     assert_eq!(channel.try_recv_from(&lane), Err(TryRecvError::Disconnected));
     assert_eq!(channel.try_recv_from(&lane), Err(TryRecvError::NoSuchLane));
     assert_eq!(channel.try_recv(), Err(TryRecvError::Empty));
-    assert_eq!(channel.try_send(keys[1], 5), Ok(true));
+    assert_eq!(channel.try_send(keys[1], 5), Ok(Taken { woken: true, free: 3 }));
 }
 
 #[test]

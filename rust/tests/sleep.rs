@@ -10,10 +10,15 @@ fn with_senders(capacity: usize, senders: usize) -> (Channel, Vec<LaneKey>) {
     (channel, keys)
 }
 
+/// Whether a send, which is taken, answers that the receiver is to be woken.
+fn woken(channel: &mut Channel, key: LaneKey, item: u64) -> bool {
+    channel.try_send(key, item).unwrap().woken
+}
+
 /// Sends until the ring is full: no send answers that the receiver is to be woken.
 fn full_and_nobody_woken(channel: &mut Channel, key: LaneKey) {
-    let sent: Vec<_> = (0..).map(|item| channel.try_send(key, item)).take_while(Result::is_ok).collect();
-    assert!(!sent.is_empty() && sent.iter().all(|woken| *woken == Ok(false)), "{sent:?}");
+    let sent: Vec<_> = (0..).map_while(|item| channel.try_send(key, item).ok()).collect();
+    assert!(!sent.is_empty() && sent.iter().all(|taken| !taken.woken), "{sent:?}");
     assert_eq!(channel.try_send(key, 9), Err(TrySendError::Full(9)));
 }
 
@@ -21,7 +26,7 @@ fn full_and_nobody_woken(channel: &mut Channel, key: LaneKey) {
 fn not_after_one_item() {
     for fair in [false, true] {
         let (mut channel, keys) = with_senders(4, 1);
-        assert_eq!(channel.try_send(keys[0], 1), Ok(true));
+        assert!(woken(&mut channel, keys[0], 1));
         let received = if fair { channel.try_recv_fair() } else { channel.try_recv() };
         assert_eq!(received, Ok((channel.lane(keys[0]), 1)));
         assert_eq!(channel.held(), 0);
@@ -33,21 +38,21 @@ fn not_after_one_item() {
 fn not_after_a_batch_that_reached_its_limit() {
     for limit in [0, 1] {
         let (mut channel, keys) = with_senders(4, 1);
-        assert_eq!(channel.try_send(keys[0], 1), Ok(true));
+        assert!(woken(&mut channel, keys[0], 1));
         assert_eq!(channel.try_recv_batch_into(&mut Vec::new(), limit), Ok(limit));
         full_and_nobody_woken(&mut channel, keys[0]);
     }
     let (mut channel, keys) = with_senders(4, 1);
-    assert_eq!(channel.try_send(keys[0], 1), Ok(true));
+    assert!(woken(&mut channel, keys[0], 1));
     assert_eq!(channel.try_recv_batch_into(&mut Vec::new(), 2), Ok(1));
-    assert_eq!(channel.try_send(keys[0], 2), Ok(true));
+    assert!(woken(&mut channel, keys[0], 2));
 }
 
 #[test]
 fn not_after_a_targeted_receive() {
     // An item of the lane itself; or Empty of another lane.
     let (mut channel, keys) = with_senders(4, 2);
-    assert_eq!(channel.try_send(keys[0], 1), Ok(true));
+    assert!(woken(&mut channel, keys[0], 1));
     assert_eq!(channel.try_recv_from(&channel.lane(keys[1])), Err(TryRecvError::Empty));
     assert_eq!(channel.try_recv_from(&channel.lane(keys[0])), Ok(1));
     full_and_nobody_woken(&mut channel, keys[0]);
@@ -58,10 +63,10 @@ fn a_paused_lane_wakes_at_most_once() {
     let (mut channel, keys) = with_senders(4, 2);
     channel.pause(&channel.lane(keys[0])).unwrap();
     assert_eq!(channel.try_recv(), Err(TryRecvError::Empty));
-    assert_eq!(channel.try_send(keys[0], 1), Ok(true));
+    assert!(woken(&mut channel, keys[0], 1));
     assert_eq!(channel.try_recv(), Err(TryRecvError::Empty));
-    assert_eq!(channel.try_send(keys[0], 2), Ok(false));
-    assert_eq!(channel.try_send(keys[1], 3), Ok(true));
+    assert!(!woken(&mut channel, keys[0], 2));
+    assert!(woken(&mut channel, keys[1], 3));
 }
 
 #[test]
@@ -179,7 +184,7 @@ impl Run {
             }
             3..=12 => {
                 let paused = self.paused.get(&key) == Some(&true);
-                return self.channel.try_send(key, 1).ok().filter(|_| !paused);
+                return self.channel.try_send(key, 1).ok().filter(|_| !paused).map(|taken| taken.woken);
             }
             13..=15 => drop(self.channel.try_send_unsignaled(key, 2)),
             16 => drop(self.channel.drop_sender(key)),

@@ -3,7 +3,7 @@
 use std::fs;
 use std::path::Path;
 
-use proved_fanring::{Channel, LaneId, LaneKey, Opening, ReceiverClosed, Stores, TryRecvError, TrySendError};
+use proved_fanring::{Channel, LaneId, LaneKey, Opening, ReceiverClosed, Stores, Taken, TryRecvError, TrySendError};
 
 /// Stores as the replay program has them, or of other lengths.
 struct Lengths {
@@ -34,9 +34,9 @@ fn open(lengths: &Lengths, numbers: &[u64], channel: &mut Option<Channel>) -> St
     }
 }
 
-fn sent(result: Result<bool, TrySendError>, item: u64) -> String {
+fn sent(result: Result<Taken, TrySendError>, item: u64) -> String {
     match result {
-        Ok(woken) => format!("taken {}", u64::from(woken)),
+        Ok(Taken { woken, free }) => format!("taken {} {free}", u64::from(woken)),
         Err(error) => {
             assert_eq!(error.into_inner(), item);
             format!("refused {}", error.refusal())
@@ -88,7 +88,7 @@ fn line(channel: &mut Channel, call: &str, numbers: &[u64]) -> String {
             Err(error) => format!("refused {}", error.refusal()),
         },
         "send" => sent(channel.try_send(key(0), numbers[2]), numbers[2]),
-        "unsignalled" => sent(channel.try_send_unsignaled(key(0), numbers[2]).map(|()| false), numbers[2]),
+        "unsignalled" => sent(channel.try_send_unsignaled(key(0), numbers[2]), numbers[2]),
         "drop" => done(channel.drop_sender(key(0)), |error| error.refusal()),
         "plain" => received(own, channel.try_recv()),
         "fair" => received(own, channel.try_recv_fair()),
@@ -105,18 +105,61 @@ fn line(channel: &mut Channel, call: &str, numbers: &[u64]) -> String {
     }
 }
 
-/// A record of the text form: how often, the call and its numbers, and the line that it answers with.
-fn record(text: &str) -> Option<(u64, &str, Vec<u64>, &str)> {
+/// The line that each of a record's calls is to answer with.
+#[derive(Debug, PartialEq)]
+enum Expected<'a> {
+    Same(&'a str),
+    /// What stands before the last number, which counts down from this one.
+    Down(&'a str, u64),
+}
+
+impl<'a> Expected<'a> {
+    /// The last word of `answer` may be A..B, with A - B + 1 the number of calls.
+    fn read(answer: &'a str, times: u64) -> Result<Self, &'static str> {
+        if !answer.contains("..") {
+            return Ok(Self::Same(answer));
+        }
+        let (start, last) = answer.split_at(answer.rfind(' ').map_or(0, |at| at + 1));
+        let Some((from, to)) = last.split_once("..").filter(|_| !start.contains("..")) else {
+            return Err("`..` stands in the last word alone");
+        };
+        let (from, to) = decimal(from).zip(decimal(to)).ok_or("`..` stands between two numbers")?;
+        match from.checked_sub(to) {
+            None => Err("the answers of `..` count down"),
+            Some(more) if times == 0 || more != times - 1 => Err("`..` has not as many answers as there are calls"),
+            Some(_) => Ok(Self::Down(start, from)),
+        }
+    }
+
+    fn is(&self, at: u64, line: &str) -> bool {
+        match self {
+            Self::Same(answer) => line == *answer || *answer == "outside",
+            Self::Down(start, from) => line == format!("{start}{}", from - at),
+        }
+    }
+}
+
+/// Digits alone: `parse` takes a plus sign too.
+fn decimal(text: &str) -> Option<u64> {
+    text.parse().ok().filter(|_| text.bytes().all(|byte| byte.is_ascii_digit()))
+}
+
+/// A record of the text form: how often, the call and its numbers, and what it answers with.
+type Record<'a> = (u64, &'a str, Vec<u64>, Expected<'a>);
+
+/// A line: none where it is blank, a comment or no call.
+fn record(text: &str) -> Result<Option<Record<'_>>, &'static str> {
     let text = text.trim();
     // Malformed records are the replay program's, and no calls.
     if text.is_empty() || text.starts_with('#') || text.starts_with("bytes ") {
-        return None;
+        return Ok(None);
     }
-    let (call, answer) = text.split_once(" => ").expect("an answer");
+    let (call, answer) = text.split_once(" => ").ok_or("no answer")?;
     let (times, call) = call.split_once(" * ").unwrap_or(("1", call));
     let (name, numbers) = call.trim().split_once(' ').unwrap_or((call.trim(), ""));
-    let numbers = numbers.split_whitespace().map(|number| number.parse().expect("a number")).collect();
-    Some((times.trim().parse().expect("a number"), name, numbers, answer.trim()))
+    let numbers = numbers.split_whitespace().map(decimal).collect::<Option<_>>().ok_or("not a number")?;
+    let times = decimal(times.trim()).ok_or("not a number")?;
+    Ok(Some((times, name, numbers, Expected::read(answer.trim(), times)?)))
 }
 
 /// Answers every record of a file, and says how many calls there were.
@@ -125,15 +168,17 @@ fn replay(path: &Path, lengths: &Lengths) -> u64 {
     let mut channel = None;
     let mut calls = 0;
     for (at, text) in content.lines().enumerate() {
-        let Some((times, call, numbers, expected)) = record(text) else { continue };
-        for _ in 0..times {
+        let place = || format!("{}:{}: {text}", path.display(), at + 1);
+        let read = record(text).unwrap_or_else(|wrong| panic!("{}: {wrong}", place()));
+        let Some((times, call, numbers, expected)) = read else { continue };
+        for time in 0..times {
             let line = match (&mut channel, call) {
                 (_, "open") => open(lengths, &numbers, &mut channel),
                 // There is no channel to call before an opening.
                 (None, _) => "refused 5".into(),
                 (Some(channel), _) => line(channel, call, &numbers),
             };
-            assert!(line == expected || expected == "outside", "{}:{}: {text}: {line}", path.display(), at + 1);
+            assert!(expected.is(time, &line), "{}: {line}", place());
             calls += 1;
         }
     }
@@ -150,6 +195,20 @@ fn document_01() {
         assert!(replay(&data(name), &REPLAY) >= calls, "{name} is shorter than it was");
     }
     assert!(replay(&data("large/capacity-65536.txt"), &Lengths { table: 536, rings: 65_536 }) > 65_536);
+}
+
+/// Free places, each way that places come back; and with the largest ring.
+#[test]
+fn free_places() {
+    let large = Lengths { table: 536, rings: 65_536 };
+    for (name, lengths, calls) in [
+        ("free-places.txt", &REPLAY, 300),
+        ("release-batches.txt", &REPLAY, 5_000),
+        ("large/free-places.txt", &large, 100_000),
+        ("large/release-batches.txt", &large, 100_000),
+    ] {
+        assert!(replay(&data(name), lengths) >= calls, "{name} is shorter than it was");
+    }
 }
 
 #[test]
@@ -170,4 +229,57 @@ fn random_streams() {
         calls += replay(&file.expect("a file").path(), &REPLAY);
     }
     assert!(calls > 5_000, "only {calls} calls");
+}
+
+#[test]
+fn answers_that_count_down() {
+    assert_eq!(Expected::read("taken 0", 3), Ok(Expected::Same("taken 0")));
+    assert_eq!(Expected::read("taken 0 62..0", 63), Ok(Expected::Down("taken 0 ", 62)));
+    assert_eq!(Expected::read("taken 1 3..3", 1), Ok(Expected::Down("taken 1 ", 3)));
+    let down = Expected::read("taken 0 5..3", 3).unwrap();
+    assert!(down.is(0, "taken 0 5") && down.is(1, "taken 0 4") && down.is(2, "taken 0 3"));
+    assert!(!down.is(1, "taken 0 5") && !down.is(1, "taken 1 4") && !down.is(1, "taken 0"));
+}
+
+#[test]
+fn an_error_of_a_list_is_said() {
+    for (text, wrong) in [
+        ("4 * send 0 0 5 => taken 0 0..3", "the answers of `..` count down"),
+        ("4 * send 0 0 5 => taken 0 4..0", "`..` has not as many answers as there are calls"),
+        ("4 * send 0 0 5 => taken 0 2..0", "`..` has not as many answers as there are calls"),
+        ("send 0 0 5 => taken 0 3..0", "`..` has not as many answers as there are calls"),
+        ("0 * send 0 0 5 => taken 0 0..0", "`..` has not as many answers as there are calls"),
+        ("4 * send 0 0 5 => taken 0 3..", "`..` stands between two numbers"),
+        ("4 * send 0 0 5 => taken 0 3...0", "`..` stands between two numbers"),
+        ("4 * send 0 0 5 => taken 0 +3..0", "`..` stands between two numbers"),
+        ("4 * send 0 0 5 => taken 0 three..0", "`..` stands between two numbers"),
+        ("4 * send 0 0 5 => taken 3..0 0", "`..` stands in the last word alone"),
+        ("4 * send 0 0 5 => taken 3..0 3..0", "`..` stands in the last word alone"),
+        ("4 * send 0 0 5", "no answer"),
+        ("4 * send 0 0 +5 => taken 0 3..0", "not a number"),
+    ] {
+        assert_eq!(record(text), Err(wrong), "{text}");
+    }
+    assert!(matches!(record("4 * send 0 0 5 => taken 0 3..0"), Ok(Some((4, "send", ..)))));
+    assert_eq!(record("# 4 * send 0 0 5 => taken 0 9..0"), Ok(None));
+}
+
+#[test]
+#[should_panic(
+    expected = "wrong.txt:3: 2 * send 0 0 5 => taken 1 3..0: `..` has not as many answers as there are calls"
+)]
+fn an_error_of_a_list_is_said_with_its_line() {
+    let path = Path::new(env!("CARGO_TARGET_TMPDIR")).join("wrong.txt");
+    fs::write(&path, "open 4 1 7 0 0 => done\nregister 1 => lane 0 0\n2 * send 0 0 5 => taken 1 3..0\n").unwrap();
+    replay(&path, &REPLAY);
+}
+
+#[test]
+#[should_panic(expected = "other.txt:4: 3 * send 0 0 5 => taken 0 3..1: taken 0 2")]
+fn another_answer_is_said_with_its_line() {
+    let path = Path::new(env!("CARGO_TARGET_TMPDIR")).join("other.txt");
+    let list =
+        "open 4 1 7 0 0 => done\nregister 1 => lane 0 0\nsend 0 0 5 => taken 1 3\n3 * send 0 0 5 => taken 0 3..1\n";
+    fs::write(&path, list).unwrap();
+    replay(&path, &REPLAY);
 }

@@ -1,5 +1,6 @@
-//! The checked calls' own test of order, after each of many inner calls.
+//! The checked calls' own test of order, after each of many inner calls; and free places, by sending on a copy.
 
+use super::library::{fanring_inner_try_send, fanring_inner_try_send_unsignaled};
 use super::{StoresInOrder, Words};
 use crate::answer::Answer;
 use crate::{LaneId, LaneKey, Opening, Stores};
@@ -18,6 +19,25 @@ impl StoresInOrder {
         let tag = unsafe { fanring_held(table.as_ptr(), table.len(), rings.as_ptr(), rings.len(), &mut words) };
         Answer::read(tag, words)
     }
+
+    /// What no user of the crate can have: a channel is not `Clone`.
+    fn copy(&self) -> Self {
+        Self { stores: self.stores.clone() }
+    }
+
+    /// The free places that further sends of either kind answer, with no other call between, until one is refused.
+    fn free_until_full(mut self, key: LaneKey, random: &mut Random) -> Vec<usize> {
+        let mut free = Vec::new();
+        loop {
+            match if random.below(2) == 0 { self.try_send(key, 1) } else { self.try_send_unsignaled(key, 2) } {
+                Answer::Taken(taken) => free.push(taken.free),
+                answer => {
+                    assert_eq!(answer, Answer::Refused(11));
+                    return free;
+                }
+            }
+        }
+    }
 }
 
 struct Random(u64);
@@ -31,8 +51,11 @@ impl Random {
     }
 }
 
-fn any_call(stores: &mut StoresInOrder, random: &mut Random, output: &mut [u64]) -> Answer {
-    let key = LaneKey { slot: random.below(4), generation: random.below(3) };
+fn any_key(random: &mut Random) -> LaneKey {
+    LaneKey { slot: random.below(4), generation: random.below(3) }
+}
+
+fn any_call(stores: &mut StoresInOrder, key: LaneKey, random: &mut Random, output: &mut [u64]) -> Answer {
     let id = LaneId { channel_id: 7 + random.below(16) / 15, key };
     match random.below(40) {
         0..=3 => stores.register_sender(random.below(6)),
@@ -66,9 +89,65 @@ fn stores_stay_in_order() {
         let stores = Stores { table: vec![round; 24 * 4 + 512], rings: vec![round; 4 * 8] };
         let Ok(mut stores) = StoresInOrder::open(&opening, stores) else { panic!("{opening:?} is refused") };
         for _ in 0..300 {
-            let answer = any_call(&mut stores, &mut random, &mut [0; 8]);
+            let key = any_key(&mut random);
+            let answer = any_call(&mut stores, key, &mut random, &mut [0; 8]);
             assert_ne!(answer, Answer::Refused(5));
             assert_eq!(stores.checked_held(), stores.held(), "after {answer:?}, opened with {opening:?}");
+        }
+    }
+}
+
+#[test]
+fn free_places_are_the_sends_taken_until_one_is_refused() {
+    let mut random = Random(0x9e37_79b9_7f4a_7c15);
+    let (mut sends, mut full, mut unreleased) = (0, 0, 0);
+    for round in 0..300 {
+        // From 128 on the release batch is less than the capacity.
+        let opening = Opening {
+            channel_id: 7,
+            first_cursor: 0_u64.wrapping_sub(random.below(100)),
+            ..Opening::new(1 << (round % 8), 1 + random.below(4) as usize)
+        };
+        let stores = Stores { table: vec![0; 24 * 4 + 512], rings: vec![0; 4 * 128] };
+        let Ok(mut stores) = StoresInOrder::open(&opening, stores) else { panic!("{opening:?} is refused") };
+        for _ in 0..600 {
+            let key = any_key(&mut random);
+            if let Answer::Taken(taken) = any_call(&mut stores, key, &mut random, &mut [0; 8]) {
+                let further = stores.copy().free_until_full(key, &mut random);
+                assert_eq!(further, (0..taken.free).rev().collect::<Vec<_>>(), "opened with {opening:?}");
+                sends += 1;
+                full += u64::from(taken.free == 0);
+                let mut released = stores.copy();
+                released.release_consumed();
+                unreleased += u64::from(released.free_until_full(key, &mut random).len() > taken.free);
+            }
+        }
+    }
+    let told =
+        format!("{sends} sends, {full} that left no place, {unreleased} with places of items taken not released");
+    assert!(sends > 5_000 && full > 500 && unreleased > 500, "only {told}");
+}
+
+type Send = unsafe extern "C" fn(*mut u64, usize, *mut u64, usize, u64, u64, u64, *mut Words) -> u64;
+
+#[test]
+fn a_send_sets_the_words_of_its_answer_and_no_others() {
+    let sends: [(Send, u64); 2] = [(fanring_inner_try_send, 1), (fanring_inner_try_send_unsignaled, 0)];
+    for (send, woken) in sends {
+        let Ok(mut stores) =
+            StoresInOrder::open(&Opening::new(2, 1), Stores { table: vec![0; 536], rings: vec![0; 2] })
+        else {
+            panic!("the opening is refused")
+        };
+        assert_eq!(stores.register_sender(1), Answer::Registered(LaneKey { slot: 0, generation: 0 }));
+        for (tag, first, second) in [(2, woken, 1), (2, 0, 0), (8, 11, 9)] {
+            let Stores { table, rings } = &mut stores.stores;
+            let mut words = [9; 8];
+            let (table, table_len, rings, rings_len) =
+                (table.as_mut_ptr(), table.len(), rings.as_mut_ptr(), rings.len());
+            // SAFETY: the stores are in order; the slices are whole and apart. The item goes to the ring store.
+            assert_eq!(unsafe { send(table, table_len, rings, rings_len, 0, 0, 5, &mut words) }, tag);
+            assert_eq!(words, [first, second, 9, 9, 9, 9, 9, 9]);
         }
     }
 }

@@ -91,7 +91,7 @@ impl Channel {
     /// channel.drop_sender(key).unwrap();
     /// assert_eq!(channel.try_recv_from(&lane), Err(TryRecvError::Disconnected));
     /// assert_eq!(channel.try_recv_from(&lane), Err(TryRecvError::NoSuchLane));
-    /// assert_eq!(channel.try_send(other, 6), Ok(true));
+    /// assert!(channel.try_send(other, 6).unwrap().woken);
     /// ```
     #[inline]
     pub fn try_recv_from(&mut self, id: &LaneId) -> Result<u64, TryRecvError> {

@@ -2,7 +2,7 @@
 
 use super::{never, Channel};
 use crate::answer::Answer;
-use crate::{LaneKey, NoSuchSender, TryRegisterBoundedError, TrySendError};
+use crate::{LaneKey, NoSuchSender, Taken, TryRegisterBoundedError, TrySendError};
 
 impl Channel {
     /// Register a sender, with a lane of its own, if fewer than `max_lanes` lanes are registered.
@@ -45,17 +45,19 @@ impl Channel {
 
     /// Send one item.
     ///
-    /// The lane is marked: its signal becomes pending, and is idle again when a receive finds the lane empty. `Ok` says
-    /// whether it was idle. Where it was, wake the receiver if it sleeps, as fanring does; there is nothing else to do.
+    /// The lane is marked: its signal becomes pending, and is idle again when a receive finds the lane empty.
+    /// [`Taken::woken`] says whether it was idle. Where it was, wake the receiver if it sleeps, as fanring does; there is
+    /// nothing else to do.
     ///
     /// That is enough where the receiver sleeps only after [`try_recv`](Self::try_recv),
     /// [`try_recv_fair`](Self::try_recv_fair) or a batch with a limit other than 0 that answered `Empty` or
     /// `Disconnected`, or after a batch of fewer items than its limit: then the first accepted send to a lane that is
-    /// not paused answers `true`. After a single item or a batch that reached its limit it may not sleep: the next send
-    /// may answer `false`, as below. [The whole rule](crate#when-a-receiver-may-sleep).
+    /// not paused answers `woken: true`. After a single item or a batch that reached its limit it may not sleep: the next
+    /// send may answer `woken: false`, as below. [The whole rule](crate#when-a-receiver-may-sleep).
     ///
-    /// Places of items that were taken remain occupied until the receiver releases them, so a send may be refused as
-    /// `Full` after a receive: see [`release_consumed`](Self::release_consumed). After a batch all are free.
+    /// [`Taken::free`] says how many further sends this lane takes with no other call between. Places of items that were
+    /// taken remain occupied until the receiver releases them, so a send may be refused as `Full` after a receive: see
+    /// [`release_consumed`](Self::release_consumed). After a batch all are free.
     ///
     /// # Errors
     ///
@@ -64,12 +66,12 @@ impl Channel {
     /// [`NoSuchSender`](TrySendError::NoSuchSender) when no living sender has this key. Each gives the item back.
     ///
     /// ```
-    /// use proved_fanring::{channel, TrySendError};
+    /// use proved_fanring::{channel, Taken, TrySendError};
     ///
     /// let mut channel = channel(2, 1);
     /// let key = channel.register_sender(1).unwrap();
-    /// assert_eq!(channel.try_send(key, 1), Ok(true));
-    /// assert_eq!(channel.try_send(key, 2), Ok(false));
+    /// assert_eq!(channel.try_send(key, 1), Ok(Taken { woken: true, free: 1 }));
+    /// assert_eq!(channel.try_send(key, 2), Ok(Taken { woken: false, free: 0 }));
     /// assert_eq!(channel.try_send(key, 3), Err(TrySendError::Full(3)));
     /// channel.close_lane(&channel.lane(key)).unwrap();
     /// assert_eq!(channel.try_send(key, 3), Err(TrySendError::Disconnected(3)));
@@ -82,24 +84,25 @@ impl Channel {
     /// ```
     /// let mut channel = proved_fanring::channel(2, 1);
     /// let key = channel.register_sender(1).unwrap();
-    /// assert_eq!(channel.try_send(key, 1), Ok(true));
+    /// assert!(channel.try_send(key, 1).unwrap().woken);
     /// assert!(channel.try_recv().is_ok());
-    /// assert_eq!(channel.try_send(key, 2), Ok(false));
+    /// assert!(!channel.try_send(key, 2).unwrap().woken);
     /// assert!(channel.try_recv().is_ok());
     /// assert!(channel.try_recv().is_err());
-    /// assert_eq!(channel.try_send(key, 3), Ok(true));
+    /// assert!(channel.try_send(key, 3).unwrap().woken);
     /// ```
     #[inline]
-    pub fn try_send(&mut self, key: LaneKey, item: u64) -> Result<bool, TrySendError> {
+    pub fn try_send(&mut self, key: LaneKey, item: u64) -> Result<Taken, TrySendError> {
         match self.stores.try_send(key, item) {
-            Answer::Taken(woken) => Ok(woken),
+            Answer::Taken(taken) => Ok(taken),
             answer => Err(not_sent(answer, item)),
         }
     }
 
     /// Send one item without marking this lane ready.
     ///
-    /// It wakes nobody. A targeted receive finds it; other receives do once the lane is marked or queued, by
+    /// It wakes nobody, and [`Taken::woken`] is `false`; [`Taken::free`] is as of [`try_send`](Self::try_send). A
+    /// targeted receive finds it; other receives do once the lane is marked or queued, by
     /// [`poll_all_lanes`](Self::poll_all_lanes) or by an ordinary send on the same lane.
     ///
     /// # Errors
@@ -107,19 +110,19 @@ impl Channel {
     /// As [`try_send`](Self::try_send).
     ///
     /// ```
-    /// use proved_fanring::{channel, TryRecvError};
+    /// use proved_fanring::{channel, Taken, TryRecvError};
     ///
     /// let mut channel = channel(4, 1);
     /// let key = channel.register_sender(1).unwrap();
-    /// channel.try_send_unsignaled(key, 5).unwrap();
+    /// assert_eq!(channel.try_send_unsignaled(key, 5), Ok(Taken { woken: false, free: 3 }));
     /// assert_eq!(channel.try_recv(), Err(TryRecvError::Empty));
     /// channel.poll_all_lanes().unwrap();
     /// assert_eq!(channel.try_recv(), Ok((channel.lane(key), 5)));
     /// ```
     #[inline]
-    pub fn try_send_unsignaled(&mut self, key: LaneKey, item: u64) -> Result<(), TrySendError> {
+    pub fn try_send_unsignaled(&mut self, key: LaneKey, item: u64) -> Result<Taken, TrySendError> {
         match self.stores.try_send_unsignaled(key, item) {
-            Answer::Taken(_) => Ok(()),
+            Answer::Taken(taken) => Ok(taken),
             answer => Err(not_sent(answer, item)),
         }
     }
