@@ -136,12 +136,12 @@ module _ (t r : List ℕ) where
 
   sent : (s : Sent × List ℕ) → NotRefusedFive (sendSignaled t s)
   unfolding sendSignaled takeSignaled accepted number
-  sent (Sent.Taken l, u) = λ e. no refl (ap accepted e)
+  sent (Sent.Taken l free, u) = λ e. no refl (ap accepted e)
   sent (Sent.Full l, u) = another Refusal.Full refl
 
   sent-unsignaled : (s : Sent × List ℕ) → NotRefusedFive (sendUnsignaled t s)
   unfolding sendUnsignaled accepted number
-  sent-unsignaled (Sent.Taken l, u) = λ e. no refl (ap accepted e)
+  sent-unsignaled (Sent.Taken l free, u) = λ e. no refl (ap accepted e)
   sent-unsignaled (Sent.Full l, u) = another Refusal.Full refl
 
   sender-never : (c : SenderCall) → NotRefusedFive (senderWords t r c)

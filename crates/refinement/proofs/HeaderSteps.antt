@@ -164,12 +164,12 @@ module _ {c : KeptWord} (t : List ℕ) (h : At c t) where
 
   signaled-at : (s : Sent × List ℕ) → At c ((sendSignaled t s) .1)
   unfolding sendSignaled takeSignaled
-  signaled-at (Sent.Taken l, r) = at-marked-if-idle _ (at-put t h (withSender 1 (l .living) l)) l
+  signaled-at (Sent.Taken l free, r) = at-marked-if-idle _ (at-put t h (withSender 1 (l .living) l)) l
   signaled-at (Sent.Full l, r) = h
 
   unsignaled-at : (s : Sent × List ℕ) → At c ((sendUnsignaled t s) .1)
   unfolding sendUnsignaled
-  unsignaled-at (Sent.Taken l, r) = at-put t h l
+  unsignaled-at (Sent.Taken l free, r) = at-put t h l
   unsignaled-at (Sent.Full l, r) = h
 
   dropped-at : (l : Lane) → At c (dropLane t l)

@@ -65,8 +65,8 @@ move-generation (registers-old s m x f e) y k =
     let o = k refl in
     put-generation s x (newLane (s .slotOf x .generation + 1) (s .slotOf x)) y
     (λ p. absurd (no (ap (λ (z : ℕ). s .slotOf z .registered) p ∙ o .1) (o .0 .each-slot x .free-unregistered (omega (arith, ap (count x) e, first-own x f)))))
-move-generation (sends s j v w a r nf) y k = put-generation s (j .slot) _ y (λ p. refl)
-move-generation (posts s j v w a r nf) y k = put-generation s (j .slot) _ y (λ p. refl)
+move-generation (sends s j v w free a r nf) y k = put-generation s (j .slot) _ y (λ p. refl)
+move-generation (posts s j v w free a r nf) y k = put-generation s (j .slot) _ y (λ p. refl)
 move-generation (drops-it s j a) y k = put-generation s (j .slot) _ y (λ p. refl)
 move-generation (pauses-it s i c) y k = put-generation s (i .key .slot) _ y (λ p. refl)
 move-generation (resumes s i c p) y k = put-generation s (i .key .slot) _ y (λ p. refl)
