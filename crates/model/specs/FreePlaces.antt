@@ -14,7 +14,8 @@ use Rattle.model.specs.declared.Call.the-variants.{Sender}
 use Rattle.model.specs.declared.Refusal.the-variants.{Full}
 use Rattle.model.specs.declared.Answer.{Answer}
 use Rattle.model.specs.declared.Answer.the-variants.{Done, Registered, Taken, Item, Items, Empty, Disconnected, Held, Refused}
-use Rattle.model.specs.Runs.{Rules, RunsOf, allRuns, afterList}
+use Rattle.model.specs.Runs.{Rules, RunsOf, allRuns, Tick, ends, trace, afterList}
+use Rattle.model.specs.Demand2.{values, into}
 
 -- "An accepted send, ordinary or unsignalled": what is sent, and how.
 pub data Send : Type 0 where
@@ -56,3 +57,16 @@ FreePlacesIn R runs =
 
 unfoldable pub FreePlaces : Rules → Type 0
 FreePlaces R = FreePlacesIn R (allRuns R)
+
+-- What the number is worth while others go on with their calls: whatever happens after an accepted send that said F, a send to the same lane is refused 11 only if F
+-- more sends to it were accepted before.
+unfoldable pub NotFullBeforeIn : (R : Rules) → RunsOf R → Type 0
+NotFullBeforeIn R runs =
+    (o : Opening) (lent : R .Stores) → (R .opens o lent) .0 ≡ Done
+    → (calls : List Call) → runs o lent calls
+    → (k : LaneKey) (first last : Send) (w : Bool) (F : ℕ) (before since rest : List Tick)
+    → trace R ((R .opens o lent) .1) calls ≡ before ++ (ends (sendTo k first) (Taken w F) ∷ since ++ (ends (sendTo k last) (Refused Full) ∷ rest))
+    → F ≤ length (values (into k) since)
+
+unfoldable pub NotFullBefore : Rules → Type 0
+NotFullBefore R = NotFullBeforeIn R (allRuns R)
