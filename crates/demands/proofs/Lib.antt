@@ -20,6 +20,7 @@ pub mod WaitInMoves
 pub mod FairOnce
 pub mod Demand3
 pub mod EqualTurns
+pub mod FreePlaces
 pub mod Grows
 pub mod Closed
 pub mod Held

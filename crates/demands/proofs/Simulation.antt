@@ -2,7 +2,7 @@
 -- count, and that a closed lane gives nothing more, hold of them; what else does is in Carried.antt.
 -- Assumes nothing.
 use mathlib.Core.Path.{_≡_, refl, ap, sym, _∙_, subst}
-use mathlib.Core.List.{List, [], _∷_, _++_}
+use mathlib.Core.List.{List, [], _∷_, _++_, map}
 use Prim.Native.Nat.{ℕ}
 use native.Mathlib.Omega.{arith}
 use Rattle.model.specs.declared.LaneKey.{LaneKey}
@@ -22,6 +22,7 @@ use Rattle.model.specs.Events.{Event, budgetSet, callEvents, eventsFrom, runEve
 use Rattle.model.specs.Demand2.{Demand2In, Demand2, shuts, values, outOf, into, HandsAsAnswered, HandsAsAnsweredIn}
 use Rattle.model.specs.Demand3.{Demand3In, Demand3}
 use Rattle.model.specs.EqualTurns.{EqualTurnsIn, EqualTurns}
+use Rattle.model.specs.FreePlaces.{sendTo, FreePlacesIn, FreePlaces}
 use Rattle.model.specs.Closed.{NoneAfterCloseIn, NoneAfterClose}
 use Rattle.model.specs.Held.{HeldAsCountedIn, HeldAsCounted}
 use Rattle.model.specs.Wake.{NoLostWakeIn, NoLostWake, NothingWaitsIn, NothingWaits}
@@ -30,6 +31,7 @@ use Rattle.model.specs.Simulation.{runsThatFit, Simulation, numbersOfCall, Fits
 use Rattle.demands.proofs.Demand2.{demand2}
 use Rattle.demands.proofs.Demand3.{demand3}
 use Rattle.demands.proofs.EqualTurns.{equal-turns}
+use Rattle.demands.proofs.FreePlaces.{free-places}
 use Rattle.demands.proofs.Closed.{none-after-close}
 use Rattle.demands.proofs.InOrder.{call-keeps-order, opening-in-order}
 use Rattle.demands.proofs.Held.{held-as-counted}
@@ -108,6 +110,20 @@ module _ (W : Viewed) (sim : Simulation W) where
   transfer-turns h o lent d calls f before soFar rest e =
       h o (R .lengths lent) (accepted-too o lent d) calls tt before soFar rest (sym (opened-trace o lent d calls f) ∙ e)
 
+  transfer-free : FreePlaces theRules → FreePlacesIn R (W .runs)
+  unfolding FreePlaces FreePlacesIn
+  transfer-free h o lent d calls k first further last f w F e =
+      let opened = (R .opens o lent) .1 in
+      let in-order = sim .opens-ok o lent _ f d in
+      let s = afterList R opened calls in
+      let sent = sendTo k first ∷ map (sendTo k) further in
+      let there = ok-after opened calls in-order in
+      let seen : W .view s ≡ afterList theRules ((theRules .opens o (R .lengths lent)) .1) calls =
+      same-after opened calls in-order ∙ ap (λ (x : State). afterList theRules x calls) (sim .opens-view o lent d)
+      in rw (sim .answers-alike (afterList R s sent) (sendTo k last) (ok-after s sent there), same-after s sent there, seen)
+      (h o (R .lengths lent) (accepted-too o lent d) calls k first further last tt w F
+      (ap (λ (x : State). (theRules .step x (sendTo k first)) .0) (sym seen) ∙ sym (sim .answers-alike s (sendTo k first) there) ∙ e))
+
   transfer-closed : NoneAfterClose theRules → NoneAfterCloseIn R (W .runs)
   unfolding NoneAfterClose NoneAfterCloseIn
   transfer-closed h o lent d calls f before rest i e = h o (R .lengths lent) (accepted-too o lent d) calls tt before rest i (sym (opened-trace o lent d calls f) ∙ e)
@@ -144,6 +160,9 @@ words-demand3 W sim = transfer3 W sim demand3
 
 pub words-equal-turns : (W : Viewed) → Simulation W → EqualTurnsIn (W .rules) (W .runs)
 words-equal-turns W sim = transfer-turns W sim equal-turns
+
+pub words-free-places : (W : Viewed) → Simulation W → FreePlacesIn (W .rules) (W .runs)
+words-free-places W sim = transfer-free W sim free-places
 
 pub words-demand2 : (W : Viewed) → Simulation W → Demand2In (W .rules) (W .runs) (λ s. ringOf (W .view s))
 words-demand2 W sim = transfer2 W sim ringOf demand2
