@@ -73,23 +73,23 @@ fits-pop s x v vs m p r e u f = go (eqb (s .slotOf x .unreleased + 1) (releaseBa
 new-lane-fits : (c g : ℕ) (l : Slot) → 1 ≤ c → LaneFits c (newLane g l)
 new-lane-fits c g l h = record { inside = omega arith; below-batch = omega (arith, batch-pos c h) }
 
-queue-lane-room : (b : Bool) (x : ℕ) (s : State) → ((queueLaneIf b x s) .slotOf x .ring ≡ s .slotOf x .ring) × ((queueLaneIf b x s) .slotOf x .unreleased ≡ s .slotOf x .unreleased) × ((queueLaneIf b x s) .capacity ≡ s .capacity)
+pub queue-lane-room : (b : Bool) (x : ℕ) (s : State) → ((queueLaneIf b x s) .slotOf x .ring ≡ s .slotOf x .ring) × ((queueLaneIf b x s) .slotOf x .unreleased ≡ s .slotOf x .unreleased) × ((queueLaneIf b x s) .capacity ≡ s .capacity)
 unfolding queueLaneIf
 queue-lane-room true x s = (rw (self x), rw (self x), refl)
 queue-lane-room false x s = (refl, refl, refl)
 
-credited-less : (l : Slot) → (credited l) .unreleased ≤ l .unreleased
+pub credited-less : (l : Slot) → (credited l) .unreleased ≤ l .unreleased
 credited-less l = less (l .registered) (l .unreleased)
   where
     less : (b : Bool) (n : ℕ) → if b 0 n ≤ n
     less true n = omega arith
     less false n = omega arith
 
-retire-lane-capacity : (x : ℕ) (s : State) → (retireLane x s) .capacity ≡ s .capacity
+pub retire-lane-capacity : (x : ℕ) (s : State) → (retireLane x s) .capacity ≡ s .capacity
 unfolding retireLane
 retire-lane-capacity x s = refl
 
-give-item-capacity : (p : State) (y : ℕ) (q vs : List ℕ) (back : Bool) → (giveItem p y q vs back) .capacity ≡ p .capacity
+pub give-item-capacity : (p : State) (y : ℕ) (q vs : List ℕ) (back : Bool) → (giveItem p y q vs back) .capacity ≡ p .capacity
 unfolding giveItem
 give-item-capacity p y q vs back = refl
 

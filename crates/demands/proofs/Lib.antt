@@ -52,3 +52,4 @@ pub mod BatchLoop
 pub mod Wake
 pub mod Keys
 pub mod Credit
+pub mod NotFull

@@ -27,6 +27,7 @@ use Rattle.model.specs.Closed.{NoneAfterCloseIn, NoneAfterClose}
 use Rattle.model.specs.Held.{HeldAsCountedIn, HeldAsCounted}
 use Rattle.model.specs.Wake.{NoLostWakeIn, NoLostWake, NothingWaitsIn, NothingWaits}
 use Rattle.model.specs.Keys.{KeysNeverAgainIn, KeysNeverAgain, IssuedAsAnsweredIn, IssuedAsAnswered}
+use Rattle.model.specs.FreePlaces.{NotFullBeforeIn, NotFullBefore}
 use Rattle.model.specs.Simulation.{runsThatFit, Simulation, numbersOfCall, Fits, CallFits}
 use Rattle.demands.proofs.Demand2.{demand2}
 use Rattle.demands.proofs.Demand3.{demand3}
@@ -38,6 +39,7 @@ use Rattle.demands.proofs.Held.{held-as-counted}
 use Rattle.demands.proofs.HandsAsAnswered.{hands-as-answered}
 use Rattle.demands.proofs.Wake.{no-lost-wake, nothing-waits}
 use Rattle.demands.proofs.Keys.{keys-never-again, issued-as-answered}
+use Rattle.demands.proofs.NotFull.{not-full-before}
 
 -- two states are equal if their parts are, the slots one by one
 pub state-path : (s u : State) → ((y : ℕ) → s .slotOf y ≡ u .slotOf y) → s .queue ≡ u .queue → s .free ≡ u .free → s .issued ≡ u .issued → s .budget ≡ u .budget → s .cursor ≡ u .cursor
@@ -229,6 +231,11 @@ module _ (W : Viewed) (sim : Simulation W) where
   transfer-keys h o lent d calls f before rest c k e =
       h o (W .rules .lengths lent) (accepted-too W sim o lent d) calls tt before rest c k (sym (opened-trace W sim o lent d calls f) ∙ e)
 
+  transfer-not-full : NotFullBefore theRules → NotFullBeforeIn (W .rules) (W .runs)
+  unfolding NotFullBefore NotFullBeforeIn
+  transfer-not-full h o lent d calls f k first last w F before since rest e =
+      h o (W .rules .lengths lent) (accepted-too W sim o lent d) calls tt k first last w F before since rest (sym (opened-trace W sim o lent d calls f) ∙ e)
+
   transfer-issued : (issuedOf : State → ℕ) → IssuedAsAnswered theRules issuedOf → IssuedAsAnsweredIn (W .rules) (W .runs) (λ s. issuedOf (W .view s))
   unfolding IssuedAsAnswered IssuedAsAnsweredIn
   transfer-issued issuedOf h o lent d calls f =
@@ -245,3 +252,6 @@ words-keys-never-again W sim = transfer-keys W sim keys-never-again
 
 pub words-issued-as-answered : (W : Viewed) → Simulation W → IssuedAsAnsweredIn (W .rules) (W .runs) (λ s. W .view s .issued)
 words-issued-as-answered W sim = transfer-issued W sim (λ s. s .issued) issued-as-answered
+
+pub words-not-full-before : (W : Viewed) → Simulation W → NotFullBeforeIn (W .rules) (W .runs)
+words-not-full-before W sim = transfer-not-full W sim not-full-before
