@@ -1,6 +1,6 @@
 -- What is claimed of the checked calls: of each on any two stores, and of lists of them from an accepted opening on.
--- Most claims are crate `model`'s (its specs/Demand2.antt, Demand3.antt, EqualTurns.antt, Closed.antt, Held.antt, Wake.antt, Keys.antt), here of the words that the
--- calls' contracts name; others are crate `refinement`'s (its specs/RulesOnWords.antt, AsRules.antt).
+-- Most claims are crate `model`'s (its specs/Demand2.antt, Demand3.antt, EqualTurns.antt, FreePlaces.antt, Closed.antt, Held.antt, Wake.antt, Keys.antt), here of
+-- the words that the calls' contracts name; others are crate `refinement`'s (its specs/RulesOnWords.antt, AsRules.antt).
 -- Assumes nothing.
 use mathlib.Core.Path.{_≡_}
 use mathlib.Core.List.{List, map}
@@ -15,6 +15,7 @@ use Rattle.model.specs.Simulation.{runsThatFit}
 use Rattle.model.specs.Demand2.{Demand2In, HandsAsAnsweredIn}
 use Rattle.model.specs.Demand3.{Demand3In}
 use Rattle.model.specs.EqualTurns.{EqualTurnsIn}
+use Rattle.model.specs.FreePlaces.{FreePlacesIn, NotFullBeforeIn}
 use Rattle.model.specs.Closed.{NoneAfterCloseIn}
 use Rattle.model.specs.Held.{HeldAsCountedIn}
 use Rattle.model.specs.Wake.{NoLostWakeIn, NothingWaitsIn}
@@ -86,6 +87,14 @@ LanesWaitBounded = Demand3In theCalls runs
 -- differ by at most one at every moment"
 abbrev pub LanesShareEqually : Type 0
 LanesShareEqually = EqualTurnsIn theCalls runs
+
+-- document 02, N1: an accepted send says "how many further sends the ring would take with no other call between"
+abbrev pub FreePlacesSaid : Type 0
+FreePlacesSaid = FreePlacesIn theCalls runs
+
+-- and with other calls between, a send to the lane is refused 11 only once so many more were accepted
+abbrev pub NotFullBefore : Type 0
+NotFullBefore = NotFullBeforeIn theCalls runs
 
 -- "closed by an accepted `close_lane`, after which none of its items is handed out"
 abbrev pub NoneAfterClose : Type 0

@@ -13,6 +13,8 @@ pub mod Stretch
 pub mod OtherLanes
 pub mod EqualTurns
 pub mod Uneven
+pub mod FreePlaces
+pub mod OtherNumbers
 pub mod ReceivesEnd
 pub mod BudgetAfterNothing
 pub mod WhileMarked

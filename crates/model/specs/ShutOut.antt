@@ -1,11 +1,11 @@
 -- Wrong rules, each document 01's but for one call: those that document 01 says demands 2 and 3 shut out.
--- That a demand does not hold of them is in crates/demands/proofs/ShutOut.antt. Three more are shut out by what is claimed beside the demands.
+-- That a demand does not hold of them is in crates/demands/proofs/ShutOut.antt. More are shut out by what is claimed beside the demands.
 -- Assumes nothing.
-use mathlib.Core.Bool.{false, not}
+use mathlib.Core.Bool.{Bool, true, false, not}
 use mathlib.Core.List.{List, [], _∷_, _++_}
 use Prim.Native.Nat.{ℕ, suc}
 use lib.ListN.{length}
-use lib.Dec.{ltb}
+use lib.Dec.{ltb, leb}
 use Rattle.model.specs.declared.LaneKey.{LaneKey}
 use Rattle.model.specs.declared.SenderCall.{SenderCall}
 use Rattle.model.specs.declared.SenderCall.the-variants.{RegisterSender, TrySend, TrySendUnsignaled, DropSender}
@@ -17,17 +17,18 @@ use Rattle.model.specs.declared.Call.{Call}
 use Rattle.model.specs.declared.Call.the-variants.{Sender, Receive, Control}
 use Rattle.model.specs.declared.Refusal.the-variants.{ReceiverClosed, OutputShort, Full}
 use Rattle.model.specs.declared.Answer.the-variants.{Registered, Taken, Items, Held, Refused}
-use Rattle.model.specs.Lists.{if}
+use Rattle.model.specs.Lists.{if, both}
 use Rattle.model.specs.State.{State, keyOf, freePlaces}
 use Rattle.model.specs.Changes.{withQueue, withFree, withBudget, put, newLane}
 use Rattle.model.specs.Ready.{collectReady}
 use Rattle.model.specs.Turn.{runDown, giveFront, polled}
 use Rattle.model.specs.Outcome.{Outcome, says, unless}
 use Rattle.model.specs.Runs.{Lent, Rules, accepted}
-use Rattle.model.specs.Sender.{issueSlot, registerSender, trySend, senderOutcome}
+use Rattle.model.specs.Sender.{issueSlot, registerSender, trySend, trySendUnsignaled, senderOutcome}
 use Rattle.model.specs.Receive.{answerOne, takeUpTo, releaseAll, answerItems, writtenTo, receiveOutcome}
 use Rattle.model.specs.Control.{controlOutcome}
 use Rattle.model.specs.Opening.{openingOutcome}
+use Rattle.model.specs.Wake.{saysWoken}
 
 -- Rules with these outcomes of the sender calls, the receives and the other calls.
 unfoldable pub callBy : (State → SenderCall → Outcome) → (State → ReceiveCall → Outcome) → (State → ControlCall → Outcome) → State → Call → Outcome
@@ -188,3 +189,44 @@ receiveTurnsRound s (TryRecvBatchInto limit room) = receiveOutcome s (TryRecvBat
 
 abbrev pub targetedTurnsRound : Rules
 targetedTurnsRound = rulesBy senderOutcome receiveTurnsRound controlOutcome
+
+-- `FreePlaces` shuts out sends that say another number (specs/Examples/OtherNumbers.antt). What they leave is right; the number goes by whether the send marks, the
+-- state after it, and the slot.
+abbrev pub Number : Type 0
+Number = Bool → State → ℕ → ℕ
+
+unfoldable pub saidInstead : Number → Bool → ℕ → Outcome → Outcome
+saidInstead f marks x o = let a = o .1 .0 in (o .0, (if (accepted a) (Taken (saysWoken a) (f marks (o .1 .1) x)) a, o .1 .1))
+
+unfoldable pub sendSaying : Number → State → SenderCall → Outcome
+sendSaying f s (TrySend k v) = saidInstead f true (k .slot) (trySend s k v)
+sendSaying f s (TrySendUnsignaled k v) = saidInstead f false (k .slot) (trySendUnsignaled s k v)
+sendSaying f s (RegisterSender most) = senderOutcome s (RegisterSender most)
+sendSaying f s (DropSender k) = senderOutcome s (DropSender k)
+
+abbrev pub sendsSay : Number → Rules
+sendsSay f = rulesBy (sendSaying f) receiveOutcome controlOutcome
+
+-- Refused as full instead of taken, where a test of the lane says so.
+unfoldable pub fullIf : Bool → State → Outcome → Outcome
+fullIf b s o = if (both b (accepted (o .1 .0))) (says (Refused Full) s) o
+
+-- An unsignalled send that leaves the last place to an ordinary one.
+unfoldable pub sendKeepsPlace : State → SenderCall → Outcome
+sendKeepsPlace s (TrySendUnsignaled k v) = fullIf (leb (freePlaces s (k .slot)) 1) s (trySendUnsignaled s k v)
+sendKeepsPlace s (TrySend k v) = senderOutcome s (TrySend k v)
+sendKeepsPlace s (RegisterSender most) = senderOutcome s (RegisterSender most)
+sendKeepsPlace s (DropSender k) = senderOutcome s (DropSender k)
+
+abbrev pub keepsLastPlace : Rules
+keepsLastPlace = rulesBy sendKeepsPlace receiveOutcome controlOutcome
+
+-- `NotFullBefore` shuts out a send that is refused as full while its lane is paused.
+unfoldable pub sendFullPaused : State → SenderCall → Outcome
+sendFullPaused s (TrySend k v) = fullIf (s .slotOf (k .slot) .paused) s (trySend s k v)
+sendFullPaused s (TrySendUnsignaled k v) = senderOutcome s (TrySendUnsignaled k v)
+sendFullPaused s (RegisterSender most) = senderOutcome s (RegisterSender most)
+sendFullPaused s (DropSender k) = senderOutcome s (DropSender k)
+
+abbrev pub pausedIsFull : Rules
+pausedIsFull = rulesBy sendFullPaused receiveOutcome controlOutcome

@@ -1,6 +1,6 @@
 -- What is claimed of lists of calls on the two stores, made from an opening on, each on the words as the last one left them.
--- The claims are crate `model`'s (its specs/Demand1.antt, Demand2.antt, Demand3.antt, EqualTurns.antt, Closed.antt, Held.antt, Wake.antt, Keys.antt), here of the
--- words that the calls' contracts name.
+-- The claims are crate `model`'s (its specs/Demand1.antt, Demand2.antt, Demand3.antt, EqualTurns.antt, FreePlaces.antt, Closed.antt, Held.antt, Wake.antt,
+-- Keys.antt), here of the words that the calls' contracts name.
 -- Assumes nothing.
 use mathlib.Core.Bool.{cond}
 use mathlib.Core.List.{List, []}
@@ -12,6 +12,7 @@ use Rattle.model.specs.Simulation.{runsThatFit}
 use Rattle.model.specs.Demand2.{Demand2In, HandsAsAnsweredIn}
 use Rattle.model.specs.Demand3.{Demand3In}
 use Rattle.model.specs.EqualTurns.{EqualTurnsIn}
+use Rattle.model.specs.FreePlaces.{FreePlacesIn, NotFullBeforeIn}
 use Rattle.model.specs.Closed.{NoneAfterCloseIn}
 use Rattle.model.specs.Held.{HeldAsCountedIn}
 use Rattle.model.specs.Wake.{NoLostWakeIn, NothingWaitsIn}
@@ -57,6 +58,14 @@ LanesWaitBounded = Demand3In theStores runs
 -- differ by at most one at every moment"
 abbrev pub LanesShareEqually : Type 0
 LanesShareEqually = EqualTurnsIn theStores runs
+
+-- document 02, N1: an accepted send says "how many further sends the ring would take with no other call between"
+abbrev pub FreePlacesSaid : Type 0
+FreePlacesSaid = FreePlacesIn theStores runs
+
+-- and with other calls between, a send to the lane is refused 11 only once so many more were accepted
+abbrev pub NotFullBefore : Type 0
+NotFullBefore = NotFullBeforeIn theStores runs
 
 -- "closed by an accepted `close_lane`, after which none of its items is handed out"
 abbrev pub NoneAfterClose : Type 0

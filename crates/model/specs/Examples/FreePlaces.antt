@@ -1,0 +1,71 @@
+-- The words of the claims on free places, computed.
+-- Assumes nothing.
+use mathlib.Core.Path.{_≡_, refl}
+use mathlib.Core.Bool.{Bool, true, false}
+use mathlib.Core.List.{List, [], _∷_, _++_, map}
+use Prim.Native.Nat.{ℕ}
+use Rattle.model.specs.declared.LaneKey.{LaneKey}
+use Rattle.model.specs.declared.LaneId.{LaneId}
+use Rattle.model.specs.declared.SenderCall.the-variants.{TrySend, TrySendUnsignaled}
+use Rattle.model.specs.declared.Call.{Call}
+use Rattle.model.specs.declared.Call.the-variants.{Sender}
+use Rattle.model.specs.declared.Refusal.the-variants.{NoSuchSender, Full}
+use Rattle.model.specs.declared.Answer.{Answer}
+use Rattle.model.specs.declared.Answer.the-variants.{Done, Registered, Taken, Item, Items, Empty, Disconnected, Held, Refused}
+use Rattle.model.specs.State.{State}
+use Rattle.model.specs.Runs.{answers, afterList}
+use Rattle.model.specs.Opening.{openedState}
+use Rattle.model.specs.Rules.{theRules}
+use Rattle.model.specs.FreePlaces.{Send, ordinary, unsignalled, sendTo, takenWith}
+use Rattle.model.specs.Examples.Pairs.{Reads}
+use Rattle.model.specs.Examples.Example.{computeExamples, keyAt, idAt, registers, sends, sendsUnsignalled, plain, batch, pauses}
+use Rattle.model.specs.Examples.Calls.{compute}
+
+-- a send of either kind, to the lane with the key
+sends-read : Reads (sendTo (keyAt 3 8)) ((ordinary 5, Sender (TrySend (keyAt 3 8) 5)) ∷ (unsignalled 6, Sender (TrySendUnsignaled (keyAt 3 8) 6)) ∷ [])
+unfolding sendTo
+sends-read = refl
+
+-- only an accepted send's answer, with just this number
+taken-read :
+    Reads (takenWith 2)
+    ((Taken true 2, true)
+    ∷ (Taken false 2, true)
+    ∷ (Taken true 1, false)
+    ∷ (Taken false 3, false)
+    ∷ (Done, false)
+    ∷ (Registered (keyAt 2 2), false)
+    ∷ (Item 2 (idAt 2 2), false)
+    ∷ (Items 2, false)
+    ∷ (Empty, false)
+    ∷ (Disconnected, false)
+    ∷ (Held 2, false)
+    ∷ (Refused Full, false)
+    ∷ (Refused NoSuchSender, false)
+    ∷ [])
+unfolding computeExamples takenWith
+taken-read = refl
+
+-- four places; what six sends of both kinds answer after these calls, the first of them ordinary or not
+sixMore : List Call
+sixMore = map (sendTo (keyAt 0 0)) (unsignalled 5 ∷ ordinary 6 ∷ ordinary 7 ∷ unsignalled 8 ∷ ordinary 9 ∷ unsignalled 10 ∷ [])
+
+answersAfter : List Call → List Answer
+answersAfter calls =
+    let s = afterList theRules (openedState record { capacity = 4; slots = 2; channel = 7; cursor = 0; generation = 0 }) (registers ∷ registers ∷ calls) in answers theRules s sixMore
+
+so-many-read :
+    Reads answersAfter
+    (([], Taken false 3 ∷ Taken true 2 ∷ Taken false 1 ∷ Taken false 0 ∷ Refused Full ∷ Refused Full ∷ [])
+    -- items in the ring, of both kinds
+    ∷ (sends 0 1 ∷ sendsUnsignalled 0 2 ∷ [], Taken false 1 ∷ Taken false 0 ∷ Refused Full ∷ Refused Full ∷ Refused Full ∷ Refused Full ∷ [])
+    -- items taken whose credit is not back
+    ∷ (sends 0 1 ∷ sends 0 2 ∷ plain ∷ plain ∷ [], Taken false 1 ∷ Taken false 0 ∷ Refused Full ∷ Refused Full ∷ Refused Full ∷ Refused Full ∷ [])
+    -- and where it is: by a batch, by a pause
+    ∷ (sends 0 1 ∷ sends 0 2 ∷ batch 1 1 ∷ [], Taken false 2 ∷ Taken false 1 ∷ Taken false 0 ∷ Refused Full ∷ Refused Full ∷ Refused Full ∷ [])
+    ∷ (sends 0 1 ∷ sends 0 2 ∷ plain ∷ pauses 0 ∷ [], Taken false 2 ∷ Taken false 1 ∷ Taken false 0 ∷ Refused Full ∷ Refused Full ∷ Refused Full ∷ [])
+    -- another lane's items take no place
+    ∷ (sends 1 1 ∷ sends 1 2 ∷ plain ∷ [], Taken false 3 ∷ Taken true 2 ∷ Taken false 1 ∷ Taken false 0 ∷ Refused Full ∷ Refused Full ∷ [])
+    ∷ [])
+unfolding compute computeExamples answers afterList sendTo sixMore answersAfter
+so-many-read = refl
