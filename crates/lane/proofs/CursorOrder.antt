@@ -105,16 +105,3 @@ module _ (C tail released head known : ℕ) (small : C ≤ 65536) (o : Cursors C
         tail-on = o .tail-on;
         tail-within = known-is-tail .known-on;
       }
-
--- the places that are free after one more item, where the ring is not full
-pub free-is : (C tail released : ℕ) → C ≤ 65536 → tail < 2 ^ 64 → released < 2 ^ 64 → distance tail released ≤ C → (distance tail released ≡ C → ⊥)
-    → distance C (distance (after tail 1) released) ≡ C - (distance tail released + 1)
-free-is C tail released small t r h n =
-    let whole : distance (after tail 1) released ≡ distance tail released + 1 = behind-after tail released 1 t r (room small h) in
-    rw whole (less (distance tail released) small h n)
-  where
-    room : {d : ℕ} → C ≤ 65536 → d ≤ C → d + 1 < 2 ^ 64
-    room s k = omega arith
-
-    less : (d : ℕ) → C ≤ 65536 → d ≤ C → (d ≡ C → ⊥) → distance C (d + 1) ≡ C - (d + 1)
-    less d s k m = omega arith

@@ -33,9 +33,8 @@ use Rattle.lane.specs.Lane.{withCursors, heldItems, sent, pushAndFlushItem}
 use Rattle.lane.specs.Order.{InOrder, sentLane}
 use Rattle.lane.specs.Table.{head, laneAt, putLane}
 use Rattle.lane.proofs.TableLaws.{frames, slot-of-lane}
-use Rattle.yring.proofs.RingLaws.{length-items}
+use Rattle.yring.proofs.RingLaws.{length-items, free-after-is}
 use Rattle.lane.proofs.OrderLaws.{push-and-flush-keeps}
-use Rattle.lane.proofs.CursorOrder.{free-is}
 use Rattle.queues.specs.Header.{issued, slots, budget, capacity}
 use Rattle.queues.specs.Queue.{queueOf}
 use Rattle.ready.specs.Ready.{pageBit}
@@ -162,7 +161,7 @@ module _ (t r : List ℕ) (k : LaneKey) (v : ℕ) (o : Stores t r) (p : Sends t 
     free-alike : (z : Slot) → z .ring ≡ s .slotOf x .ring ++ (v ∷ []) → z .unreleased ≡ s .slotOf x .unreleased → free ≡ freePlaces (put x z s) x
     unfolding freePlaces view slotAt heldItems
     free-alike z e f =
-        free-is C (l .tail) (l .released) (o .power .most) (order .cursors .tail-u64) (order .cursors .released-u64) (order .cursors .tail-within) n
+        free-after-is (newRing x C) (l .tail) (l .released) (o .power .most) (order .cursors .tail-within)
         ∙ rw (eq-eqb x x refl, e, f, slot-in t r x is-issued, length-append, length-items (newRing x C) r (l .head) (distance (l .tail) (l .head)), span-is C (o .power .most) l order) (omega arith)
 
     signaled-view : let u = put x (rules.signalled (rules.pushed v (s .slotOf x))) s in

@@ -8,8 +8,8 @@ use native.Mathlib.Omega.{arith}
 use lib.Arith.{digits-div}
 use lib.ListN.{length, getD, set, drop, List·getD-append}
 use Rattle.yring.specs.Lists.{tab, written}
-use Rattle.yring.specs.Cursor.{after, Capacity}
-use Rattle.yring.specs.Ring.{Within, newRing, index, itemAt, items, run}
+use Rattle.yring.specs.Cursor.{after, distance, Capacity}
+use Rattle.yring.specs.Ring.{Within, newRing, index, itemAt, items, run, freeAfter}
 use Rattle.yring.specs.declared.ring.Ring.{Ring}
 use Rattle.yring.proofs.ListLaws.{length-tab, tab-ext, tab-self, tab-add, tab-out, tab-push, tab-more, tab-pop, apart, written-step, written-twice}
 use Rattle.yring.proofs.CursorLaws.{wraps, some}
@@ -139,3 +139,11 @@ module _ (ring : Ring) (k : Capacity (ring .capacity)) (store : List ℕ) (head 
       let l : length ws ≡ m = length-run store (index ring head) m in
       q ∙ ap (λ (x : List ℕ). written x (at + m) vs) (p ∙ ap (λ (x : ℕ). written o at (run store x m)) f) ∙ ap (λ (x : ℕ). written (written o at ws) (at + x) vs) (sym l)
       ∙ written-twice o ws vs at (rw l r) ∙ ap (written o at) (sym two-runs)
+
+-- the places that a push leaves free: within the ring nothing wraps
+pub free-after-is : (ring : Ring) (cursor released : ℕ) → ring .capacity ≤ 65536 → distance cursor released ≤ ring .capacity
+    → freeAfter ring cursor released ≡ ring .capacity - (distance cursor released + 1)
+free-after-is ring cursor released small h = go (ring .capacity) (distance cursor released) small h
+  where
+    go : (C d : ℕ) → C ≤ 65536 → d ≤ C → distance C d - 1 ≡ C - (d + 1)
+    go C d s k = omega arith

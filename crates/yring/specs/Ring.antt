@@ -2,7 +2,7 @@
 -- Assumes nothing.
 use mathlib.Core.Bool.{cond}
 use mathlib.Core.List.{List}
-use Prim.Native.Nat.{ℕ, _+_, _*_, _%_, _≤_}
+use Prim.Native.Nat.{ℕ, _+_, _-_, _*_, _%_, _≤_}
 use lib.Dec.{eqb}
 use lib.ListN.{getD, set}
 use Rattle.yring.specs.Lists.{tab, written}
@@ -32,10 +32,10 @@ itemAt ring store cursor = getD store (index ring cursor) 0
 unfoldable pub items : Ring → List ℕ → ℕ → ℕ → List ℕ
 items ring store head n = tab n (λ i. itemAt ring store (after head i))
 
--- Document 02, N1: "how many further sends the ring would take", once an item is pushed at the cursor: C less the next cursor's wrapped distance from the released
--- head.
+-- Document 02, N1: "how many further sends the ring would take", once an item is pushed at the cursor: C less the cursor's wrapped distance from the released head,
+-- less the place that the item takes.
 abbrev pub freeAfter : Ring → ℕ → ℕ → ℕ
-freeAfter ring cursor released = distance (ring .capacity) (distance (after cursor 1) released)
+freeAfter ring cursor released = distance (ring .capacity) (distance cursor released) - 1
 
 -- "push refuses exactly if the cursor's wrapped distance from the released head is C; flush publishes everything pushed"
 unfoldable pub pushItem : Ring → List ℕ → ℕ → ℕ → ℕ → Push × List ℕ

@@ -32,6 +32,13 @@ pub fn after(cursor: u64, n: u64) -> u64
     std::num::wrapping_add_u64(cursor, n)
 }
 
+// How many places are free where so many are taken; none exactly if all are taken.
+fn free_places(capacity: u64, taken: u64) -> u64
+    ensures { λ r. ⌜ (r ≡ distance capacity taken) × (r ≡ 0 → taken ≡ capacity) ⌝ }
+{
+    distance(capacity, taken)
+}
+
 impl Ring {
     // The ring of a slot.
     pub fn new(slot: u64, capacity: u64) -> Self
@@ -58,13 +65,13 @@ impl Ring {
     pub fn push(self, cursor: u64, released: u64) -> Push
         ensures { λ r. ⌜ r ≡ push self cursor released ⌝ }
     {
-        if distance(cursor, released) == self.capacity {
+        let free = free_places(self.capacity, distance(cursor, released));
+        if free == 0 {
             return Push::Full;
         }
-        let next = after(cursor, 1);
         Push::Pushed {
-            cursor: next,
-            free: distance(self.capacity, distance(next, released)),
+            cursor: after(cursor, 1),
+            free: free - 1,
         }
     }
 
