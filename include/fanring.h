@@ -30,9 +30,9 @@
    that goes back; after a batch or release_consumed, all of it has: that is when to try again.
 
    FREE PLACES. A send that is taken answers how many further sends, of either kind, this lane takes with no other call between; the one after them is
-   refused 11. It is C less the items in the ring and the items handed out whose credit has not gone back, so a receive does not always raise it. Calls
-   between other than this lane's sends can only raise it, but for a drop or a close: sends are then refused 10 or 12. So a send is refused 11 only where
-   the last one taken answered 0, and a sender can slow down before that: examples/c/belt.c.
+   refused 11. It is C less the items in the ring and the items handed out whose credit has not gone back, so a receive does not always raise it. Whatever
+   calls come between, no send to the lane is refused 11 before so many more were taken. So one is refused 11 only where the last one taken answered 0, and
+   a sender can slow down before that: examples/c/belt.c.
 
    WHAT EVERY CALL RELIES ON. Each pointer is to as many words as its length says, `words` to FANRING_WORDS, aligned as uint64_t is; it is not NULL, also
    where the length is 0. `table`, `rings`, `out` and `words` do not overlap. Nothing else uses them during the call: one call at a time on a pair of

@@ -95,7 +95,9 @@
 //! - the items handed out of a lane that was never closed, and then those in its ring, are its accepted sends, in
 //!   order (`items-in-order`);
 //! - a lane that has an item, sent by [`Channel::try_send`], and is neither paused nor closed waits for a bounded
-//!   number of other lanes' items (`lanes-wait-bounded`).
+//!   number of other lanes' items (`lanes-wait-bounded`);
+//! - an accepted send says how many further sends its lane takes with no other call between (`free-places-said`), and
+//!   whatever calls come between, none is refused as full before so many more were accepted (`not-full-before`).
 //!
 //! This crate itself is Rust and is not proved: it makes the two stores, passes numbers on, and reads the answer.
 //! That the calls' one premise holds is argued at [`Channel`].
