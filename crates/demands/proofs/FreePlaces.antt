@@ -2,7 +2,7 @@
 -- Assumes nothing.
 use mathlib.Core.Path.{_≡_, refl, sym, ap, _∙_, subst}
 use mathlib.Core.Bool.{Bool, true, false, not}
-use mathlib.Core.List.{List, [], _∷_, _++_, map}
+use mathlib.Core.List.{List, [], _∷_, map}
 use Prim.Native.Nat.{ℕ, zero, suc, _+_, _-_, _<_, _≤_}
 use native.Mathlib.Omega.{arith}
 use lib.ListN.{length, length-append}
@@ -14,7 +14,7 @@ use Rattle.model.specs.declared.Refusal.the-variants.{NoSuchSender, LaneClosed,
 use Rattle.model.specs.declared.Answer.{Answer}
 use Rattle.model.specs.declared.Answer.the-variants.{Done, Registered, Taken, Item, Items, Empty, Disconnected, Held, Refused}
 use Rattle.model.specs.Lists.{both}
-use Rattle.model.specs.State.{Slot, State, senderLives, isFull, freePlaces}
+use Rattle.model.specs.State.{State, senderLives, isFull, freePlaces}
 use Rattle.model.specs.Changes.{put, signalled, pushed}
 use Rattle.model.specs.Outcome.{Outcome, unless}
 use Rattle.model.specs.Runs.{accepted, afterList}

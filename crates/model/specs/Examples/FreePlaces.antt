@@ -1,22 +1,18 @@
 -- The words of the claims on free places, computed.
 -- Assumes nothing.
-use mathlib.Core.Path.{_≡_, refl}
-use mathlib.Core.Bool.{Bool, true, false}
-use mathlib.Core.List.{List, [], _∷_, _++_, map}
-use Prim.Native.Nat.{ℕ}
-use Rattle.model.specs.declared.LaneKey.{LaneKey}
-use Rattle.model.specs.declared.LaneId.{LaneId}
+use mathlib.Core.Path.{refl}
+use mathlib.Core.Bool.{true, false}
+use mathlib.Core.List.{List, [], _∷_, map}
 use Rattle.model.specs.declared.SenderCall.the-variants.{TrySend, TrySendUnsignaled}
 use Rattle.model.specs.declared.Call.{Call}
 use Rattle.model.specs.declared.Call.the-variants.{Sender}
 use Rattle.model.specs.declared.Refusal.the-variants.{NoSuchSender, Full}
 use Rattle.model.specs.declared.Answer.{Answer}
 use Rattle.model.specs.declared.Answer.the-variants.{Done, Registered, Taken, Item, Items, Empty, Disconnected, Held, Refused}
-use Rattle.model.specs.State.{State}
 use Rattle.model.specs.Runs.{answers, afterList}
 use Rattle.model.specs.Opening.{openedState}
 use Rattle.model.specs.Rules.{theRules}
-use Rattle.model.specs.FreePlaces.{Send, ordinary, unsignalled, sendTo, takenWith}
+use Rattle.model.specs.FreePlaces.{ordinary, unsignalled, sendTo, takenWith}
 use Rattle.model.specs.Examples.Pairs.{Reads}
 use Rattle.model.specs.Examples.Example.{computeExamples, keyAt, idAt, registers, sends, sendsUnsignalled, plain, batch, pauses}
 use Rattle.model.specs.Examples.Calls.{compute}

@@ -2,20 +2,18 @@
 -- Assumes nothing.
 use mathlib.Core.Path.{_≡_, refl, sym, ap}
 use mathlib.Core.Bool.{Bool, true, false}
-use mathlib.Core.List.{List, [], _∷_, map}
+use mathlib.Core.List.{List, [], _∷_}
 use Prim.Native.Nat.{ℕ, _+_, _-_, _≤_}
 use native.Mathlib.Omega.{arith}
 use lib.ListN.{length, take, drop}
 use Rattle.model.specs.declared.Opening.{Opening}
 use Rattle.model.specs.declared.Call.{Call}
-use Rattle.model.specs.declared.Refusal.the-variants.{Full}
-use Rattle.model.specs.declared.Answer.the-variants.{Refused}
 use Rattle.model.specs.Lists.{if}
-use Rattle.model.specs.State.{State, freePlaces}
+use Rattle.model.specs.State.{freePlaces}
 use Rattle.model.specs.Runs.{Lent, accepted, Tick, trace, ticks, handed, afterList}
 use Rattle.model.specs.Wake.{saysWoken}
 use Rattle.model.specs.Demand2.{values, into}
-use Rattle.model.specs.FreePlaces.{Send, ordinary, unsignalled, sendTo, takenWith, FreePlacesIn, FreePlaces, NotFullBeforeIn, NotFullBefore}
+use Rattle.model.specs.FreePlaces.{ordinary, unsignalled, sendTo, takenWith, FreePlacesIn, FreePlaces, NotFullBeforeIn, NotFullBefore}
 use Rattle.model.specs.ShutOut.{callBy, Number, saidInstead, sendSaying, sendsSay, fullIf, sendKeepsPlace, keepsLastPlace, sendFullPaused, pausedIsFull}
 use Rattle.model.specs.Examples.Example.{computeExamples, keyAt, registers, sends, plain, pauses}
 use Rattle.model.specs.Examples.Calls.{compute}
