@@ -18,7 +18,7 @@ use Rattle.model.specs.State.{State, senderLives, isFull, freePlaces}
 use Rattle.model.specs.Changes.{put, signalled, pushed}
 use Rattle.model.specs.Outcome.{Outcome, unless}
 use Rattle.model.specs.Runs.{accepted, afterList}
-use Rattle.model.specs.Sender.{itemIn, trySend, trySendUnsignaled, senderOutcome}
+use Rattle.model.specs.Sender.{saysTaken, trySend, trySendUnsignaled, senderOutcome}
 use Rattle.model.specs.Rules.{outcome, theRules}
 use Rattle.model.specs.FreePlaces.{Send, ordinary, unsignalled, sendTo, takenWith, TakesSoMany, FreePlacesIn, FreePlaces}
 use Rattle.demands.proofs.Counting.{no, self, not-false}
@@ -73,7 +73,7 @@ module _ (k : LaneKey) where
   abbrev tests : State → List (Bool × Refusal)
   tests s = (not (senderLives s k), NoSuchSender) ∷ (not (both (s .isOpen) (s .slotOf x .registered)), LaneClosed) ∷ (isFull s x, Full) ∷ []
 
-  send-is : (s : State) (m : Send) → outcome s (sendTo k m) ≡ unless (tests s) s (itemIn (woken s m) x (left s m))
+  send-is : (s : State) (m : Send) → outcome s (sendTo k m) ≡ unless (tests s) s (saysTaken (woken s m) x (left s m))
   unfolding outcome senderOutcome trySend trySendUnsignaled sendTo
   send-is s (ordinary v) = refl
   send-is s (unsignalled v) = refl
@@ -104,7 +104,7 @@ module _ (k : LaneKey) where
   unfolding saidFree accepted
   first-taken s m w F =
       subst (λ (o : Outcome). o .1 .0 ≡ Taken w F → Takes (o .1 .1) F) (sym (send-is s m))
-      (unless-law (λ o. o .1 .0 ≡ Taken w F → Takes (o .1 .1) F) (tests s) s (itemIn (woken s m) x (left s m)) (λ n e. absurd (no (ap accepted e) refl))
+      (unless-law (λ o. o .1 .0 ≡ Taken w F → Takes (o .1 .1) F) (tests s) s (saysTaken (woken s m) x (left s m)) (λ n e. absurd (no (ap accepted e) refl))
       (λ p e. subst (Takes (left s m)) (ap saidFree e) (takes-left s m (not-false (p .0)) (not-false (p .1 .0)))))
 
   taken : (s : State) (m : Send) (F : ℕ) → Takes s (suc F) → (outcome s (sendTo k m)) .1 ≡ (Taken (woken s m) F, left s m)

@@ -1,4 +1,4 @@
--- After an accepted send that said F, a send to the same lane is refused 11 only if F more were accepted before: nothing but a send to a lane takes a place of it.
+-- Once a lane has F free places, a send to it is refused 11 only if F were accepted since: nothing but a send to a lane takes a place of it.
 -- Assumes nothing.
 use mathlib.Core.Path.{_≡_, refl, ap, sym, _∙_, subst}
 use mathlib.Core.Bool.{Bool, true, false}
@@ -9,27 +9,32 @@ use lib.ListN.{length, length-append}
 use lib.Dec.{eqb, leb}
 use borrow.Author.Tests.{leb-true}
 use Rattle.model.specs.declared.LaneKey.{LaneKey}
+use Rattle.model.specs.declared.Opening.{Opening}
+use Rattle.model.specs.declared.SenderCall.the-variants.{RegisterSender}
+use Rattle.model.specs.declared.Call.{Call}
+use Rattle.model.specs.declared.Call.the-variants.{Sender}
 use Rattle.model.specs.declared.Refusal.the-variants.{NoSuchSender, LaneClosed, Full}
-use Rattle.model.specs.declared.Answer.the-variants.{Taken, Refused}
-use Rattle.model.specs.Lists.{if, either, without}
-use Rattle.model.specs.State.{Slot, State, mayQueue, senderLives, isFull, freePlaces, releaseBatch}
+use Rattle.model.specs.declared.Answer.{Answer}
+use Rattle.model.specs.declared.Answer.the-variants.{Done, Registered, Taken, Refused}
+use Rattle.model.specs.Lists.{if, either, count, without}
+use Rattle.model.specs.State.{Slot, State, mayQueue, keyOf, senderLives, isFull, freePlaces, releaseBatch}
 use Rattle.model.specs.Changes.{put, newLane, signalled, pushed, senderDropped, popped, withPaused, credited, retired}
 use Rattle.model.specs.Turn.{unreleasedAfterOne, giveItem}
 use Rattle.model.specs.Outcome.{unless, says}
-use Rattle.model.specs.Runs.{sameKey, accepted, Tick, ends, handed, trace, afterList}
-use Rattle.model.specs.Sender.{senderOutcome, trySend, trySendUnsignaled}
+use Rattle.model.specs.Runs.{Lent, sameKey, accepted, Tick, ends, handed, trace, afterList}
+use Rattle.model.specs.Sender.{issueSlot, registerSender, senderOutcome, trySend, trySendUnsignaled}
 use Rattle.model.specs.Receive.{queueLaneIf}
-use Rattle.model.specs.Opening.{openingOutcome}
+use Rattle.model.specs.Opening.{nextPowerOfTwo, openedState, openingOutcome}
 use Rattle.model.specs.Rules.{outcome, theRules}
 use Rattle.model.specs.Order.{Ordered}
 use Rattle.model.specs.Demand2.{into, values}
-use Rattle.model.specs.FreePlaces.{Send, ordinary, unsignalled, sendTo, NotFullBeforeIn, NotFullBefore}
-use Rattle.demands.proofs.Counting.{Same, equal, other, same?, self, not-false}
+use Rattle.model.specs.FreePlaces.{Send, ordinary, unsignalled, sendTo, HasFree, sent, registered, NotFullBeforeIn, NotFullBefore}
+use Rattle.demands.proofs.Counting.{Same, equal, other, same?, same-self, self, not-false}
 use Rattle.demands.proofs.Quiet.{Quietly, trans, poll, poll-quiet, release-all-quiet, settle-empty-quiet}
 use Rattle.demands.proofs.Moves.{Moves, stays-put, credits, registers-new, registers-old, sends, posts, drops-it, pauses-it, resumes, resumes-not, closes-it, polls-all, shuts-it, takes, stops, aims, aims-none, Chain, stay, move, trace-chain, unless-law}
 use Rattle.demands.proofs.Points.{ends-at}
 use Rattle.demands.proofs.LedgerLaws.{alike, unlike, keys?}
-use Rattle.demands.proofs.Demand2.{sender-parts, give-item-slot, queue-lane-slot}
+use Rattle.demands.proofs.Demand2.{sender-parts, give-item-slot, queue-lane-slot, opens-as}
 use Rattle.demands.proofs.LedgerAgrees.{retire-lane-slot, again-put, key-path}
 use Rattle.demands.proofs.Grows.{move-grows}
 use Rattle.demands.proofs.Capacity.{queue-lane-room, credited-less, retire-lane-capacity, give-item-capacity}
@@ -146,12 +151,34 @@ module _ (k : LaneKey) where
   chain-room F n (move {w = w} {t = t} {ts = ts} m c) h =
       subst (λ (i : ℕ). Room F i w) (omega (arith, length-append (into k t) (values (into k) ts))) (chain-room F (n + length (into k t)) c (move-room F n h m))
 
-  -- ---- the two sends
+  -- ---- a send, a registration
 
   -- a send that is accepted says the free places that it leaves
   said-room : (s u : State) (f : ℕ) → Ordered s → senderLives s k ≡ true → u .issued ≡ s .issued → u .slotOf (k .slot) .generation ≡ s .slotOf (k .slot) .generation → freePlaces u (k .slot) ≡ f → Room f 0 u
   said-room s u f o a i g e =
       let p = sender-parts s k a in record { low = omega (arith, i, o .each-slot (k .slot) .living-issued (p .0)); least = omega (arith, g, p .1); room = λ z. omega (arith, e) }
+
+  -- a lane that is registered has all its places
+  new-room : (u : State) (x g : ℕ) (l : Slot) → x ≡ k .slot → g ≡ k .generation → x < u .issued → u .slotOf x ≡ newLane g l → Room (u .capacity) 0 u
+  unfolding freePlaces
+  new-room u x g l p q i at = record {
+    low = omega (arith, p, i);
+    least = omega (arith, q, ap (λ (y : ℕ). u .slotOf y .generation) p, ap (λ (m : Slot). m .generation) at);
+    room = λ z.
+        omega (arith, ap (λ (y : ℕ). length (u .slotOf y .ring)) p, ap (λ (m : Slot). length (m .ring)) at, ap (λ (y : ℕ). u .slotOf y .unreleased) p, ap (λ (m : Slot). m .unreleased) at);
+  }
+
+  registered-room : (s : State) (most : ℕ) → Ordered s → (outcome s (Sender (RegisterSender most))) .1 .0 ≡ Registered k
+      → Room (s .capacity) 0 ((outcome s (Sender (RegisterSender most))) .1 .1)
+  unfolding outcome senderOutcome registerSender issueSlot count
+  registered-room s most o =
+      unless-law (λ r. r .1 .0 ≡ Registered k → Room (s .capacity) 0 (r .1 .1)) _ s _ (λ n e. let z : _≡_ {A = ℕ} 0 1 = cc in absurd (omega arith)) (λ p. go (s .free) refl)
+    where
+      go : (f : List ℕ) → s .free ≡ f → (issueSlot f s) .1 .0 ≡ Registered k → Room (s .capacity) 0 ((issueSlot f s) .1 .1)
+      go [] q e = new-room ((issueSlot [] s) .1 .1) (s .issued) (s .firstGeneration) (s .slotOf (s .issued)) (cc) (cc) (omega arith) (rw (self (s .issued)))
+      go (x ∷ f) q e =
+          let below : x < s .issued = o .each-slot x .free-issued (subst (λ (l : List ℕ). 1 ≤ count x l) (sym q) (omega (arith, same-self x))) in
+          new-room ((issueSlot (x ∷ f) s) .1 .1) x (s .slotOf x .generation + 1) (s .slotOf x) (cc) (cc) below (rw (self x))
 
   sent-room : (s : State) (first : Send) (w : Bool) (F : ℕ) → Ordered s → (outcome s (sendTo k first)) .1 .0 ≡ Taken w F → Room F 0 ((outcome s (sendTo k first)) .1 .1)
   unfolding sendTo outcome senderOutcome trySend trySendUnsignaled
@@ -186,16 +213,45 @@ module _ (k : LaneKey) where
   none-handed s (ordinary v) = refl
   none-handed s (unsignalled v) = refl
 
+-- ---- the capacity
+
+move-capacity : {s u : State} {t : Tick} → Moves s t u → u .capacity ≡ s .capacity
+move-capacity {s} m = move-fills (keyOf s 0) refl m .capacities
+
+chain-capacity : {s u : State} {ts : List Tick} → Chain s ts u → u .capacity ≡ s .capacity
+chain-capacity (stay s) = refl
+chain-capacity (move m c) = chain-capacity c ∙ move-capacity m
+
+run-capacity : (o : Opening) (lent : Lent) (calls : List Call) → (afterList theRules ((openingOutcome o lent) .1 .1) calls) .capacity ≡ nextPowerOfTwo (o .capacity)
+unfolding openedState
+run-capacity o lent calls = chain-capacity (trace-chain ((openingOutcome o lent) .1 .1) calls) ∙ ap (λ (u : State). u .capacity) (opens-as o lent)
+
+module _ (o : Opening) (lent : Lent) (d : (openingOutcome o lent) .1 .0 ≡ Done) (calls : List Call) (k : LaneKey) (last : Send) (before since rest : List Tick) where
+  abbrev opened : State
+  opened = (openingOutcome o lent) .1 .1
+
+  -- from a call after which the lane has its places
+  after-call : (c : Call) (a : Answer) (F : ℕ)
+      → ((u : State) → Ordered u → u .capacity ≡ nextPowerOfTwo (o .capacity) → (outcome u c) .1 .0 ≡ a → Room k F 0 ((outcome u c) .1 .1))
+      → trace theRules opened calls ≡ before ++ (ends c a ∷ since ++ (ends (sendTo k last) (Refused Full) ∷ rest)) → F ≤ length (values (into k) since)
+  after-call c a F h e =
+      let p = ends-at calls opened before (since ++ (ends (sendTo k last) (Refused Full) ∷ rest)) c a e in
+      let u = afterList theRules opened (p .made) in
+      let v = (outcome u c) .1 .1 in
+      let q = ends-at (p .left) v since rest (sendTo k last) (Refused Full) (sym (p .goes-on)) in
+      let x = afterList theRules v (q .made) in
+      let ts = trace theRules v (q .made) in
+      let r = chain-room k F 0 (trace-chain v (q .made)) (h u (run-in-order o lent d (p .made) .ordered) (run-capacity o lent (p .made)) (sym (p .answered))) in
+      let same : since ≡ ts = q .so-far ∙ ap (λ (l : List Tick). ts ++ l) (none-handed k x last) ∙ append-nil ts in
+      omega (arith, full-room k F (0 + length (values (into k) ts)) x last r (q .answered), ap (λ (l : List Tick). length (values (into k) l)) same)
+
+  from : {F : ℕ} {t : Tick} → HasFree (nextPowerOfTwo (o .capacity)) k F t
+      → trace theRules opened calls ≡ before ++ (t ∷ since ++ (ends (sendTo k last) (Refused Full) ∷ rest)) → F ≤ length (values (into k) since)
+  from (sent m w F) = after-call (sendTo k m) (Taken w F) F (λ u i c. sent-room k u m w F i)
+  from (registered most) =
+      after-call (Sender (RegisterSender most)) (Registered k) _
+      (λ u i c a. subst (λ (n : ℕ). Room k n 0 ((outcome u (Sender (RegisterSender most))) .1 .1)) c (registered-room k u most i a))
+
 pub not-full-before : NotFullBefore theRules
 unfolding NotFullBefore NotFullBeforeIn
-not-full-before o lent d calls all k first last w F before since rest e =
-    let s = (openingOutcome o lent) .1 .1 in
-    let p = ends-at calls s before (since ++ (ends (sendTo k last) (Refused Full) ∷ rest)) (sendTo k first) (Taken w F) e in
-    let u = afterList theRules s (p .made) in
-    let v = (outcome u (sendTo k first)) .1 .1 in
-    let q = ends-at (p .left) v since rest (sendTo k last) (Refused Full) (sym (p .goes-on)) in
-    let x = afterList theRules v (q .made) in
-    let ts = trace theRules v (q .made) in
-    let h = chain-room k F 0 (trace-chain v (q .made)) (sent-room k u first w F (run-in-order o lent d (p .made) .ordered) (sym (p .answered))) in
-    let same : since ≡ ts = q .so-far ∙ ap (λ (l : List Tick). ts ++ l) (none-handed k x last) ∙ append-nil ts in
-    omega (arith, full-room k F (0 + length (values (into k) ts)) x last h (q .answered), ap (λ (l : List Tick). length (values (into k) l)) same)
+not-full-before o lent d calls all k F t h last before since rest = from o lent d calls k last before since rest h

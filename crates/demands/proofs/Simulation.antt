@@ -233,8 +233,8 @@ module _ (W : Viewed) (sim : Simulation W) where
 
   transfer-not-full : NotFullBefore theRules → NotFullBeforeIn (W .rules) (W .runs)
   unfolding NotFullBefore NotFullBeforeIn
-  transfer-not-full h o lent d calls f k first last w F before since rest e =
-      h o (W .rules .lengths lent) (accepted-too W sim o lent d) calls tt k first last w F before since rest (sym (opened-trace W sim o lent d calls f) ∙ e)
+  transfer-not-full h o lent d calls f k F t g last before since rest e =
+      h o (W .rules .lengths lent) (accepted-too W sim o lent d) calls tt k F t g last before since rest (sym (opened-trace W sim o lent d calls f) ∙ e)
 
   transfer-issued : (issuedOf : State → ℕ) → IssuedAsAnswered theRules issuedOf → IssuedAsAnsweredIn (W .rules) (W .runs) (λ s. issuedOf (W .view s))
   unfolding IssuedAsAnswered IssuedAsAnsweredIn

@@ -14,7 +14,7 @@ pub mod OtherLanes
 pub mod EqualTurns
 pub mod Uneven
 pub mod FreePlaces
-pub mod OtherNumbers
+pub mod Miscounted
 pub mod ReceivesEnd
 pub mod BudgetAfterNothing
 pub mod WhileMarked

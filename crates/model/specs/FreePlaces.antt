@@ -1,4 +1,4 @@
--- Document 02, N1, "Free places with every accepted send", by the calls and their answers alone. A claim about any rules; it is proved of document 01's.
+-- Document 02, N1, "Free places with every accepted send", by the calls and their answers alone. Claims about any rules; they are proved of document 01's.
 -- Assumes nothing.
 use mathlib.Core.Path.{_≡_}
 use mathlib.Core.Bool.{Bool, true, false}
@@ -8,13 +8,14 @@ use lib.ListN.{length}
 use lib.Dec.{eqb}
 use Rattle.model.specs.declared.LaneKey.{LaneKey}
 use Rattle.model.specs.declared.Opening.{Opening}
-use Rattle.model.specs.declared.SenderCall.the-variants.{TrySend, TrySendUnsignaled}
+use Rattle.model.specs.declared.SenderCall.the-variants.{RegisterSender, TrySend, TrySendUnsignaled}
 use Rattle.model.specs.declared.Call.{Call}
 use Rattle.model.specs.declared.Call.the-variants.{Sender}
 use Rattle.model.specs.declared.Refusal.the-variants.{Full}
 use Rattle.model.specs.declared.Answer.{Answer}
 use Rattle.model.specs.declared.Answer.the-variants.{Done, Registered, Taken, Item, Items, Empty, Disconnected, Held, Refused}
 use Rattle.model.specs.Runs.{Rules, RunsOf, allRuns, Tick, ends, trace, afterList}
+use Rattle.model.specs.Opening.{nextPowerOfTwo}
 use Rattle.model.specs.Demand2.{values, into}
 
 -- "An accepted send, ordinary or unsignalled": what is sent, and how.
@@ -39,7 +40,7 @@ takenWith n (Held m) = false
 takenWith n (Refused r) = false
 
 -- What a send answers that follows n others, where the send before these said F: the first F are taken, and each says one free place less than the one before;
--- those after them are refused 11. With n = 0: F is 0 exactly if the next send is refused 11.
+-- those after them are refused 11, and so no others are (the last line follows from the first). With n = 0: F is 0 exactly if the next send is refused 11.
 pub record TakesSoMany (F n : ℕ) (a : Answer) : Type 0 where
   pub taken-below : n < F → takenWith (F - suc n) a ≡ true
   pub full-from : F ≤ n → a ≡ Refused Full
@@ -58,14 +59,20 @@ FreePlacesIn R runs =
 unfoldable pub FreePlaces : Rules → Type 0
 FreePlaces R = FreePlacesIn R (allRuns R)
 
--- What the number is worth while others go on with their calls: whatever happens after an accepted send that said F, a send to the same lane is refused 11 only if F
--- more sends to it were accepted before.
+-- After t lane k has F free places: t is the end of an accepted send to it that said F, or of its registration, and F is then the capacity C.
+pub data HasFree (C : ℕ) (k : LaneKey) : ℕ → Tick → Type 0 where
+  sent : (m : Send) (w : Bool) (F : ℕ) → HasFree C k F (ends (sendTo k m) (Taken w F))
+  registered : (most : ℕ) → HasFree C k C (ends (Sender (RegisterSender most)) (Registered k))
+
+-- More than was asked, of calls between: whatever happens since t, a send to the lane is refused 11 only if F sends to it were accepted meanwhile.
+-- "a capacity [..] rounded up to a power of two C"
 unfoldable pub NotFullBeforeIn : (R : Rules) → RunsOf R → Type 0
 NotFullBeforeIn R runs =
     (o : Opening) (lent : R .Stores) → (R .opens o lent) .0 ≡ Done
     → (calls : List Call) → runs o lent calls
-    → (k : LaneKey) (first last : Send) (w : Bool) (F : ℕ) (before since rest : List Tick)
-    → trace R ((R .opens o lent) .1) calls ≡ before ++ (ends (sendTo k first) (Taken w F) ∷ since ++ (ends (sendTo k last) (Refused Full) ∷ rest))
+    → (k : LaneKey) (F : ℕ) (t : Tick) → HasFree (nextPowerOfTwo (o .capacity)) k F t
+    → (last : Send) (before since rest : List Tick)
+    → trace R ((R .opens o lent) .1) calls ≡ before ++ (t ∷ since ++ (ends (sendTo k last) (Refused Full) ∷ rest))
     → F ≤ length (values (into k) since)
 
 unfoldable pub NotFullBefore : Rules → Type 0

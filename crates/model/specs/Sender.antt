@@ -37,9 +37,9 @@ registerSender s most =
     ∷ (both (not (nonEmpty (s .free))) (leb (s .slots) (s .issued)), NoFreeSlot) ∷ (olderLives (s .free) s, OlderSenderLives) ∷ [])
     s (issueSlot (s .free) s)
 
--- An item is in slot x's ring. Document 02, N1: the send "answers also how many further sends the ring would take", after it.
-abbrev pub itemIn : Bool → ℕ → State → Outcome
-itemIn woken x s = says (Taken woken (freePlaces s x)) s
+-- What an accepted send comes to, where s has the item in slot x's ring. Document 02, N1: it "answers also how many further sends the ring would take".
+abbrev pub saysTaken : Bool → ℕ → State → Outcome
+saysTaken woken x s = says (Taken woken (freePlaces s x)) s
 
 -- "no living sender has this key"; "lane closed, or the receiver (`Disconnected`)"; "ring full (`Full`)"
 -- "answers whether the signal went from idle to pending"
@@ -48,7 +48,7 @@ trySend s k v =
     unless
     ((not (senderLives s k), NoSuchSender) ∷ (not (both (s .isOpen) (s .slotOf (k .slot) .registered)), LaneClosed)
     ∷ (isFull s (k .slot), Full) ∷ [])
-    s (itemIn (not (s .slotOf (k .slot) .pending)) (k .slot) (put (k .slot) (signalled (pushed v (s .slotOf (k .slot)))) s))
+    s (saysTaken (not (s .slotOf (k .slot) .pending)) (k .slot) (put (k .slot) (signalled (pushed v (s .slotOf (k .slot)))) s))
 
 -- "woken: 1 or 0; unsignalled always 0"
 unfoldable pub trySendUnsignaled : State → LaneKey → ℕ → Outcome
@@ -56,7 +56,7 @@ trySendUnsignaled s k v =
     unless
     ((not (senderLives s k), NoSuchSender) ∷ (not (both (s .isOpen) (s .slotOf (k .slot) .registered)), LaneClosed)
     ∷ (isFull s (k .slot), Full) ∷ [])
-    s (itemIn false (k .slot) (put (k .slot) (pushed v (s .slotOf (k .slot))) s))
+    s (saysTaken false (k .slot) (put (k .slot) (pushed v (s .slotOf (k .slot))) s))
 
 -- "Dropping a sender marks its lane (a closed lane's signal is kept while its sender lives) and lowers the living count"
 unfoldable pub dropSender : State → LaneKey → Outcome

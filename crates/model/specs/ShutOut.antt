@@ -1,9 +1,9 @@
--- Wrong rules, each document 01's but for one call: those that document 01 says demands 2 and 3 shut out.
+-- Wrong rules, each document 01's but for one call or both sends: those that document 01 says demands 2 and 3 shut out.
 -- That a demand does not hold of them is in crates/demands/proofs/ShutOut.antt. More are shut out by what is claimed beside the demands.
 -- Assumes nothing.
 use mathlib.Core.Bool.{Bool, true, false, not}
 use mathlib.Core.List.{List, [], _∷_, _++_}
-use Prim.Native.Nat.{ℕ, suc}
+use Prim.Native.Nat.{ℕ, suc, _+_}
 use lib.ListN.{length}
 use lib.Dec.{ltb, leb}
 use Rattle.model.specs.declared.LaneKey.{LaneKey}
@@ -19,7 +19,7 @@ use Rattle.model.specs.declared.Refusal.the-variants.{ReceiverClosed, Ou
 use Rattle.model.specs.declared.Answer.the-variants.{Registered, Taken, Items, Held, Refused}
 use Rattle.model.specs.Lists.{if, both}
 use Rattle.model.specs.State.{State, keyOf, freePlaces}
-use Rattle.model.specs.Changes.{withQueue, withFree, withBudget, put, newLane}
+use Rattle.model.specs.Changes.{withQueue, withFree, withBudget, put, withRing, newLane}
 use Rattle.model.specs.Ready.{collectReady}
 use Rattle.model.specs.Turn.{runDown, giveFront, polled}
 use Rattle.model.specs.Outcome.{Outcome, says, unless}
@@ -190,43 +190,66 @@ receiveTurnsRound s (TryRecvBatchInto limit room) = receiveOutcome s (TryRecvBat
 abbrev pub targetedTurnsRound : Rules
 targetedTurnsRound = rulesBy senderOutcome receiveTurnsRound controlOutcome
 
--- `FreePlaces` shuts out sends that say another number (specs/Examples/OtherNumbers.antt). What they leave is right; the number goes by whether the send marks, the
+-- `FreePlaces` shuts out sends that say another number (specs/Examples/Miscounted.antt). What they leave is right; the number goes by whether the send marks, the
 -- state after it, and the slot.
-abbrev pub Number : Type 0
-Number = Bool → State → ℕ → ℕ
+abbrev pub Said : Type 0
+Said = (marks : Bool) (after : State) (slot : ℕ) → ℕ
 
-unfoldable pub saidInstead : Number → Bool → ℕ → Outcome → Outcome
+unfoldable pub saidInstead : Said → Bool → ℕ → Outcome → Outcome
 saidInstead f marks x o = let a = o .1 .0 in (o .0, (if (accepted a) (Taken (saysWoken a) (f marks (o .1 .1) x)) a, o .1 .1))
 
-unfoldable pub sendSaying : Number → State → SenderCall → Outcome
+unfoldable pub sendSaying : Said → State → SenderCall → Outcome
 sendSaying f s (TrySend k v) = saidInstead f true (k .slot) (trySend s k v)
 sendSaying f s (TrySendUnsignaled k v) = saidInstead f false (k .slot) (trySendUnsignaled s k v)
 sendSaying f s (RegisterSender most) = senderOutcome s (RegisterSender most)
 sendSaying f s (DropSender k) = senderOutcome s (DropSender k)
 
-abbrev pub sendsSay : Number → Rules
+abbrev pub sendsSay : Said → Rules
 sendsSay f = rulesBy (sendSaying f) receiveOutcome controlOutcome
 
--- Refused as full instead of taken, where a test of the lane says so.
+-- Refused as full instead of accepted, where a test says so.
 unfoldable pub fullIf : Bool → State → Outcome → Outcome
 fullIf b s o = if (both b (accepted (o .1 .0))) (says (Refused Full) s) o
 
--- An unsignalled send that leaves the last place to an ordinary one.
-unfoldable pub sendKeepsPlace : State → SenderCall → Outcome
-sendKeepsPlace s (TrySendUnsignaled k v) = fullIf (leb (freePlaces s (k .slot)) 1) s (trySendUnsignaled s k v)
-sendKeepsPlace s (TrySend k v) = senderOutcome s (TrySend k v)
-sendKeepsPlace s (RegisterSender most) = senderOutcome s (RegisterSender most)
-sendKeepsPlace s (DropSender k) = senderOutcome s (DropSender k)
+-- Sends of one kind, those that mark or those that do not, which leave the last place free.
+unfoldable pub sendKeepsPlace : Bool → State → SenderCall → Outcome
+sendKeepsPlace marks s (TrySend k v) = fullIf (both marks (leb (freePlaces s (k .slot)) 1)) s (trySend s k v)
+sendKeepsPlace marks s (TrySendUnsignaled k v) = fullIf (both (not marks) (leb (freePlaces s (k .slot)) 1)) s (trySendUnsignaled s k v)
+sendKeepsPlace marks s (RegisterSender most) = senderOutcome s (RegisterSender most)
+sendKeepsPlace marks s (DropSender k) = senderOutcome s (DropSender k)
 
-abbrev pub keepsLastPlace : Rules
-keepsLastPlace = rulesBy sendKeepsPlace receiveOutcome controlOutcome
+abbrev pub keepsLastPlace : Bool → Rules
+keepsLastPlace marks = rulesBy (sendKeepsPlace marks) receiveOutcome controlOutcome
+
+-- A send that is refused, and gives all credit back.
+unfoldable pub sendReleases : State → SenderCall → Outcome
+sendReleases s c = let o = senderOutcome s c in if (accepted (o .1 .0)) o (says (o .1 .0) (releaseAll s))
+
+abbrev pub refusalReleases : Rules
+refusalReleases = rulesBy sendReleases receiveOutcome controlOutcome
 
 -- `NotFullBefore` shuts out a send that is refused as full while its lane is paused.
 unfoldable pub sendFullPaused : State → SenderCall → Outcome
 sendFullPaused s (TrySend k v) = fullIf (s .slotOf (k .slot) .paused) s (trySend s k v)
-sendFullPaused s (TrySendUnsignaled k v) = senderOutcome s (TrySendUnsignaled k v)
+sendFullPaused s (TrySendUnsignaled k v) = fullIf (s .slotOf (k .slot) .paused) s (trySendUnsignaled s k v)
 sendFullPaused s (RegisterSender most) = senderOutcome s (RegisterSender most)
 sendFullPaused s (DropSender k) = senderOutcome s (DropSender k)
 
 abbrev pub pausedIsFull : Rules
 pausedIsFull = rulesBy sendFullPaused receiveOutcome controlOutcome
+
+-- And a slot that is issued again without the credit that its last lane had not given back.
+unfoldable pub issuedUnreleased : List ℕ → State → Outcome
+issuedUnreleased [] s = issueSlot [] s
+issuedUnreleased (x ∷ f) s =
+    let l = s .slotOf x in
+    says (Registered record { slot = x; generation = l .generation + 1 }) (withFree f (put x (withRing [] (l .unreleased) 0 (newLane (l .generation + 1) l)) s))
+
+unfoldable pub registerUnreleased : State → SenderCall → Outcome
+registerUnreleased s (RegisterSender most) = let o = registerSender s most in if (accepted (o .1 .0)) (issuedUnreleased (s .free) s) o
+registerUnreleased s (TrySend k v) = senderOutcome s (TrySend k v)
+registerUnreleased s (TrySendUnsignaled k v) = senderOutcome s (TrySendUnsignaled k v)
+registerUnreleased s (DropSender k) = senderOutcome s (DropSender k)
+
+abbrev pub newLaneUnreleased : Rules
+newLaneUnreleased = rulesBy registerUnreleased receiveOutcome controlOutcome

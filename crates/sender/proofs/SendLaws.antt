@@ -205,19 +205,19 @@ module _ (t r : List ℕ) (k : LaneKey) (v : ℕ) (o : Stores t r) (p : Sends t 
 
   -- the rules' outcome where the lane is open
   abbrev unlessFull : Bool → Slot → Answer × State
-  unlessFull w z = (unless ((isFull s x, Full) ∷ []) s (rules-sender.itemIn w x (put x z s))) .1
+  unlessFull w z = (unless ((isFull s x, Full) ∷ []) s (rules-sender.saysTaken w x (put x z s))) .1
 
   signaled-alike : seen (sendSignaled t (pushed t r k v)) ≡ unlessFull (not (s .slotOf x .pending)) (rules.signalled (rules.pushed v (s .slotOf x)))
   unfolding sendSignaled unless
   signaled-alike =
       sent-case
-      (λ z b. seen (sendSignaled t z) ≡ (unless ((b, Full) ∷ []) s (rules-sender.itemIn (not (s .slotOf x .pending)) x (put x (rules.signalled (rules.pushed v (s .slotOf x))) s))) .1)
+      (λ z b. seen (sendSignaled t z) ≡ (unless ((b, Full) ∷ []) s (rules-sender.saysTaken (not (s .slotOf x .pending)) x (put x (rules.signalled (rules.pushed v (s .slotOf x))) s))) .1)
       refl signaled-view
 
   unsignaled-alike : seen (sendUnsignaled t (pushed t r k v)) ≡ unlessFull false (rules.pushed v (s .slotOf x))
   unfolding sendUnsignaled unless
   unsignaled-alike =
-      sent-case (λ z b. seen (sendUnsignaled t z) ≡ (unless ((b, Full) ∷ []) s (rules-sender.itemIn false x (put x (rules.pushed v (s .slotOf x)) s))) .1) refl unsignaled-view
+      sent-case (λ z b. seen (sendUnsignaled t z) ≡ (unless ((b, Full) ∷ []) s (rules-sender.saysTaken false x (put x (rules.pushed v (s .slotOf x)) s))) .1) refl unsignaled-view
 
   signaled-keeps : Stores ((sendSignaled t (pushed t r k v)) .1) ((sendSignaled t (pushed t r k v)) .2)
   unfolding sendSignaled takeSignaled

@@ -33,7 +33,7 @@ unfoldable pub items : Ring → List ℕ → ℕ → ℕ → List ℕ
 items ring store head n = tab n (λ i. itemAt ring store (after head i))
 
 -- Document 02, N1: "how many further sends the ring would take", once an item is pushed at the cursor: C less the cursor's wrapped distance from the released head,
--- less the place that the item takes.
+-- by a wrapping subtract too, less the item's own place.
 abbrev pub freeAfter : Ring → ℕ → ℕ → ℕ
 freeAfter ring cursor released = distance (ring .capacity) (distance cursor released) - 1
 

@@ -32,11 +32,11 @@ pub fn after(cursor: u64, n: u64) -> u64
     std::num::wrapping_add_u64(cursor, n)
 }
 
-// How many places are free where so many are taken; none exactly if all are taken.
-fn free_places(capacity: u64, taken: u64) -> u64
-    ensures { λ r. ⌜ (r ≡ distance capacity taken) × (r ≡ 0 → taken ≡ capacity) ⌝ }
+// How many places are free where so many are in use, at most all of them: none exactly if all are.
+fn free_places(capacity: u64, used: u64) -> u64
+    ensures { λ r. ⌜ (r ≡ distance capacity used) × (r ≡ 0 → used ≡ capacity) ⌝ }
 {
-    distance(capacity, taken)
+    distance(capacity, used)
 }
 
 impl Ring {
@@ -59,7 +59,7 @@ impl Ring {
         (self.base + (cursor & (self.capacity - 1))) as usize
     }
 
-    // The cursor after a push and the places that are left, unless the ring is full. A place is taken
+    // The cursor after a push and the places that are left, unless the ring is full. A place is in use
     // until its credit is back. The item's word is `put` once the cursor is
     // stored: the compiler then sees which words of the lane did not change.
     pub fn push(self, cursor: u64, released: u64) -> Push

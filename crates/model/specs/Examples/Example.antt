@@ -16,8 +16,8 @@ use Rattle.model.specs.declared.Answer.{Answer}
 use Rattle.model.specs.declared.Answer.the-variants.{Done, Registered, Taken, Item, Items, Empty, Disconnected, Held, Refused}
 
 -- An example: an opening with its first generation, what document 01 says comes of calls after it, and the poll budget at the end.
--- Each line of it is a call, the answer to it, and how many times in a row the two come: (64, plain, gave 5 0). Of sends that are taken in a row each says one
--- free place less than the one before; the line has the first: (63, sends 0 5, Taken false 62).
+-- Each line of it is how many times in a row a call comes, the call, and the answer to each: (64, plain, gave 5 0). Of sends that are accepted in a row each says
+-- one free place less than the one before, and the line has the first: (63, sends 0 5, Taken false 62).
 pub record Example : Type 0 where
   pub capacity : ℕ
   pub slots : ℕ

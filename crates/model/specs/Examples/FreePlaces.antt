@@ -1,21 +1,27 @@
 -- The words of the claims on free places, computed.
 -- Assumes nothing.
-use mathlib.Core.Path.{refl}
-use mathlib.Core.Bool.{true, false}
+use mathlib.Core.Path.{_≡_, refl, sym, ap}
+use mathlib.Core.Bool.{Bool, true, false}
 use mathlib.Core.List.{List, [], _∷_, map}
+use Prim.Native.Nat.{ℕ}
+use native.Mathlib.Omega.{arith}
 use Rattle.model.specs.declared.SenderCall.the-variants.{TrySend, TrySendUnsignaled}
 use Rattle.model.specs.declared.Call.{Call}
 use Rattle.model.specs.declared.Call.the-variants.{Sender}
 use Rattle.model.specs.declared.Refusal.the-variants.{NoSuchSender, Full}
 use Rattle.model.specs.declared.Answer.{Answer}
 use Rattle.model.specs.declared.Answer.the-variants.{Done, Registered, Taken, Item, Items, Empty, Disconnected, Held, Refused}
-use Rattle.model.specs.Runs.{answers, afterList}
+use Rattle.model.specs.Lists.{if}
+use Rattle.model.specs.Runs.{accepted, answers, afterList}
 use Rattle.model.specs.Opening.{openedState}
 use Rattle.model.specs.Rules.{theRules}
-use Rattle.model.specs.FreePlaces.{ordinary, unsignalled, sendTo, takenWith}
+use Rattle.model.specs.FreePlaces.{ordinary, unsignalled, sendTo, takenWith, TakesSoMany}
 use Rattle.model.specs.Examples.Pairs.{Reads}
 use Rattle.model.specs.Examples.Example.{computeExamples, keyAt, idAt, registers, sends, sendsUnsignalled, plain, batch, pauses}
 use Rattle.model.specs.Examples.Calls.{compute}
+
+unfoldable pub untrue : true ≡ false → ⊥
+untrue e = let z : _≡_ {A = ℕ} 1 0 = ap (λ (b : Bool). if b 1 0) e in omega (arith, z)
 
 -- a send of either kind, to the lane with the key
 sends-read : Reads (sendTo (keyAt 3 8)) ((ordinary 5, Sender (TrySend (keyAt 3 8) 5)) ∷ (unsignalled 6, Sender (TrySendUnsignaled (keyAt 3 8) 6)) ∷ [])
@@ -42,7 +48,7 @@ taken-read :
 unfolding computeExamples takenWith
 taken-read = refl
 
--- four places; what six sends of both kinds answer after these calls, the first of them ordinary or not
+-- four places; what six sends of both kinds answer after these calls
 sixMore : List Call
 sixMore = map (sendTo (keyAt 0 0)) (unsignalled 5 ∷ ordinary 6 ∷ ordinary 7 ∷ unsignalled 8 ∷ ordinary 9 ∷ unsignalled 10 ∷ [])
 
@@ -65,3 +71,20 @@ so-many-read :
     ∷ [])
 unfolding compute computeExamples answers afterList sendTo sixMore answersAfter
 so-many-read = refl
+
+-- what is claimed of one answer, where the send before said 3: another number, no send's answer, a fourth that is accepted, a tenth
+other-number : TakesSoMany 3 0 (Taken true 1) → ⊥
+unfolding takenWith
+other-number h = untrue (sym (h .taken-below (omega arith)))
+
+no-send : TakesSoMany 3 1 Done → ⊥
+unfolding takenWith
+no-send h = untrue (sym (h .taken-below (omega arith)))
+
+fourth-accepted : TakesSoMany 3 3 (Taken true 0) → ⊥
+unfolding accepted
+fourth-accepted h = untrue (ap accepted (h .full-from (omega arith)))
+
+tenth-accepted : TakesSoMany 3 9 (Taken true 0) → ⊥
+unfolding accepted
+tenth-accepted h = untrue (ap accepted (h .full-from (omega arith)))

@@ -83,6 +83,22 @@ table =
           ∷ (1, sendsUnsignalled 0 5, Taken false 3)
           ∷ [];
     }
+    -- and a lane in a slot that is issued again has all its places, whatever the last one left
+    ∷ record {
+      capacity = 4;
+      slots = 1;
+      generation = 0;
+      budget = 63;
+      said = (1, registers, lane 0 0)
+          ∷ (1, sends 0 1, Taken true 3)
+          ∷ (1, sends 0 2, Taken false 2)
+          ∷ (1, plain, gave 1 0)
+          ∷ (1, closes 0, Done)
+          ∷ (1, drops 0, Done)
+          ∷ (1, registers, lane 0 1)
+          ∷ (1, Sender (TrySend (keyAt 0 1) 3), Taken true 3)
+          ∷ [];
+    }
     -- "P Lanes 0 and 1, three items each, lane 1 sent first; fair: 0, 1, 0, 1, 0, 1, Empty."
     ∷ record {
       capacity = 4;

@@ -10,9 +10,9 @@ use borrow.Author.Needs.{needs}
 use Rattle.yring.proofs.ring.Ring.push.Statement.{statement}
 use Rattle.yring.proofs.ring.Ring.push.Tie as tie
 
--- where all places are taken, none is left
-none-left : (capacity taken : ℕ) → taken ≡ capacity → distance capacity taken ≡ 0
-none-left capacity taken e = omega (arith, e)
+-- where all places are in use, none is left
+none-left : (capacity used : ℕ) → used ≡ capacity → distance capacity used ≡ 0
+none-left capacity used e = omega (arith, e)
 
 returns : tie.Need-returns
 unfolding push
@@ -21,9 +21,9 @@ returns c = simp (eq-eqb _ _ (sym (c .before .before .distance .ensures) ∙ c .
 returns-2 : tie.Need-returns-2
 unfolding push
 returns-2 c =
-    let taken = c .before .before .before .distance .ensures in
+    let used = c .before .before .before .distance .ensures in
     let left = c .before .before .free-places .ensures .0 in
-    simp (ne-eqb _ _ (λ e. c .before .if1 .left (left ∙ none-left _ _ (taken ∙ e))), left, taken, c .after .ensures)
+    simp (ne-eqb _ _ (λ e. c .before .if1 .left (left ∙ none-left _ _ (used ∙ e))), left, used, c .after .ensures)
 
 pub push-spec : {M : Type 1} → statement M
 push-spec =
