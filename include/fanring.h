@@ -26,13 +26,13 @@
    CREDIT. The places of items handed out are free for the sender once the lane gives them back: when they are as many as the release batch,
        min(max(C / 2 rounded up, 64), C)
    (C itself up to C 64; then 64 for C 128, 128 for C 256, and so on to 32,768 for C 65,536); when a receive finds the lane empty; and on pause. All lanes
-   do on release_consumed and at the end of every batch, one of limit 0 too. So a send may still be refused 11 after a receive. No answer tells of credit
+   do on release_consumed and at the end of every batch, one of limit 0 too. So a send may still be refused 11 after a receive. No receive tells of credit
    that goes back; after a batch or release_consumed, all of it has: that is when to try again.
 
    FREE PLACES. A send that is taken answers how many further sends, of either kind, this lane takes with no other call between; the one after them is
    refused 11. It is C less the items in the ring and the items handed out whose credit has not gone back, so a receive does not always raise it. Whatever
-   calls come between, no send to the lane is refused 11 before so many more were taken. So one is refused 11 only where the last one taken answered 0, and
-   a sender can slow down before that: examples/c/belt.c.
+   calls come between, an opening aside, no send to the lane is refused 11 before so many more were taken; nor after its registration before C were. So one is
+   refused 11 only where the last one taken answered 0, and a sender can slow down before that: examples/c/belt.c.
 
    WHAT EVERY CALL RELIES ON. Each pointer is to as many words as its length says, `words` to FANRING_WORDS, aligned as uint64_t is; it is not NULL, also
    where the length is 0. `table`, `rings`, `out` and `words` do not overlap. Nothing else uses them during the call: one call at a time on a pair of

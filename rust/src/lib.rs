@@ -50,7 +50,7 @@
 //!   woken. Once all senders are dropped, look until it is answered; or until `Empty`, where a paused lane still holds
 //!   items, which is answered then until that lane is resumed, closed or emptied.
 //! - A sender that was refused as `Full` tries again after a batch or [`release_consumed`](Channel::release_consumed):
-//!   then all places of items that were taken are free again. No answer tells of it. By [`Taken::free`], which every
+//!   then all places of items that were taken are free again. No receive tells of it. By [`Taken::free`], which every
 //!   accepted send answers, a sender can slow down before it is refused: examples/belt.rs.
 //! - A batch names no lanes and keeps no order between them; a lane's own items are in the order sent. Where it matters
 //!   whose an item is, the item has to say so, or single receives do.

@@ -32,7 +32,8 @@ pub struct Taken {
     /// It is the [capacity](crate::Channel::capacity_per_sender) less the items in the lane's ring and the items taken
     /// out of it whose places are not released: see
     /// [`release_consumed`](crate::Channel::release_consumed). So a receive does not always raise it. Whatever calls come
-    /// between, no send to the lane is refused as `Full` before so many more were accepted. So one is refused as `Full`
-    /// only where the last one accepted answered 0, and a sender can slow down before that, as examples/belt.rs does.
+    /// between, no send to the lane is refused as `Full` before so many more were accepted; nor after its registration
+    /// before as many as the capacity were. So one is refused as `Full` only where the last one accepted answered 0, and a
+    /// sender can slow down before that, as examples/belt.rs does.
     pub free: usize,
 }
