@@ -32,7 +32,7 @@ pub fn after(cursor: u64, n: u64) -> u64
     std::num::wrapping_add_u64(cursor, n)
 }
 
-// How many places are free where so many are in use, at most all of them: none exactly if all are.
+// How many places are free where so many are in use; 0 exactly if all are. It wraps where more are.
 fn free_places(capacity: u64, used: u64) -> u64
     ensures { λ r. ⌜ (r ≡ distance capacity used) × (r ≡ 0 → used ≡ capacity) ⌝ }
 {

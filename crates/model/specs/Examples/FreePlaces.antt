@@ -88,3 +88,12 @@ fourth-accepted h = untrue (ap accepted (h .full-from (omega arith)))
 tenth-accepted : TakesSoMany 3 9 (Taken true 0) → ⊥
 unfolding accepted
 tenth-accepted h = untrue (ap accepted (h .full-from (omega arith)))
+
+-- and of the largest number: the last place, and the one after it
+last-refused : TakesSoMany 65535 65534 (Refused Full) → ⊥
+unfolding takenWith
+last-refused h = untrue (sym (h .taken-below (omega arith)))
+
+after-all-accepted : TakesSoMany 65535 65535 (Taken true 0) → ⊥
+unfolding accepted
+after-all-accepted h = untrue (ap accepted (h .full-from (omega arith)))

@@ -1,5 +1,5 @@
--- Rules of which `FreePlaces` or `NotFullBefore` does not hold (specs/ShutOut.antt), each by a computed run. The runs have much in them, so that a claim about fewer
--- runs would not be broken here.
+-- Rules of which `FreePlaces` or `NotFullBefore` does not hold (specs/ShutOut.antt), each by a computed run. Runs with much in them, so that a claim about runs with
+-- less would not be broken here; and with little, so that neither would one about runs with more.
 -- Assumes nothing.
 use mathlib.Core.Path.{_≡_, refl, sym, ap}
 use mathlib.Core.Bool.{true, false}
@@ -10,7 +10,7 @@ use lib.ListN.{length, take}
 use Rattle.model.specs.declared.LaneKey.{LaneKey}
 use Rattle.model.specs.declared.LaneId.{LaneId}
 use Rattle.model.specs.declared.Opening.{Opening}
-use Rattle.model.specs.declared.SenderCall.the-variants.{TrySend, TrySendUnsignaled, DropSender}
+use Rattle.model.specs.declared.SenderCall.the-variants.{RegisterSender, TrySend, TrySendUnsignaled, DropSender}
 use Rattle.model.specs.declared.ReceiveCall.the-variants.{TryRecv, TryRecvFrom, TryRecvBatchInto}
 use Rattle.model.specs.declared.ControlCall.the-variants.{Pause, Resume, CloseLane, ReleaseConsumed}
 use Rattle.model.specs.declared.Call.{Call}
@@ -236,3 +236,96 @@ unreleased-shut-out h =
         ∷ ends (Control (CloseLane (id 0 4))) Done
         ∷ ends (Sender (DropSender (keyAt 0 4))) Done
         ∷ []
+
+-- ---- runs with little in them
+tiny : Opening
+tiny = record { capacity = 1; slots = 1; channel = 0; cursor = 0; generation = 0 }
+
+tinyLent : Lent
+tinyLent = record { rings = 1; table = 536 }
+
+lone : LaneKey
+lone = keyAt 0 0
+
+computeTiny : Unit {0}
+unfolding computeMiscounted tiny tinyLent lone
+computeTiny = tt
+
+-- a new lane of one place, nothing received, nothing paused: it says 1, and the next send is refused
+one-more-at-once : FreePlaces (sendsSay oneMore) → ⊥
+unfolding computeTiny oneMore FreePlaces FreePlacesIn
+one-more-at-once h =
+    untrue (sym ((h tiny tinyLent refl (Sender (RegisterSender 1) ∷ []) lone (ordinary 0) [] (unsignalled 0) tt true 1 refl) .taken-below (omega arith)))
+
+-- the same of `NotFullBefore`: nothing between, nothing after
+one-more-full-at-once : NotFullBefore (sendsSay oneMore) → ⊥
+unfolding computeTiny oneMore NotFullBefore NotFullBeforeIn
+one-more-full-at-once h =
+    let one : 1 ≤ 0 =
+    h tiny tinyLent refl (Sender (RegisterSender 1) ∷ sends lone 0 ∷ posts lone 0 ∷ []) tt lone 1 (ends (sends lone 0) (Taken true 1)) (sent (ordinary 0) true 1) (unsignalled 0)
+    (ends (Sender (RegisterSender 1)) (Registered lone) ∷ []) [] [] refl in
+    omega (arith, one)
+
+-- a new lane of one place that takes none
+none-taken : NotFullBefore (keepsLastPlace true) → ⊥
+unfolding computeTiny NotFullBefore NotFullBeforeIn
+none-taken h =
+    let one : 1 ≤ 0 =
+    h tiny tinyLent refl (Sender (RegisterSender 1) ∷ sends lone 0 ∷ []) tt lone 1 (ends (Sender (RegisterSender 1)) (Registered lone)) (registered 1) (ordinary 0) [] [] [] refl in
+    omega (arith, one)
+
+-- a lane with one place free that is refused while paused, and takes the send after: what comes after the refusal, what other lanes take and what is refused
+-- does not count
+paused-then-taken : NotFullBefore pausedIsFull → ⊥
+unfolding computeTiny NotFullBefore NotFullBeforeIn
+paused-then-taken h =
+    let one : 1 ≤ 0 =
+    h two lent refl calls tt lone 1 (ends (posts lone 1) (Taken false 1)) (sent (unsignalled 1) false 1) (ordinary 2)
+    (ends registers (Registered lone) ∷ ends registers (Registered (keyAt 1 0)) ∷ [])
+    (ends (sends (keyAt 1 0) 3) (Taken true 1) ∷ ends (sends (keyAt 0 9) 4) (Refused NoSuchSender) ∷ ends (Control (Pause (id 0 0))) Done ∷ [])
+    (ends (Control (Resume (id 0 0))) Done ∷ ends (sends lone 5) (Taken false 0) ∷ []) refl in
+    omega (arith, one)
+  where
+    two : Opening
+    two = record { capacity = 2; slots = 2; channel = 9; cursor = 0; generation = 0 }
+
+    calls : List Call
+    calls =
+        registers
+        ∷ registers
+        ∷ posts lone 1
+        ∷ sends (keyAt 1 0) 3
+        ∷ sends (keyAt 0 9) 4
+        ∷ Control (Pause (id 0 0))
+        ∷ sends lone 2
+        ∷ Control (Resume (id 0 0))
+        ∷ sends lone 5
+        ∷ []
+
+-- ---- other capacities: the largest, and one that is rounded up
+large : Opening
+large = record { capacity = 65536; slots = 8192; channel = 9; cursor = 0; generation = 0 }
+
+largeLent : Lent
+largeLent = record { rings = 536870912; table = 197120 }
+
+none-unsignalled-large : FreePlaces (sendsSay noneUnsignalled) → ⊥
+unfolding computeTiny large largeLent noneUnsignalled FreePlaces FreePlacesIn
+none-unsignalled-large h = untrue (ap accepted ((h large largeLent refl (registers ∷ []) lone (unsignalled 0) [] (ordinary 0) tt false 0 refl) .full-from (omega arith)))
+
+paused-large : NotFullBefore pausedIsFull → ⊥
+unfolding computeTiny large largeLent NotFullBefore NotFullBeforeIn
+paused-large h =
+    let all : 65535 ≤ 0 =
+    h large largeLent refl (registers ∷ sends lone 0 ∷ Control (Pause (id 0 0)) ∷ sends lone 1 ∷ []) tt lone 65535 (ends (sends lone 0) (Taken true 65535)) (sent (ordinary 0) true 65535)
+    (ordinary 1) (ends registers (Registered lone) ∷ []) (ends (Control (Pause (id 0 0))) Done ∷ []) [] refl in
+    omega (arith, all)
+
+-- 3 places asked for are 4: the fourth send is refused
+kept-rounded-up : NotFullBefore (keepsLastPlace true) → ⊥
+unfolding computeTiny NotFullBefore NotFullBeforeIn
+kept-rounded-up h =
+    let four : 4 ≤ 3 =
+    h record { capacity = 3; slots = 1; channel = 9; cursor = 0; generation = 0 } lent refl (registers ∷ repeat 4 (sends lone 0)) tt lone 4 (ends registers (Registered lone)) (registered 9)
+    (ordinary 0) [] (ends (sends lone 0) (Taken true 3) ∷ ends (sends lone 0) (Taken false 2) ∷ ends (sends lone 0) (Taken false 1) ∷ []) [] refl in
+    omega (arith, four)
