@@ -15,6 +15,9 @@ pub mod EqualTurns
 pub mod Uneven
 pub mod FreePlaces
 pub mod Miscounted
+pub mod LaneIds
+pub mod Mistaken
+pub mod Renumbered
 pub mod ReceivesEnd
 pub mod BudgetAfterNothing
 pub mod WhileMarked

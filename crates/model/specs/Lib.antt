@@ -20,6 +20,8 @@ pub mod Demand2
 pub mod Demand3
 pub mod EqualTurns
 pub mod FreePlaces
+pub mod LaneIds
+pub mod Renumbered
 pub mod Closed
 pub mod Held
 pub mod Simulation

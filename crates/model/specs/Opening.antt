@@ -4,6 +4,7 @@ use mathlib.Core.Bool.{true}
 use mathlib.Core.List.{[], _∷_}
 use Prim.Native.Nat.{ℕ, zero, suc, _+_, _*_}
 use lib.Dec.{leb, ltb}
+use Rattle.model.specs.declared.OpenedChannel.{OpenedChannel}
 use Rattle.model.specs.declared.Opening.{Opening}
 use Rattle.model.specs.declared.Refusal.the-variants.{CapacityOutOfRange, SlotsOutOfRange, RingStoreShort, TableStoreShort}
 use Rattle.model.specs.declared.Answer.the-variants.{Done}
@@ -21,6 +22,10 @@ doubledUntil (suc n) p c = if (leb c p) p (doubledUntil n (p + p) c)
 abbrev pub nextPowerOfTwo : ℕ → ℕ
 nextPowerOfTwo c = doubledUntil 16 1 c
 
+-- What an opening's lane ids carry: the channel's id and the opening number.
+abbrev pub channelOf : Opening → OpenedChannel
+channelOf o = record { id = o .channel; opening = o .number }
+
 -- "No sender yet; poll budget 64; group cursor 0."
 unfoldable pub openedState : Opening → State
 openedState o = record {
@@ -33,7 +38,7 @@ openedState o = record {
   isOpen = true;
   capacity = nextPowerOfTwo (o .capacity);
   slots = o .slots;
-  channel = o .channel;
+  channel = channelOf o;
   firstGeneration = o .generation;
 }
 

@@ -32,7 +32,7 @@ emptyOrDrained s = says (if (leb 1 (registeredLanes s)) Empty Disconnected) s
 unfoldable pub nothingTaken : State → Outcome
 nothingTaken s = if (leb 1 (livingSenders s)) (says Empty s) (emptyOrDrained (retireEmptyPausedLanes (from 0 (s .issued)) s))
 
--- "Single receives answer item and lane id (channel id, key)."
+-- "Single receives answer item and lane id (channel id, key)." The id carries the opening number too.
 unfoldable pub answerOne : List (LaneKey × ℕ) → State → Outcome
 answerOne [] s = nothingTaken s
 answerOne (g ∷ gs) s = (g ∷ [], (Item (g .1) (idOf s (g .0)), s))

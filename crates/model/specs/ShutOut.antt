@@ -3,10 +3,11 @@
 -- Assumes nothing.
 use mathlib.Core.Bool.{Bool, true, false, not}
 use mathlib.Core.List.{List, [], _∷_, _++_}
-use Prim.Native.Nat.{ℕ, suc, _+_}
+use Prim.Native.Nat.{ℕ, suc, _+_, _%_}
 use lib.ListN.{length}
-use lib.Dec.{ltb, leb}
+use lib.Dec.{ltb, leb, eqb}
 use Rattle.model.specs.declared.LaneKey.{LaneKey}
+use Rattle.model.specs.declared.LaneId.{LaneId}
 use Rattle.model.specs.declared.SenderCall.{SenderCall}
 use Rattle.model.specs.declared.SenderCall.the-variants.{RegisterSender, TrySend, TrySendUnsignaled, DropSender}
 use Rattle.model.specs.declared.ReceiveCall.{ReceiveCall}
@@ -15,11 +16,12 @@ use Rattle.model.specs.declared.ControlCall.{ControlCall}
 use Rattle.model.specs.declared.ControlCall.the-variants.{Pause, Resume, CloseLane, ReleaseConsumed, PollAllLanes, CloseReceiver, CountHeld}
 use Rattle.model.specs.declared.Call.{Call}
 use Rattle.model.specs.declared.Call.the-variants.{Sender, Receive, Control}
-use Rattle.model.specs.declared.Refusal.the-variants.{ReceiverClosed, OutputShort, Full}
-use Rattle.model.specs.declared.Answer.the-variants.{Registered, Taken, Items, Held, Refused}
+use Rattle.model.specs.declared.Refusal.the-variants.{StoreNotInOrder, ReceiverClosed, OutputShort, Full}
+use Rattle.model.specs.declared.Answer.{Answer}
+use Rattle.model.specs.declared.Answer.the-variants.{Done, Registered, Taken, Item, Items, Empty, Disconnected, Held, Refused}
 use Rattle.model.specs.Lists.{if, both}
 use Rattle.model.specs.State.{State, keyOf, freePlaces}
-use Rattle.model.specs.Changes.{withQueue, withFree, withBudget, put, withRing, newLane}
+use Rattle.model.specs.Changes.{withQueue, withFree, withIssued, withBudget, put, withRing, newLane}
 use Rattle.model.specs.Ready.{collectReady}
 use Rattle.model.specs.Turn.{runDown, giveFront, polled}
 use Rattle.model.specs.Outcome.{Outcome, says, unless}
@@ -27,7 +29,7 @@ use Rattle.model.specs.Runs.{Lent, Rules, accepted}
 use Rattle.model.specs.Sender.{issueSlot, registerSender, trySend, trySendUnsignaled, senderOutcome}
 use Rattle.model.specs.Receive.{answerOne, takeUpTo, releaseAll, answerItems, writtenTo, receiveOutcome}
 use Rattle.model.specs.Control.{controlOutcome}
-use Rattle.model.specs.Opening.{openingOutcome}
+use Rattle.model.specs.Opening.{openedState, openingOutcome}
 use Rattle.model.specs.Wake.{saysWoken}
 
 -- Rules with these outcomes of the sender calls, the receives and the other calls.
@@ -253,3 +255,152 @@ registerUnreleased s (DropSender k) = senderOutcome s (DropSender k)
 
 abbrev pub newLaneUnreleased : Rules
 newLaneUnreleased = rulesBy registerUnreleased receiveOutcome controlOutcome
+
+-- The claims of specs/LaneIds.antt shut out the following (specs/Examples/Mistaken.antt).
+-- Calls that take an id for another, by the state.
+abbrev pub TakenFor : Type 0
+TakenFor = State → LaneId → LaneId
+
+unfoldable pub asItIs : TakenFor
+asItIs s i = i
+
+-- Ids known by channel and key alone; by these and the number's lower 32 bits; by opening number and key alone; and none known, as slot S is never issued.
+unfoldable pub numberIgnored : TakenFor
+numberIgnored s i = record { channel = record { id = i .channel .id; opening = s .channel .opening }; key = i .key }
+
+unfoldable pub upperHalfIgnored : TakenFor
+upperHalfIgnored s i = if (eqb (i .channel .opening % 4294967296) (s .channel .opening % 4294967296)) (numberIgnored s i) i
+
+unfoldable pub channelIgnored : TakenFor
+channelIgnored s i = record { channel = record { id = s .channel .id; opening = i .channel .opening }; key = i .key }
+
+unfoldable pub forNoLane : TakenFor
+forNoLane s i = record { channel = i .channel; key = record { slot = s .slots; generation = i .key .generation } }
+
+unfoldable pub receiveTaking : TakenFor → State → ReceiveCall → Outcome
+receiveTaking f s (TryRecvFrom i) = receiveOutcome s (TryRecvFrom (f s i))
+receiveTaking f s TryRecv = receiveOutcome s TryRecv
+receiveTaking f s TryRecvFair = receiveOutcome s TryRecvFair
+receiveTaking f s (TryRecvBatchInto limit room) = receiveOutcome s (TryRecvBatchInto limit room)
+
+unfoldable pub controlTaking : TakenFor → TakenFor → TakenFor → State → ControlCall → Outcome
+controlTaking f g h s (Pause i) = controlOutcome s (Pause (f s i))
+controlTaking f g h s (Resume i) = controlOutcome s (Resume (g s i))
+controlTaking f g h s (CloseLane i) = controlOutcome s (CloseLane (h s i))
+controlTaking f g h s ReleaseConsumed = controlOutcome s ReleaseConsumed
+controlTaking f g h s PollAllLanes = controlOutcome s PollAllLanes
+controlTaking f g h s CloseReceiver = controlOutcome s CloseReceiver
+controlTaking f g h s CountHeld = controlOutcome s CountHeld
+
+abbrev pub takesIds : (targeted paused resumed closed : TakenFor) → Rules
+takesIds targeted paused resumed closed = rulesBy senderOutcome (receiveTaking targeted) (controlTaking paused resumed closed)
+
+-- Items with another id.
+unfoldable pub itemNamed : (LaneId → LaneId) → Answer → Answer
+itemNamed f (Item v i) = Item v (f i)
+itemNamed f Done = Done
+itemNamed f (Registered k) = Registered k
+itemNamed f (Taken w n) = Taken w n
+itemNamed f (Items n) = Items n
+itemNamed f Empty = Empty
+itemNamed f Disconnected = Disconnected
+itemNamed f (Held n) = Held n
+itemNamed f (Refused r) = Refused r
+
+unfoldable pub receiveNaming : (plain fair targeted : LaneId → LaneId) → State → ReceiveCall → Outcome
+receiveNaming f g h s TryRecv = let o = receiveOutcome s TryRecv in (o .0, (itemNamed f (o .1 .0), o .1 .1))
+receiveNaming f g h s TryRecvFair = let o = receiveOutcome s TryRecvFair in (o .0, (itemNamed g (o .1 .0), o .1 .1))
+receiveNaming f g h s (TryRecvFrom i) = let o = receiveOutcome s (TryRecvFrom i) in (o .0, (itemNamed h (o .1 .0), o .1 .1))
+receiveNaming f g h s (TryRecvBatchInto limit room) = receiveOutcome s (TryRecvBatchInto limit room)
+
+abbrev pub namesItems : (plain fair targeted : LaneId → LaneId) → Rules
+namesItems plain fair targeted = rulesBy senderOutcome (receiveNaming plain fair targeted) controlOutcome
+
+-- Calls of a kind that lose the opening number: where they are accepted, it is 1 afterwards.
+unfoldable pub numberLost : Outcome → Outcome
+numberLost o = let u = o .1 .1 in (
+  o .0,
+  (
+    o .1 .0,
+    if (accepted (o .1 .0)) record {
+      slotOf = u .slotOf;
+      queue = u .queue;
+      free = u .free;
+      issued = u .issued;
+      budget = u .budget;
+      cursor = u .cursor;
+      isOpen = u .isOpen;
+      capacity = u .capacity;
+      slots = u .slots;
+      channel = record { id = u .channel .id; opening = 1 };
+      firstGeneration = u .firstGeneration;
+    } u,
+  ),
+)
+
+abbrev pub senderCallsLoseNumber : Rules
+senderCallsLoseNumber = rulesBy (λ s c. numberLost (senderOutcome s c)) receiveOutcome controlOutcome
+
+abbrev pub receivesLoseNumber : Rules
+receivesLoseNumber = rulesBy senderOutcome (λ s r. numberLost (receiveOutcome s r)) controlOutcome
+
+abbrev pub controlsLoseNumber : Rules
+controlsLoseNumber = rulesBy senderOutcome receiveOutcome (λ s c. numberLost (controlOutcome s c))
+
+-- `NumberOnlyTellsIds` shuts out rules in which the opening number does something else (specs/Examples/Renumbered.antt).
+-- Where it is not 0, a send is refused as full, a fair receive serves only the front lane, the held count is 0, as above.
+unfoldable pub ifNumbered : {C : Type 0} → (State → C → Outcome) → (State → C → Outcome) → State → C → Outcome
+ifNumbered wrong right s c = if (eqb (s .channel .opening) 0) (right s c) (wrong s c)
+
+abbrev pub numberedSendFull : Rules
+numberedSendFull = rulesBy (ifNumbered sendRefused senderOutcome) receiveOutcome controlOutcome
+
+abbrev pub numberedFairFront : Rules
+numberedFairFront = rulesBy senderOutcome (ifNumbered receiveOfFront receiveOutcome) controlOutcome
+
+abbrev pub numberedHeldZero : Rules
+numberedHeldZero = rulesBy senderOutcome receiveOutcome (ifNumbered countsNone controlOutcome)
+
+-- The first generation has the number added to it.
+unfoldable pub issuedNumbered : List ℕ → State → Outcome
+issuedNumbered [] s =
+    let g = s .firstGeneration + s .channel .opening in
+    says (Registered record { slot = s .issued; generation = g }) (withIssued (suc (s .issued)) (put (s .issued) (newLane g (s .slotOf (s .issued))) s))
+issuedNumbered (x ∷ l) s = issueSlot (x ∷ l) s
+
+unfoldable pub registerNumbered : State → SenderCall → Outcome
+registerNumbered s (RegisterSender most) = let o = registerSender s most in if (accepted (o .1 .0)) (issuedNumbered (s .free) s) o
+registerNumbered s (TrySend k v) = senderOutcome s (TrySend k v)
+registerNumbered s (TrySendUnsignaled k v) = senderOutcome s (TrySendUnsignaled k v)
+registerNumbered s (DropSender k) = senderOutcome s (DropSender k)
+
+abbrev pub generationsNumbered : Rules
+generationsNumbered = rulesBy registerNumbered receiveOutcome controlOutcome
+
+-- An id of a later opening, one with a higher number, is taken for one of this.
+unfoldable pub laterForThis : TakenFor
+laterForThis s i = if (leb (s .channel .opening) (i .channel .opening)) (numberIgnored s i) i
+
+-- A batch with a number other than 0 writes nothing.
+abbrev pub numberedWritesNothing : Rules
+numberedWritesNothing = record {
+  State = State;
+  Stores = Lent;
+  lengths = λ lent. lent;
+  opens = λ o lent. (openingOutcome o lent) .1;
+  step = λ s c. (callBy senderOutcome receiveOutcome controlOutcome s c) .1;
+  hands = λ s r. (receiveOutcome s r) .0;
+  output = λ s r out. if (eqb (s .channel .opening) 0) (outputBy r ((receiveOutcome s r) .0) out) out;
+}
+
+-- An opening with a number other than 0 is refused.
+abbrev pub opensUnnumbered : Rules
+opensUnnumbered = record {
+  State = State;
+  Stores = Lent;
+  lengths = λ lent. lent;
+  opens = λ o lent. if (eqb (o .number) 0) ((openingOutcome o lent) .1) (Refused StoreNotInOrder, openedState o);
+  step = λ s c. (callBy senderOutcome receiveOutcome controlOutcome s c) .1;
+  hands = λ s r. (receiveOutcome s r) .0;
+  output = λ s r out. outputBy r ((receiveOutcome s r) .0) out;
+}

@@ -44,7 +44,7 @@ pub record Simulation (W : Viewed) : Type 0 where
 
 -- The numbers that a call is given.
 unfoldable pub numbersOfId : LaneId → List ℕ
-numbersOfId i = i .channel ∷ i .key .slot ∷ i .key .generation ∷ []
+numbersOfId i = i .channel .id ∷ i .key .slot ∷ i .key .generation ∷ i .channel .opening ∷ []
 
 unfoldable pub numbersOfCall : Call → List ℕ
 numbersOfCall (Sender (RegisterSender most)) = most ∷ []

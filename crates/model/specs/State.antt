@@ -7,6 +7,7 @@ use Prim.Native.Nat.{ℕ, _+_, _-_, _/_, max, min}
 use lib.ListN.{length}
 use lib.Dec.{leb, eqb}
 use Rattle.model.specs.declared.LaneKey.{LaneKey}
+use Rattle.model.specs.declared.OpenedChannel.{OpenedChannel}
 use Rattle.model.specs.declared.LaneId.{LaneId}
 use Rattle.model.specs.Lists.{if, both, count, keep, from}
 
@@ -48,7 +49,8 @@ pub record State : Type 0 where
   pub capacity : ℕ
   -- "S"
   pub slots : ℕ
-  pub channel : ℕ
+  -- the channel's id and the opening's number
+  pub channel : OpenedChannel
   pub firstGeneration : ℕ
 
 -- A slot that was never issued.
@@ -84,7 +86,7 @@ livingSenders s = length (keep (λ x. s .slotOf x .living) (from 0 (s .issued)))
 abbrev pub keyOf : State → ℕ → LaneKey
 keyOf s x = record { slot = x; generation = s .slotOf x .generation }
 
--- "lane id (channel id, key)"
+-- "lane id (channel id, key)"; document 02, N7: "Opening takes also an opening number [..] and a lane id carries it."
 abbrev pub idOf : State → LaneKey → LaneId
 idOf s k = record { channel = s .channel; key = k }
 
@@ -96,9 +98,13 @@ senderLives s k = both (s .slotOf (k .slot) .living) (eqb (s .slotOf (k .slot) .
 unfoldable pub hasLane : State → LaneKey → Bool
 hasLane s k = both (s .slotOf (k .slot) .registered) (eqb (s .slotOf (k .slot) .generation) (k .generation))
 
--- A registered lane has this id.
+-- Two openings have the same channel id and the same opening number.
+abbrev pub sameOpening : OpenedChannel → OpenedChannel → Bool
+sameOpening a b = both (eqb (a .id) (b .id)) (eqb (a .opening) (b .opening))
+
+-- A registered lane has this id: "channel, opening number, slot and generation all agree".
 unfoldable pub hasLaneId : State → LaneId → Bool
-hasLaneId s i = both (eqb (i .channel) (s .channel)) (hasLane s (i .key))
+hasLaneId s i = both (sameOpening (i .channel) (s .channel)) (hasLane s (i .key))
 
 -- "push refuses exactly if the cursor's wrapped distance from the released head is C"
 -- That distance is the items in the ring and those taken but not released.

@@ -8,9 +8,16 @@ pub struct LaneKey {
     pub generation: u64,
 }
 
-// Names one lane among all channels.
+// One opening of a channel: the channel's id, and the opening number that the host chose.
+pub struct OpenedChannel {
+    pub id: u64,
+    pub opening: u64,
+}
+
+// Names one lane among all openings of all channels, if the host gives no opening number of a channel
+// twice and goes on with one copy of the stores.
 pub struct LaneId {
-    pub channel: u64,
+    pub channel: OpenedChannel,
     pub key: LaneKey,
 }
 
@@ -22,6 +29,8 @@ pub struct Opening {
     // Where every ring's cursors start, and the generation of a slot's first lane.
     pub cursor: u64,
     pub generation: u64,
+    // The opening number: tells this opening's lane ids from those of others with the same channel id.
+    pub number: u64,
 }
 
 // The calls are in three enums, so that a rule about one kind names only that kind's cases.

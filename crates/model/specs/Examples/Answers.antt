@@ -37,7 +37,7 @@ key : LaneKey
 key = record { slot = 3; generation = 8 }
 
 id : LaneId
-id = record { channel = 7; key = record { slot = 3; generation = 8 } }
+id = record { channel = record { id = 7; opening = 6 }; key = record { slot = 3; generation = 8 } }
 
 says : Word → List ℕ → Line
 says w ns = record { word = w; numbers = ns }

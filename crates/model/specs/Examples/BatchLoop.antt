@@ -26,7 +26,7 @@ lanes budget u b q = record {
   isOpen = true;
   capacity = 256;
   slots = 2;
-  channel = 7;
+  channel = record { id = 7; opening = 0 };
   firstGeneration = 0;
 }
 

@@ -24,7 +24,7 @@ use Rattle.model.specs.Demand3.{bound, Promise}
 use Rattle.model.specs.Examples.Calls.{compute}
 
 opening : Opening
-opening = record { capacity = 128; slots = 2; channel = 7; cursor = 0; generation = 0 }
+opening = record { capacity = 128; slots = 2; channel = 7; cursor = 0; generation = 0; number = 0 }
 
 lent : Lent
 lent = record { rings = 256; table = 560 }
@@ -37,7 +37,7 @@ pub lane : ℕ → LaneKey
 lane x = record { slot = x; generation = 0 }
 
 laneId : ℕ → LaneId
-laneId x = record { channel = 7; key = lane x }
+laneId x = record { channel = record { id = 7; opening = 0 }; key = lane x }
 
 times : ℕ → Call → List Call
 times zero c = []

@@ -41,7 +41,7 @@ lanes living paused b q ready = record {
   isOpen = true;
   capacity = 4;
   slots = 3;
-  channel = 7;
+  channel = record { id = 7; opening = 0 };
   firstGeneration = 0;
 }
 
@@ -57,7 +57,7 @@ batch : ℕ → ReceiveCall
 batch limit = TryRecvBatchInto limit 9
 
 targeted : ReceiveCall
-targeted = TryRecvFrom record { channel = 7; key = record { slot = 0; generation = 0 } }
+targeted = TryRecvFrom record { channel = record { id = 7; opening = 0 }; key = record { slot = 0; generation = 0 } }
 
 -- the state before, the call, and the budget after it
 cases : List ((State × ReceiveCall) × ℕ)

@@ -68,7 +68,7 @@ examples-hold k h = at-each table table-computed k _ h
 outputOf : ℕ → List ℕ
 outputOf limit =
     outputAfter
-    (afterList theRules (openedState record { capacity = 4; slots = 2; channel = 7; cursor = 0; generation = 0 }) (registers ∷ registers ∷ sends 1 3 ∷ sends 0 1 ∷ sends 0 2 ∷ []))
+    (afterList theRules (openedState record { capacity = 4; slots = 2; channel = 7; cursor = 0; generation = 0; number = 0 }) (registers ∷ registers ∷ sends 1 3 ∷ sends 0 1 ∷ sends 0 2 ∷ []))
     (TryRecvBatchInto limit 5) (90 ∷ 91 ∷ 92 ∷ 93 ∷ 94 ∷ [])
 
 outputs-computed :
@@ -83,7 +83,7 @@ outputs-computed = refl
 
 -- openings at the edge of each refusal: capacity, slots, words of the ring store and of the table store
 opens : ℕ × ℕ × ℕ × ℕ → Answer
-opens a = (openingOutcome record { capacity = a .0; slots = a .1; channel = 7; cursor = 0; generation = 0 } record { rings = a .2; table = a .3 }) .1 .0
+opens a = (openingOutcome record { capacity = a .0; slots = a .1; channel = 7; cursor = 0; generation = 0; number = 0 } record { rings = a .2; table = a .3 }) .1 .0
 
 openings-computed :
     Reads opens

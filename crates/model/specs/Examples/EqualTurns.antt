@@ -183,7 +183,7 @@ thirds-apart = record { first-most = omega arith; second-most = omega arith }
 -- ---- runs of the rules: capacity 8, four slots, lanes 0, 1 and 2
 
 unfoldable pub opening : Opening
-opening = record { capacity = 8; slots = 4; channel = 7; cursor = 0; generation = 0 }
+opening = record { capacity = 8; slots = 4; channel = 7; cursor = 0; generation = 0; number = 0 }
 
 unfoldable pub lent : Lent
 lent = record { rings = 2048; table = 4096 }

@@ -22,7 +22,7 @@ use Rattle.model.specs.Examples.Calls.{compute}
 
 -- two slots of capacity 128
 unfoldable pub twoSlots : Opening
-twoSlots = record { capacity = 128; slots = 2; channel = 7; cursor = 0; generation = 0 }
+twoSlots = record { capacity = 128; slots = 2; channel = 7; cursor = 0; generation = 0; number = 0 }
 
 unfoldable pub lent : Lent
 lent = record { rings = 256; table = 560 }
@@ -70,8 +70,8 @@ budget-then = refl
 -- taken; then a fair receive, which finds lane 1 empty, a batch of the two items sent next, and a targeted receive of nothing
 each-event :
     runEvents rulesViewed twoSlots lent
-    (registers ∷ registers ∷ repeat 64 (sends 0) ++ (Receive (TryRecvBatchInto 64 64) ∷ Control (Pause record { channel = 7; key = lane 0 }) ∷ sends 1 ∷ plain ∷ Receive TryRecvFair ∷ sends 1 ∷ sends 1
-    ∷ Receive (TryRecvBatchInto 3 3) ∷ Receive (TryRecvFrom record { channel = 7; key = lane 0 }) ∷ []))
+    (registers ∷ registers ∷ repeat 64 (sends 0) ++ (Receive (TryRecvBatchInto 64 64) ∷ Control (Pause record { channel = record { id = 7; opening = 0 }; key = lane 0 }) ∷ sends 1 ∷ plain ∷ Receive TryRecvFair ∷ sends 1 ∷ sends 1
+    ∷ Receive (TryRecvBatchInto 3 3) ∷ Receive (TryRecvFrom record { channel = record { id = 7; opening = 0 }; key = lane 0 }) ∷ []))
     ≡ budgetSet ∷ collected ∷ repeat 64 (itemTaken (lane 0)) ++ (wentToBack (lane 0) ∷ collected ∷ budgetSet ∷ itemTaken (lane 1) ∷ noneMarked ∷ budgetSet ∷ foundEmpty (lane 1)
     ∷ collected ∷ itemTaken (lane 1) ∷ itemTaken (lane 1) ∷ foundEmpty (lane 1) ∷ noneMarked ∷ foundEmpty (lane 0) ∷ [])
 unfolding computeEvents
@@ -79,7 +79,7 @@ each-event = refl
 
 -- "one item of the front lane, which goes to the back": two fair receives; "Targeted: counts in neither burst nor budget": then one that takes lane 0's second item
 fair-and-targeted :
-    runEvents rulesViewed twoSlots lent (registers ∷ registers ∷ sends 0 ∷ sends 0 ∷ sends 1 ∷ Receive TryRecvFair ∷ Receive TryRecvFair ∷ Receive (TryRecvFrom record { channel = 7; key = lane 0 }) ∷ [])
+    runEvents rulesViewed twoSlots lent (registers ∷ registers ∷ sends 0 ∷ sends 0 ∷ sends 1 ∷ Receive TryRecvFair ∷ Receive TryRecvFair ∷ Receive (TryRecvFrom record { channel = record { id = 7; opening = 0 }; key = lane 0 }) ∷ [])
     ≡ budgetSet ∷ collected ∷ budgetSet ∷ itemTaken (lane 0) ∷ wentToBack (lane 0) ∷ noneMarked ∷ budgetSet ∷ itemTaken (lane 1) ∷ wentToBack (lane 1) ∷ []
 unfolding computeEvents
 fair-and-targeted = refl

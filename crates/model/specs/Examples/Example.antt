@@ -25,9 +25,9 @@ pub record Example : Type 0 where
   pub budget : ℕ
   pub said : List (ℕ × Call × Answer)
 
--- its opening; the channel is 7, as in "Input 0 (4, 2, 7, 0, 0)"
+-- its opening; channel 7 and opening number 0, as in document 02's "0 (4, 2, 7, 0, 0, 0)"
 unfoldable pub openingOf : Example → Opening
-openingOf e = record { capacity = e .capacity; slots = e .slots; channel = 7; cursor = 0; generation = e .generation }
+openingOf e = record { capacity = e .capacity; slots = e .slots; channel = 7; cursor = 0; generation = e .generation; number = 0 }
 
 unfoldable pub repeat : {A : Type 0} → ℕ → A → List A
 repeat zero a = []
@@ -65,11 +65,12 @@ saidAnswers e = answersOf (e .said)
 unfoldable pub keyAt : ℕ → ℕ → LaneKey
 keyAt x g = record { slot = x; generation = g }
 
-unfoldable pub idOn : ℕ → ℕ → ℕ → LaneId
-idOn c x g = record { channel = c; key = keyAt x g }
+-- of a channel and an opening of it
+unfoldable pub idOn : ℕ → ℕ → ℕ → ℕ → LaneId
+idOn c n x g = record { channel = record { id = c; opening = n }; key = keyAt x g }
 
 unfoldable pub idAt : ℕ → ℕ → LaneId
-idAt x g = idOn 7 x g
+idAt x g = idOn 7 0 x g
 
 -- the calls and answers that the examples are made of, for lanes of generation 0
 unfoldable pub registers : Call

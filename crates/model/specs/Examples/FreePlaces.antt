@@ -54,7 +54,7 @@ sixMore = map (sendTo (keyAt 0 0)) (unsignalled 5 ∷ ordinary 6 ∷ ordinary 7 
 
 answersAfter : List Call → List Answer
 answersAfter calls =
-    let s = afterList theRules (openedState record { capacity = 4; slots = 2; channel = 7; cursor = 0; generation = 0 }) (registers ∷ registers ∷ calls) in answers theRules s sixMore
+    let s = afterList theRules (openedState record { capacity = 4; slots = 2; channel = 7; cursor = 0; generation = 0; number = 0 }) (registers ∷ registers ∷ calls) in answers theRules s sixMore
 
 so-many-read :
     Reads answersAfter

@@ -25,7 +25,7 @@ key : ℕ → ℕ → LaneKey
 key x g = record { slot = x; generation = g }
 
 id : ℕ → LaneId
-id x = record { channel = 7; key = key x 0 }
+id x = record { channel = record { id = 7; opening = 0 }; key = key x 0 }
 
 registers : Call
 registers = Sender (RegisterSender 9)
@@ -64,7 +64,7 @@ calls : List Call
 calls = registers ∷ registers ∷ drops 0 4 ∷ plain ∷ registers ∷ drops 0 5 ∷ plain ∷ registers ∷ []
 
 run : List Tick
-run = trace theRules (openedState record { capacity = 4; slots = 3; channel = 7; cursor = 0; generation = 4 }) calls
+run = trace theRules (openedState record { capacity = 4; slots = 3; channel = 7; cursor = 0; generation = 4; number = 0 }) calls
 
 -- how often each key was answered
 keys-answered-read :
@@ -91,7 +91,7 @@ unfolding computeKeys calls run
 slots-answered-read = refl
 
 issued-read :
-    ((afterList theRules (openedState record { capacity = 4; slots = 3; channel = 7; cursor = 0; generation = 4 }) calls) .issued ≡ 2)
+    ((afterList theRules (openedState record { capacity = 4; slots = 3; channel = 7; cursor = 0; generation = 4; number = 0 }) calls) .issued ≡ 2)
     × ((ledgerAfter atOpening run) .issued ≡ 2)
 unfolding computeKeys calls run
 issued-read = (refl, refl)

@@ -30,13 +30,13 @@ use Rattle.model.specs.Examples.FreePlaces.{untrue}
 
 -- cursors that pass 2^64, and generations from 4 on
 opening : Opening
-opening = record { capacity = 12; slots = 3; channel = 9; cursor = 18446744073709551613; generation = 4 }
+opening = record { capacity = 12; slots = 3; channel = 9; cursor = 18446744073709551613; generation = 4; number = 0 }
 
 lent : Lent
 lent = record { rings = 48; table = 584 }
 
 id : ℕ → ℕ → LaneId
-id x g = idOn 9 x g
+id x g = idOn 9 0 x g
 
 -- the lane, in a slot that is issued again
 k : LaneKey
@@ -154,8 +154,7 @@ refusal-releases-shut-out h = untrue (ap accepted ((h opening lent refl before k
 paused-is-full-shut-out : NotFullBefore pausedIsFull → ⊥
 unfolding computeMiscounted NotFullBefore NotFullBeforeIn
 paused-is-full-shut-out h =
-    let thirteen : 13 ≤ 2 = h opening lent refl calls tt k 13 (ends (sends k 3) (Taken false 13)) (sent (ordinary 3) false 13) (unsignalled 8) start since (ends held (Held 3) ∷ []) refl in
-    omega (arith, thirteen)
+    omega (arith, h opening lent refl calls tt k 13 (ends (sends k 3) (Taken false 13)) (sent (ordinary 3) false 13) (unsignalled 8) start since (ends held (Held 3) ∷ []) refl)
   where
     calls : List Call
     calls =
@@ -213,7 +212,7 @@ unreleased-shut-out h =
     omega (arith, two)
   where
     small : Opening
-    small = record { capacity = 2; slots = 2; channel = 9; cursor = 18446744073709551615; generation = 4 }
+    small = record { capacity = 2; slots = 2; channel = 9; cursor = 18446744073709551615; generation = 4; number = 0 }
 
     calls : List Call
     calls =
@@ -239,7 +238,7 @@ unreleased-shut-out h =
 
 -- ---- runs with little in them
 tiny : Opening
-tiny = record { capacity = 1; slots = 1; channel = 0; cursor = 0; generation = 0 }
+tiny = record { capacity = 1; slots = 1; channel = 0; cursor = 0; generation = 0; number = 0 }
 
 tinyLent : Lent
 tinyLent = record { rings = 1; table = 536 }
@@ -247,8 +246,11 @@ tinyLent = record { rings = 1; table = 536 }
 lone : LaneKey
 lone = keyAt 0 0
 
+two : Opening
+two = record { capacity = 2; slots = 2; channel = 9; cursor = 0; generation = 0; number = 0 }
+
 computeTiny : Unit {0}
-unfolding computeMiscounted tiny tinyLent lone
+unfolding computeMiscounted tiny tinyLent lone two
 computeTiny = tt
 
 -- a new lane of one place, nothing received, nothing paused: it says 1, and the next send is refused
@@ -286,9 +288,6 @@ paused-then-taken h =
     (ends (Control (Resume (id 0 0))) Done ∷ ends (sends lone 5) (Taken false 0) ∷ []) refl in
     omega (arith, one)
   where
-    two : Opening
-    two = record { capacity = 2; slots = 2; channel = 9; cursor = 0; generation = 0 }
-
     calls : List Call
     calls =
         registers
@@ -302,9 +301,21 @@ paused-then-taken h =
         ∷ sends lone 5
         ∷ []
 
+-- nor does what the lane took before the number was said: the send of 1, whose item is received and its credit back
+taken-before : NotFullBefore pausedIsFull → ⊥
+unfolding computeTiny NotFullBefore NotFullBeforeIn
+taken-before h =
+    omega (
+      arith,
+      h two lent refl (registers ∷ sends lone 1 ∷ plain ∷ plain ∷ sends lone 2 ∷ Control (Pause (id 0 0)) ∷ sends lone 3 ∷ []) tt lone 1
+          (ends (sends lone 2) (Taken true 1)) (sent (ordinary 2) true 1) (ordinary 3)
+          (ends registers (Registered lone) ∷ ends (sends lone 1) (Taken true 1) ∷ gives TryRecv lone 1 ∷ ends plain (Item 1 (id 0 0)) ∷ ends plain Empty ∷ [])
+          (ends (Control (Pause (id 0 0))) Done ∷ []) [] refl,
+    )
+
 -- ---- other capacities: the largest, and one that is rounded up
 large : Opening
-large = record { capacity = 65536; slots = 8192; channel = 9; cursor = 0; generation = 0 }
+large = record { capacity = 65536; slots = 8192; channel = 9; cursor = 0; generation = 0; number = 0 }
 
 largeLent : Lent
 largeLent = record { rings = 536870912; table = 197120 }
@@ -326,6 +337,6 @@ kept-rounded-up : NotFullBefore (keepsLastPlace true) → ⊥
 unfolding computeTiny NotFullBefore NotFullBeforeIn
 kept-rounded-up h =
     let four : 4 ≤ 3 =
-    h record { capacity = 3; slots = 1; channel = 9; cursor = 0; generation = 0 } lent refl (registers ∷ repeat 4 (sends lone 0)) tt lone 4 (ends registers (Registered lone)) (registered 9)
+    h record { capacity = 3; slots = 1; channel = 9; cursor = 0; generation = 0; number = 0 } lent refl (registers ∷ repeat 4 (sends lone 0)) tt lone 4 (ends registers (Registered lone)) (registered 9)
     (ordinary 0) [] (ends (sends lone 0) (Taken true 3) ∷ ends (sends lone 0) (Taken false 2) ∷ ends (sends lone 0) (Taken false 1) ∷ []) [] refl in
     omega (arith, four)

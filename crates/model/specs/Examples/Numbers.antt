@@ -15,7 +15,7 @@ key : LaneKey
 key = record { slot = 1; generation = 2 }
 
 id : LaneId
-id = record { channel = 7; key = key }
+id = record { channel = record { id = 7; opening = 8 }; key = key }
 
 -- as the records have them: "1 register (most), 2 send, 3 unsignalled (slot, generation, item), 4 drop (slot, generation)" and on
 numbers-read :
@@ -26,11 +26,11 @@ numbers-read :
     ∷ (Sender (DropSender key), 1 ∷ 2 ∷ [])
     ∷ (Receive TryRecv, [])
     ∷ (Receive TryRecvFair, [])
-    ∷ (Receive (TryRecvFrom id), 7 ∷ 1 ∷ 2 ∷ [])
+    ∷ (Receive (TryRecvFrom id), 7 ∷ 1 ∷ 2 ∷ 8 ∷ [])
     ∷ (Receive (TryRecvBatchInto 3 64), 3 ∷ 64 ∷ [])
-    ∷ (Control (Pause id), 7 ∷ 1 ∷ 2 ∷ [])
-    ∷ (Control (Resume id), 7 ∷ 1 ∷ 2 ∷ [])
-    ∷ (Control (CloseLane id), 7 ∷ 1 ∷ 2 ∷ [])
+    ∷ (Control (Pause id), 7 ∷ 1 ∷ 2 ∷ 8 ∷ [])
+    ∷ (Control (Resume id), 7 ∷ 1 ∷ 2 ∷ 8 ∷ [])
+    ∷ (Control (CloseLane id), 7 ∷ 1 ∷ 2 ∷ 8 ∷ [])
     ∷ (Control ReleaseConsumed, [])
     ∷ (Control PollAllLanes, [])
     ∷ (Control CloseReceiver, [])

@@ -26,8 +26,8 @@ of-other-read :
     ((gives TryRecv (lane 0 0) 5, true)
     ∷ (gives TryRecv (lane 1 1) 5, true)
     ∷ (gives TryRecv (lane 1 0) 5, false)
-    ∷ (gives (TryRecvFrom record { channel = 7; key = lane 0 0 }) (lane 0 0) 5, true)
-    ∷ (ends (Receive TryRecv) (Item 5 record { channel = 7; key = lane 0 0 }), false)
+    ∷ (gives (TryRecvFrom record { channel = record { id = 7; opening = 0 }; key = lane 0 0 }) (lane 0 0) 5, true)
+    ∷ (ends (Receive TryRecv) (Item 5 record { channel = record { id = 7; opening = 0 }; key = lane 0 0 }), false)
     ∷ (ends (Receive TryRecv) Empty, false)
     ∷ [])
 unfolding computeOthers
@@ -39,11 +39,11 @@ untargeted-of-other-read :
     ((gives TryRecv (lane 0 0) 5, true)
     ∷ (gives TryRecvFair (lane 0 0) 5, true)
     ∷ (gives (TryRecvBatchInto 3 3) (lane 0 0) 5, true)
-    ∷ (gives (TryRecvFrom record { channel = 7; key = lane 0 0 }) (lane 0 0) 5, false)
+    ∷ (gives (TryRecvFrom record { channel = record { id = 7; opening = 0 }; key = lane 0 0 }) (lane 0 0) 5, false)
     ∷ (gives TryRecv (lane 1 1) 5, true)
     ∷ (gives TryRecv (lane 1 0) 5, false)
     ∷ (gives TryRecvFair (lane 1 0) 5, false)
-    ∷ (ends (Receive TryRecv) (Item 5 record { channel = 7; key = lane 0 0 }), false)
+    ∷ (ends (Receive TryRecv) (Item 5 record { channel = record { id = 7; opening = 0 }; key = lane 0 0 }), false)
     ∷ [])
 unfolding computeOthers
 untargeted-of-other-read = refl

@@ -36,7 +36,7 @@ drops : Call
 drops = Sender (DropSender firstLane)
 
 closes : Call
-closes = Control (CloseLane record { channel = 7; key = firstLane })
+closes = Control (CloseLane record { channel = record { id = 7; opening = 0 }; key = firstLane })
 
 plain : Call
 plain = Receive TryRecv
@@ -47,7 +47,7 @@ pollsAll = Control PollAllLanes
 -- a lane is registered in slot 0, and then the calls are made: whether the slot's signal is pending, and whether its page bit is set
 signalAfter : List Call → Bool × Bool
 signalAfter calls =
-    let l = (afterList theRules (openedState record { capacity = 4; slots = 2; channel = 7; cursor = 0; generation = 0 }) (registers ∷ calls)) .slotOf 0 in
+    let l = (afterList theRules (openedState record { capacity = 4; slots = 2; channel = 7; cursor = 0; generation = 0; number = 0 }) (registers ∷ calls)) .slotOf 0 in
     (l .pending, l .marked)
 
 idle : Bool × Bool
@@ -125,7 +125,7 @@ twoGroups l c = record {
   isOpen = true;
   capacity = 4;
   slots = 4097;
-  channel = 7;
+  channel = record { id = 7; opening = 0 };
   firstGeneration = 0;
 }
 

@@ -29,7 +29,7 @@ lane : ℕ → LaneKey
 lane x = record { slot = x; generation = 0 }
 
 laneId : ℕ → LaneId
-laneId x = record { channel = 7; key = lane x }
+laneId x = record { channel = record { id = 7; opening = 0 }; key = lane x }
 
 registers : Call
 registers = Sender (RegisterSender 2)
@@ -45,7 +45,7 @@ pauses x = Control (Pause (laneId x))
 
 -- after an opening of two slots and these calls
 after : List Call → State
-after calls = afterList theRules (openedState record { capacity = 4; slots = 2; channel = 7; cursor = 0; generation = 0 }) calls
+after calls = afterList theRules (openedState record { capacity = 4; slots = 2; channel = 7; cursor = 0; generation = 0; number = 0 }) calls
 
 -- how many items a receive then hands out, the slots that are queued after it, and those whose page bit is set
 ended : List Call × ReceiveCall → ℕ × List ℕ × List ℕ

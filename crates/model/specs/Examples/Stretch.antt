@@ -24,7 +24,7 @@ unfoldable pub lane : ℕ → LaneKey
 lane x = record { slot = x; generation = 0 }
 
 unfoldable pub laneId : ℕ → LaneId
-laneId x = record { channel = 7; key = lane x }
+laneId x = record { channel = record { id = 7; opening = 0 }; key = lane x }
 
 -- the words of the demands, for computing with them
 computeStretch : Unit {0}

@@ -184,7 +184,7 @@ table =
           ∷ (1, registers, Refused NoFreeSlot)
           ∷ [];
     }
-    -- "Input 0 (4, 2, 7, 0, 0); 1 (2); 2 (0, 0, 11); 5; 5; 4 (0, 0); 5 prints whole"
+    -- "Input [..]; 1 (2); 2 (0, 0, 11); 5; 5; 4 (0, 0); 5 prints whole"; it "begins with 0 (4, 2, 7, 0, 0, 0)" (document 02, N7)
     ∷ record {
       capacity = 4;
       slots = 2;
@@ -420,7 +420,7 @@ table =
           ∷ (1, closes 0, Refused ReceiverClosed)
           ∷ [];
     }
-    -- "no lane with this id": another channel's, and another generation's
+    -- "no lane with this id": another channel's, another opening's, and another generation's; document 02, N7
     ∷ record {
       capacity = 4;
       slots = 1;
@@ -428,12 +428,17 @@ table =
       budget = 64;
       said = (1, registers, lane 0 0)
           ∷ (1, sends 0 1, Taken true 3)
-          ∷ (1, Receive (TryRecvFrom (idOn 8 0 0)), Refused NoSuchLane)
-          ∷ (1, Control (Pause (idOn 8 0 0)), Refused NoSuchLane)
-          ∷ (1, Control (Resume (idOn 8 0 0)), Refused NoSuchLane)
-          ∷ (1, Control (CloseLane (idOn 8 0 0)), Refused NoSuchLane)
+          ∷ (1, Receive (TryRecvFrom (idOn 8 0 0 0)), Refused NoSuchLane)
+          ∷ (1, Control (Pause (idOn 8 0 0 0)), Refused NoSuchLane)
+          ∷ (1, Control (Resume (idOn 8 0 0 0)), Refused NoSuchLane)
+          ∷ (1, Control (CloseLane (idOn 8 0 0 0)), Refused NoSuchLane)
+          ∷ (1, Receive (TryRecvFrom (idOn 7 1 0 0)), Refused NoSuchLane)
+          ∷ (1, Control (Pause (idOn 7 1 0 0)), Refused NoSuchLane)
+          ∷ (1, Control (Resume (idOn 7 1 0 0)), Refused NoSuchLane)
+          ∷ (1, Control (CloseLane (idOn 7 1 0 0)), Refused NoSuchLane)
           ∷ (1, Receive (TryRecvFrom (idAt 0 1)), Refused NoSuchLane)
           ∷ (1, Control (Pause (idAt 0 1)), Refused NoSuchLane)
+          ∷ (1, Control (Resume (idAt 0 1)), Refused NoSuchLane)
           ∷ (1, Control (CloseLane (idAt 0 1)), Refused NoSuchLane)
           ∷ (1, targeted 0, gave 1 0)
           ∷ [];

@@ -59,10 +59,10 @@ front-only-uneven-amid-calls h =
     omega (arith, three)
   where
     later : Opening
-    later = record { capacity = 16; slots = 8; channel = 9; cursor = 3; generation = 4 }
+    later = record { capacity = 16; slots = 8; channel = 9; cursor = 3; generation = 4; number = 0 }
 
     id : ℕ → ℕ → LaneId
-    id x g = idOn 9 x g
+    id x g = idOn 9 0 x g
 
     before : List Call
     before =

@@ -30,7 +30,7 @@ key : ℕ → ℕ → LaneKey
 key x g = record { slot = x; generation = g }
 
 id : ℕ → LaneId
-id x = record { channel = 7; key = key x 0 }
+id x = record { channel = record { id = 7; opening = 0 }; key = key x 0 }
 
 -- the calls, of lanes of generation 0
 registers : Call
@@ -171,7 +171,7 @@ paused-one-read :
     ∷ (ends (pauses 1) Done ∷ ends (resumes 1) (Refused NoSuchLane) ∷ [], true)
     ∷ (ends (pauses 1) Done ∷ ends (resumes 0) Done ∷ [], true)
     ∷ (ends (pauses 1) Done ∷ ends (sends 1) (Taken true 3) ∷ ends (drops 1) Done ∷ [], true)
-    ∷ (ends registers (Registered (key 1 1)) ∷ ends (Control (Pause record { channel = 7; key = key 1 1 })) Done ∷ [], false)
+    ∷ (ends registers (Registered (key 1 1)) ∷ ends (Control (Pause record { channel = record { id = 7; opening = 0 }; key = key 1 1 })) Done ∷ [], false)
     ∷ [])
 unfolding computeWake
 paused-one-read = refl
@@ -189,7 +189,7 @@ lastAnswer s c (d ∷ cs) = lastAnswer ((outcome s c) .1 .1) d cs
 
 -- registers lane 0, and then this
 answered : List Call → Answer
-answered calls = lastAnswer (openedState record { capacity = 2; slots = 3; channel = 7; cursor = 0; generation = 0 }) registers calls
+answered calls = lastAnswer (openedState record { capacity = 2; slots = 3; channel = 7; cursor = 0; generation = 0; number = 0 }) registers calls
 
 -- the receiver may sleep, and the next ordinary send to an unpaused lane wakes it
 woken-read :

@@ -32,7 +32,7 @@ unfolding lane untilCollected collects findsNoneMarked
 until-collected-read = refl
 
 laneId : ℕ → LaneId
-laneId x = record { channel = 7; key = lane x }
+laneId x = record { channel = record { id = 7; opening = 0 }; key = lane x }
 
 -- lane 0 has 66 items and is queued by a pause and a resume, with a budget of 64; then lane 1 is sent an item, which sets its page bit
 point : State
