@@ -1,4 +1,5 @@
--- What is proved of the rules' runs and calls holds of all calls W that simulate them: those on 64, the budget, Disconnected, signals and where the receives end.
+-- What is proved of the rules' runs and calls holds of all calls W that simulate them: those on 64, the budget, Disconnected, refusal 13, signals and where the
+-- receives end.
 -- Assumes nothing.
 use mathlib.Core.Path.{_≡_, sym, ap, _∙_, subst}
 use mathlib.Core.Logic.{_≢_, _⊎_, inl, inr}
@@ -23,6 +24,7 @@ use Rattle.model.specs.Budget.{BudgetCountsItems, isTargeted, EventsTell}
 use Rattle.model.specs.OneTurn.{AtMost64InOneTurn}
 use Rattle.model.specs.Collections.{AtMost64BetweenCollections, TakesOneGroup, TakesAllGroups, StandsAfterLast, NothingToCollect, Collecting}
 use Rattle.model.specs.Disconnected.{NoSenderLives, NoLaneRegistered, EmptyOnesRetired, SameLane, PausedWithItems, Looks, Drained, DisconnectedExactly, RetiresEmptyPaused, EmptyWithPausedItems, OnlyPausedItemsLeft, TargetedDisconnectedExactly}
+use Rattle.model.specs.LaneIds.{ThirteenExactly}
 use Rattle.model.specs.Signals.{dropsSender, FoundEmptyBy, IdleOnlyWhenEmpty, ClosedAfter, ClosedSignalKept, OlderSenderRefused}
 use Rattle.model.specs.PollLoop.{NothingLeft}
 use Rattle.model.specs.ReceivesEnd.{itemsAsked, EndsWithNothingLeft}
@@ -31,6 +33,7 @@ use Rattle.demands.proofs.Budget.{budget-counts-items, events-tell}
 use Rattle.demands.proofs.OneTurn.{at-most-64-in-one-turn}
 use Rattle.demands.proofs.Collections.{at-most-64-between-collections, takes-one-group, takes-all-groups, stands-after-last, one-of-none, all-of-none}
 use Rattle.demands.proofs.Disconnected.{disconnected-exactly, retires-empty-paused, empty-with-paused-items, only-paused-items-left, targeted-disconnected-exactly}
+use Rattle.demands.proofs.LaneIds.{thirteen-exactly}
 use Rattle.demands.proofs.IdleWhenEmpty.{idle-only-when-empty}
 use Rattle.demands.proofs.ClosedSignal.{closed-signal-kept, older-sender-refused}
 use Rattle.demands.proofs.ReceivesEnd.{ends-with-nothing-left}
@@ -128,6 +131,13 @@ module _ (W : Viewed) (sim : Simulation W) where
       let d = targeted-disconnected-exactly (W .view s) tt i in
       let a = sim .answers-alike s (Receive (TryRecvFrom i)) o in
       (λ e. d .0 (sym a ∙ e), λ e. a ∙ d .1 e)
+
+  pub words-thirteen-exactly : ThirteenExactly W
+  unfolding ThirteenExactly
+  words-thirteen-exactly s o c =
+      let d = thirteen-exactly (W .view s) tt c in
+      let a = sim .answers-alike s c o in
+      (λ e. d .0 (sym a ∙ e), λ n. a ∙ d .1 n)
 
   pub words-ends-with-nothing-left : EndsWithNothingLeft W
   unfolding EndsWithNothingLeft

@@ -20,7 +20,7 @@ use Rattle.model.specs.declared.Call.the-variants.{Sender, Receive, Control}
 use Rattle.model.specs.declared.Refusal.the-variants.{ReceiverClosed, AtCapacity, NoFreeSlot, OlderSenderLives, NoSuchSender}
 use Rattle.model.specs.declared.Answer.the-variants.{Done, Empty, Refused}
 use Rattle.model.specs.Lists.{if, both, either, nonEmpty, count, keep, from, without}
-use Rattle.model.specs.State.{Slot, State, mayQueue, registeredLanes, livingSenders, keyOf, senderLives, hasLane, hasLaneId}
+use Rattle.model.specs.State.{Slot, State, mayQueue, registeredLanes, livingSenders, keyOf, senderLives, hasLane, sameOpening, hasLaneId}
 use Rattle.model.specs.Changes.{withQueue, withBudget, put, signalled, unmarked, senderDropped}
 use Rattle.model.specs.Ready.{groupOf, marks, isReady, collectMarks, collectGroup, groupsRound, collectFirst, collectEach, collectReadyGroup, collectReady}
 use Rattle.model.specs.Turn.{retireLane, retireLaneIf, settleEmpty, beforeNextTurn, runDownFrom, runDown, giveItem, giveOldest, giveFront, collectIfDue, collectIfNoneQueued, polled, takeOne, takeFair}
@@ -259,7 +259,7 @@ module _ (x : ℕ) where
 
   has-lane : (s : State) (i : LaneId) → Away s → hasLaneId s i ≡ true → i .key .slot ≢ x
   unfolding hasLaneId hasLane
-  has-lane s i a e = not-it s (i .key .slot) a (both-true (s .slotOf (i .key .slot) .registered) _ (both-true (eqb (i .channel) (s .channel)) _ e .1) .0)
+  has-lane s i a e = not-it s (i .key .slot) a (both-true (s .slotOf (i .key .slot) .registered) _ (both-true (sameOpening (i .channel) (s .channel)) _ e .1) .0)
 
   keep-none : (p : ℕ → Bool) (q : List ℕ) → count x q ≡ 0 → count x (keep p q) ≡ 0
   unfolding count keep

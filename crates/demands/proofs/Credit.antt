@@ -40,7 +40,7 @@ only C l q p g = record {
   isOpen = true;
   capacity = C;
   slots = 1;
-  channel = 7;
+  channel = record { id = 7; opening = 0 };
   firstGeneration = 0;
 }
 

@@ -53,3 +53,6 @@ pub mod Wake
 pub mod Keys
 pub mod Credit
 pub mod NotFull
+pub mod ChannelKept
+pub mod LaneIds
+pub mod Renumbered

@@ -7,7 +7,7 @@ use Prim.Native.Nat.{ℕ, zero, suc, _+_, _<_}
 use native.Mathlib.Omega.{arith}
 use lib.ListN.{length}
 use borrow.Author.Tests.{leb-false}
-use lib.Dec.{eqb, leb}
+use lib.Dec.{leb}
 use Rattle.model.specs.declared.LaneKey.{LaneKey}
 use Rattle.model.specs.declared.LaneId.{LaneId}
 use Rattle.model.specs.declared.SenderCall.{SenderCall}
@@ -22,7 +22,7 @@ use Rattle.model.specs.declared.Refusal.{Refusal}
 use Rattle.model.specs.declared.Answer.{Answer}
 use Rattle.model.specs.declared.Answer.the-variants.{Done, Registered, Taken, Item, Items, Empty, Disconnected, Refused}
 use Rattle.model.specs.Lists.{nonEmpty, if, both, either, keep, from, without}
-use Rattle.model.specs.State.{State, mayQueue, registeredLanes, keyOf, senderLives, hasLane, hasLaneId, isFull, livingSenders}
+use Rattle.model.specs.State.{State, mayQueue, registeredLanes, keyOf, senderLives, hasLane, sameOpening, hasLaneId, isFull, livingSenders}
 use Rattle.model.specs.Changes.{withQueue, withFree, withBudget, withIssued, withOpen, put, newLane, signalled, pushed, senderDropped, popped, withPaused, credited}
 use Rattle.model.specs.Ready.{collectReady}
 use Rattle.model.specs.Turn.{retireLane, settleEmpty, unreleasedAfterOne, giveItem, Took, giveOldest, giveFront, runDown, polled, takeOne, takeFair}
@@ -121,7 +121,7 @@ turned-away c n = record { noted = λ L. refl; sees = never (looks c); sends-non
 
 has-lane-of-id : (s : State) (i : LaneId) → hasLaneId s i ≡ true → hasLane s (i .key) ≡ true
 unfolding hasLaneId
-has-lane-of-id s i e = both-true (eqb (i .channel) (s .channel)) (hasLane s (i .key)) e .1
+has-lane-of-id s i e = both-true (sameOpening (i .channel) (s .channel)) (hasLane s (i .key)) e .1
 
 -- calls that are no receives: one move
 pub sender-move : (s : State) (c : SenderCall) → Moves s (ends (Sender c) ((senderOutcome s c) .1 .0)) ((senderOutcome s c) .1 .1)

@@ -35,6 +35,7 @@ pub record Quietly (s u : State) : Type 0 where
   pub issues : u .issued ≡ s .issued
   pub opens : u .isOpen ≡ s .isOpen
   pub capacities : u .capacity ≡ s .capacity
+  pub channels : u .channel ≡ s .channel
   pub held-same : (y : ℕ) → u .slotOf y .ring ≡ s .slotOf y .ring
   pub credit : (y : ℕ) → u .slotOf y .unreleased ≤ s .slotOf y .unreleased
 
@@ -60,15 +61,16 @@ trans a b = record {
   issues = b .issues ∙ a .issues;
   opens = b .opens ∙ a .opens;
   capacities = b .capacities ∙ a .capacities;
+  channels = b .channels ∙ a .channels;
   held-same = λ y. b .held-same y ∙ a .held-same y;
   credit = λ y. omega (arith, a .credit y, b .credit y);
 }
 
 pub calm : (s : State) → Quietly s s
-calm s = record { each = λ y. stays (still (s .slotOf y)); issues = refl; opens = refl; capacities = refl; held-same = λ y. refl; credit = λ y. omega arith }
+calm s = record { each = λ y. stays (still (s .slotOf y)); issues = refl; opens = refl; capacities = refl; channels = refl; held-same = λ y. refl; credit = λ y. omega arith }
 
 pub budget-quiet : (b : ℕ) (s : State) → Quietly s (withBudget b s)
-budget-quiet b s = record { each = λ y. stays (still (s .slotOf y)); issues = refl; opens = refl; capacities = refl; held-same = λ y. refl; credit = λ y. omega arith }
+budget-quiet b s = record { each = λ y. stays (still (s .slotOf y)); issues = refl; opens = refl; capacities = refl; channels = refl; held-same = λ y. refl; credit = λ y. omega arith }
 
 -- one slot
 put-quiet : (s : State) (x : ℕ) (l : Slot) → Quiet (s .slotOf x) l → (y : ℕ) → Quiet (s .slotOf y) ((put x l s) .slotOf y)
@@ -90,6 +92,7 @@ retire-lane-quiet x s e = record {
   issues = refl;
   opens = refl;
   capacities = refl;
+  channels = refl;
   held-same = put-held s x (retired (s .slotOf x)) refl;
   credit = put-credit s x (retired (s .slotOf x)) (omega arith);
 }
@@ -109,6 +112,7 @@ settle-empty-quiet x q s e =
       issues = refl;
       opens = refl;
       capacities = refl;
+      channels = refl;
       held-same = put-held s x (settledEmpty (s .slotOf x)) refl;
       credit = put-credit s x (settledEmpty (s .slotOf x)) (omega arith);
     } in
@@ -146,7 +150,7 @@ collect-group-quiet s g = go (marks s g)
 
     go : (m : List ℕ) → Quietly s (collectMarks m s g)
     go [] = calm s
-    go (x ∷ m) = record { each = λ y. unmark (eqb (groupOf y) g) (s .slotOf y); issues = refl; opens = refl; capacities = refl; held-same = λ y. ring-un (eqb (groupOf y) g) (s .slotOf y); credit = λ y. credit-un (eqb (groupOf y) g) (s .slotOf y) }
+    go (x ∷ m) = record { each = λ y. unmark (eqb (groupOf y) g) (s .slotOf y); issues = refl; opens = refl; capacities = refl; channels = refl; held-same = λ y. ring-un (eqb (groupOf y) g) (s .slotOf y); credit = λ y. credit-un (eqb (groupOf y) g) (s .slotOf y) }
 
 pub collect-each-quiet : (gs : List ℕ) (s : State) → Quietly s (collectEach gs s)
 unfolding collectEach
@@ -216,7 +220,7 @@ retire-empty-paused-quiet (x ∷ xs) s =
 
 pub release-all-quiet : (s : State) → Quietly s (releaseAll s)
 unfolding releaseAll
-release-all-quiet s = record { each = λ y. stays record { registers = refl; generations = refl; livings = refl; pauses = refl; rings = refl; signals = λ h e. e }; issues = refl; opens = refl; capacities = refl; held-same = λ y. refl; credit = λ y. less (s .slotOf y .registered) (s .slotOf y .unreleased) }
+release-all-quiet s = record { each = λ y. stays record { registers = refl; generations = refl; livings = refl; pauses = refl; rings = refl; signals = λ h e. e }; issues = refl; opens = refl; capacities = refl; channels = refl; held-same = λ y. refl; credit = λ y. less (s .slotOf y .registered) (s .slotOf y .unreleased) }
   where
     less : (b : Bool) (n : ℕ) → if b 0 n ≤ n
     less true n = omega arith

@@ -52,7 +52,7 @@ frame-writes-the-rules s (TryRecvBatchInto limit room) out = refl
 
 -- two slots of capacity 4
 opening : Opening
-opening = record { capacity = 4; slots = 2; channel = 7; cursor = 0; generation = 0 }
+opening = record { capacity = 4; slots = 2; channel = 7; cursor = 0; generation = 0; number = 0 }
 
 lent : Lent
 lent = record { rings = 8; table = 560 }

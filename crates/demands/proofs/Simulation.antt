@@ -8,7 +8,8 @@ use native.Mathlib.Omega.{arith}
 use Rattle.model.specs.declared.LaneKey.{LaneKey}
 use Rattle.model.specs.declared.Opening.{Opening}
 use Rattle.model.specs.declared.SenderCall.the-variants.{RegisterSender, TrySend, DropSender}
-use Rattle.model.specs.declared.ReceiveCall.the-variants.{TryRecv}
+use Rattle.model.specs.declared.ReceiveCall.{ReceiveCall}
+use Rattle.model.specs.declared.ReceiveCall.the-variants.{TryRecv, TryRecvFair, TryRecvFrom, TryRecvBatchInto}
 use Rattle.model.specs.declared.Call.{Call}
 use Rattle.model.specs.declared.Call.the-variants.{Sender, Receive, Control}
 use Rattle.model.specs.declared.Answer.{Answer}
@@ -19,7 +20,7 @@ use Rattle.model.specs.Runs.{Tick, ends, Rules, handed, ticks, trace, countTick
 use Rattle.model.specs.Rules.{theRules}
 use Rattle.model.specs.Viewed.{Viewed, rulesViewed}
 use Rattle.model.specs.Events.{Event, budgetSet, callEvents, eventsFrom, runEvents}
-use Rattle.model.specs.Demand2.{Demand2In, Demand2, shuts, values, outOf, into, HandsAsAnswered, HandsAsAnsweredIn}
+use Rattle.model.specs.Demand2.{Demand2In, Demand2, shuts, values, outOf, into, HasRoom, HandsAsAnswered, HandsAsAnsweredIn}
 use Rattle.model.specs.Demand3.{Demand3In, Demand3}
 use Rattle.model.specs.EqualTurns.{EqualTurnsIn, EqualTurns}
 use Rattle.model.specs.FreePlaces.{sendTo, FreePlacesIn, FreePlaces}
@@ -28,6 +29,8 @@ use Rattle.model.specs.Held.{HeldAsCountedIn, HeldAsCounted}
 use Rattle.model.specs.Wake.{NoLostWakeIn, NoLostWake, NothingWaitsIn, NothingWaits}
 use Rattle.model.specs.Keys.{KeysNeverAgainIn, KeysNeverAgain, IssuedAsAnsweredIn, IssuedAsAnswered}
 use Rattle.model.specs.FreePlaces.{NotFullBeforeIn, NotFullBefore}
+use Rattle.model.specs.LaneIds.{OpeningsToldApartIn, OpeningsToldApart, SavedIdsRefusedIn}
+use Rattle.model.specs.Renumbered.{renumberedOpening, renumberedReceive, renumberedCall, renumberedTick, NumberOnlyTellsIdsIn, NumberOnlyTellsIds}
 use Rattle.model.specs.Simulation.{runsThatFit, Simulation, numbersOfCall, Fits, CallFits}
 use Rattle.demands.proofs.Demand2.{demand2}
 use Rattle.demands.proofs.Demand3.{demand3}
@@ -40,6 +43,8 @@ use Rattle.demands.proofs.HandsAsAnswered.{hands-as-answered}
 use Rattle.demands.proofs.Wake.{no-lost-wake, nothing-waits}
 use Rattle.demands.proofs.Keys.{keys-never-again, issued-as-answered}
 use Rattle.demands.proofs.NotFull.{not-full-before}
+use Rattle.demands.proofs.LaneIds.{openings-told-apart, saved-ids-refused}
+use Rattle.demands.proofs.Renumbered.{number-only-tells-ids}
 
 -- two states are equal if their parts are, the slots one by one
 pub state-path : (s u : State) → ((y : ℕ) → s .slotOf y ≡ u .slotOf y) → s .queue ≡ u .queue → s .free ≡ u .free → s .issued ≡ u .issued → s .budget ≡ u .budget → s .cursor ≡ u .cursor
@@ -185,24 +190,32 @@ rules-simulate = record {
 
 -- ---- which numbers fit
 
+openingWith : (channel cursor generation number : ℕ) → Opening
+openingWith channel cursor generation number = record { capacity = 4; slots = 2; channel = channel; cursor = cursor; generation = generation; number = number }
+
 openingAt : ℕ → Opening
-openingAt cursor = record { capacity = 4; slots = 2; channel = 7; cursor = cursor; generation = 0 }
+openingAt cursor = openingWith 7 cursor 0 0
 
 replayed : List Call
 replayed = Sender (RegisterSender 2) ∷ Sender (TrySend record { slot = 0; generation = 0 } 11) ∷ Receive TryRecv ∷ Receive TryRecv ∷ Sender (DropSender record { slot = 0; generation = 0 }) ∷ Receive TryRecv ∷ []
 
--- The run of "Input 0 (4, 2, 7, 0, 0); 1 (2); 2 (0, 0, 11); 5; 5; 4 (0, 0); 5" fits, and with the last first cursor, 2^64 - 1, too; with 2^64 it does not.
+-- The run of "Input [..]; 1 (2); 2 (0, 0, 11); 5; 5; 4 (0, 0); 5", which "begins with 0 (4, 2, 7, 0, 0, 0)", fits, and with the last first cursor, 2^64 - 1, too; with 2^64 it does not.
 replayed-run-fits : runsThatFit theRules (openingAt 0) record { rings = 2048; table = 4096 } replayed
-unfolding runsThatFit openingAt
+unfolding runsThatFit openingWith openingAt
 replayed-run-fits = omega arith
 
 last-cursor-fits : runsThatFit theRules (openingAt 18446744073709551615) record { rings = 2048; table = 4096 } replayed
-unfolding runsThatFit openingAt
+unfolding runsThatFit openingWith openingAt
 last-cursor-fits = omega arith
 
 past-last-cursor-not : runsThatFit theRules (openingAt 18446744073709551616) record { rings = 2048; table = 4096 } replayed → ⊥
-unfolding runsThatFit openingAt
+unfolding runsThatFit openingWith openingAt
 past-last-cursor-not h = omega (arith, h)
+
+-- Of the opening's other numbers nothing is asked: no channel, generation or opening number is left out.
+any-numbers-fit : (channel generation number : ℕ) → runsThatFit theRules (openingWith channel 18446744073709551615 generation number) record { rings = 2048; table = 4096 } replayed
+unfolding runsThatFit openingWith
+any-numbers-fit channel generation number = omega arith
 
 -- numbers of a call to 2^64 - 1 fit, and 2^64 does not
 top-fits : CallFits (Sender (RegisterSender 18446744073709551615))
@@ -214,6 +227,14 @@ unfolding Fits Each numbersOfCall
 past-top-not h = omega (arith, h .0)
 
 -- ---- what is claimed beside the demands
+
+-- a lane id is no part of the room for a batch
+room-kept : (f : ℕ → ℕ) (r : ReceiveCall) (out : List ℕ) → HasRoom r out → HasRoom (renumberedReceive f r) out
+unfolding HasRoom renumberedReceive
+room-kept f TryRecv out room = room
+room-kept f TryRecvFair out room = room
+room-kept f (TryRecvFrom i) out room = room
+room-kept f (TryRecvBatchInto limit n) out room = room
 
 module _ (W : Viewed) (sim : Simulation W) where
   transfer-wake : NoLostWake theRules → NoLostWakeIn (W .rules) (W .runs)
@@ -230,6 +251,33 @@ module _ (W : Viewed) (sim : Simulation W) where
   unfolding KeysNeverAgain KeysNeverAgainIn
   transfer-keys h o lent d calls f before rest c k e =
       h o (W .rules .lengths lent) (accepted-too W sim o lent d) calls tt before rest c k (sym (opened-trace W sim o lent d calls f) ∙ e)
+
+  transfer-told-apart : OpeningsToldApart theRules → OpeningsToldApartIn (W .rules) (W .runs)
+  unfolding OpeningsToldApart OpeningsToldApartIn
+  transfer-told-apart h o lent d calls f before rest c a e =
+      h o (W .rules .lengths lent) (accepted-too W sim o lent d) calls tt before rest c a (sym (opened-trace W sim o lent d calls f) ∙ e)
+
+  transfer-renumbered : NumberOnlyTellsIds theRules → NumberOnlyTellsIdsIn (W .rules) (W .runs)
+  unfolding NumberOnlyTellsIds NumberOnlyTellsIdsIn
+  transfer-renumbered h f apart o lent =
+      let R = W .rules in
+      let p = renumberedOpening f o in
+      let g = h f apart o (R .lengths lent) in
+      let e : (R .opens p lent) .0 ≡ (R .opens o lent) .0 = sim .opens-alike p lent ∙ g .same-opening ∙ sym (sim .opens-alike o lent) in
+      record {
+        same-opening = e;
+        same-run = λ d calls t u.
+            opened-trace W sim p lent (e ∙ d) (map (renumberedCall f) calls) u
+            ∙ g .same-run (accepted-too W sim o lent d) calls tt tt ∙ ap (map (renumberedTick f)) (sym (opened-trace W sim o lent d calls t));
+        same-output = λ d calls t u r out room.
+            let later = map (renumberedCall f) calls in
+            let q = renumberedReceive f r in
+            sim .output-alike (afterList R ((R .opens p lent) .1) later) q out (room-kept f r out room) (stays-ok W sim p lent (e ∙ d) later u)
+            ∙ ap (λ (s : State). theRules .output s q out) (opened-after W sim p lent (e ∙ d) later u)
+            ∙ g .same-output (accepted-too W sim o lent d) calls tt tt r out room
+            ∙ ap (λ (s : State). theRules .output s r out) (sym (opened-after W sim o lent d calls t))
+            ∙ sym (sim .output-alike (afterList R ((R .opens o lent) .1) calls) r out room (stays-ok W sim o lent d calls t));
+      }
 
   transfer-not-full : NotFullBefore theRules → NotFullBeforeIn (W .rules) (W .runs)
   unfolding NotFullBefore NotFullBeforeIn
@@ -255,3 +303,12 @@ words-issued-as-answered W sim = transfer-issued W sim (λ s. s .issued) issued-
 
 pub words-not-full-before : (W : Viewed) → Simulation W → NotFullBeforeIn (W .rules) (W .runs)
 words-not-full-before W sim = transfer-not-full W sim not-full-before
+
+pub words-openings-told-apart : (W : Viewed) → Simulation W → OpeningsToldApartIn (W .rules) (W .runs)
+words-openings-told-apart W sim = transfer-told-apart W sim openings-told-apart
+
+pub words-saved-ids-refused : (W : Viewed) → Simulation W → SavedIdsRefusedIn (W .rules) (W .runs)
+words-saved-ids-refused W sim = saved-ids-refused (W .rules) (W .runs) (words-openings-told-apart W sim)
+
+pub words-number-only-tells-ids : (W : Viewed) → Simulation W → NumberOnlyTellsIdsIn (W .rules) (W .runs)
+words-number-only-tells-ids W sim = transfer-renumbered W sim number-only-tells-ids
