@@ -49,7 +49,8 @@ ready-some : (l : Lane) → (l .cached ≡ 0 → ⊥) → readyOrIdle l ≡ Refi
 unfolding readyOrIdle
 ready-some l n = simp (ne-eqb (l .cached) 0 n)
 
-refill-filled : (C : ℕ) (l : Lane) → Filled C l → refill l ≡ Refill.Ready l
+-- so a look finds what is there
+pub refill-filled : (C : ℕ) (l : Lane) → Filled C l → refill l ≡ Refill.Ready l
 unfolding refill
 refill-filled C l h =
     ap (λ m. readyOrIdle (reload m)) (close-closed l (h .closed)) ∙ ap readyOrIdle (reload-some l (λ e. omega arith)) ∙ ready-some l (λ e. omega arith)

@@ -22,6 +22,7 @@ use Rattle.model.specs.Opening.{nextPowerOfTwo, openedState, openingOutcome}
 use Rattle.model.specs.Order.{Ordered}
 use Rattle.demands.proofs.Simulation.{state-path}
 use Rattle.demands.proofs.Opened.{opened-ordered}
+use Rattle.demands.proofs.LaneIds.{channel-path}
 use Rattle.yring.specs.Cursor.{Capacity}
 use Rattle.lane.specs.Table.{head, cellAt, headerWords, rowWords}
 use Rattle.queues.specs.Header.{issued, newHeader, headerList, putHeader}
@@ -136,7 +137,8 @@ module _ (o : Opening) (t r : List ℕ) where
     unfolding view openedState
     view-opened =
         state-path _ _ (λ y. rw (none, le-ltb y 0 (omega arith))) (queue-opened t o C (a .sized .slots-some) (a .sized .slots-most) enough)
-        (free-opened t o C (a .sized .slots-some) (a .sized .slots-most) enough) none (hd 5 refl) (hd 6 refl) (ap flag (hd 7 refl)) (hd 8 refl) (hd 4 refl) (hd 9 refl) (hd 11 refl)
+        (free-opened t o C (a .sized .slots-some) (a .sized .slots-most) enough) none (hd 5 refl) (hd 6 refl) (ap flag (hd 7 refl)) (hd 8 refl) (hd 4 refl)
+        (channel-path _ _ (hd 9 refl) (hd 15 refl)) (hd 11 refl)
 
     ordered : Ordered (openedState o)
     ordered = opened-ordered o lent (sym open-answers-alike ∙ e)

@@ -3,6 +3,7 @@
 use mathlib.Core.List.{List, [], _∷_}
 use Prim.Native.Nat.{ℕ, _≤_, _<_}
 use lib.ListN.{length}
+use Rattle.model.specs.declared.OpenedChannel.{OpenedChannel}
 use Rattle.model.specs.declared.Opening.{Opening}
 use Rattle.lane.specs.Table.{cellAt, head, setHead}
 use Rattle.yring.specs.Lists.{scatter}
@@ -38,8 +39,8 @@ alive t = head t 7
 abbrev pub capacity : List ℕ → ℕ
 capacity t = head t 8
 
-abbrev pub channel : List ℕ → ℕ
-channel t = head t 9
+abbrev pub channelId : List ℕ → ℕ
+channelId t = head t 9
 
 abbrev pub firstCursor : List ℕ → ℕ
 firstCursor t = head t 10
@@ -56,6 +57,13 @@ laneCount t = head t 13
 
 abbrev pub livingCount : List ℕ → ℕ
 livingCount t = head t 14
+
+abbrev pub openingNumber : List ℕ → ℕ
+openingNumber t = head t 15
+
+-- document 02, N7: what a lane id carries of its opening
+abbrev pub channel : List ℕ → OpenedChannel
+channel t = record { id = channelId t; opening = openingNumber t }
 
 abbrev pub setIssued : List ℕ → ℕ → List ℕ
 setIssued t v = setHead t 0 v
@@ -123,12 +131,13 @@ newHeader o C =
       fast = 0;
       lanes = 0;
       living = 0;
+      opening = o .number;
     }
 
 abbrev pub headerList : Header → List ℕ
 headerList h =
     h .issued ∷ h .front ∷ h .queued ∷ h .free ∷ h .slots ∷ h .budget ∷ h .group ∷ h .alive ∷ h .capacity ∷ h .channel
-    ∷ h .cursor ∷ h .generation ∷ h .fast ∷ h .lanes ∷ h .living ∷ []
+    ∷ h .cursor ∷ h .generation ∷ h .fast ∷ h .lanes ∷ h .living ∷ h .opening ∷ []
 
 -- the table with these words at its start
 unfoldable pub putHeader : List ℕ → Header → List ℕ

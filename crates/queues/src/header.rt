@@ -3,7 +3,8 @@ ghost use mathlib.Core.Path.{_≡_};
 ghost use Prim.Native.Nat.{_≤_};
 ghost use lib.ListN.{length};
 ghost use Rattle.lane.specs.Table.{headerWords};
-ghost use Rattle.queues.specs.Header.{newHeader, headerList, putHeader};
+ghost use Rattle.queues.specs.Header.{channel, newHeader, headerList, putHeader};
+use model::OpenedChannel;
 use model::Opening;
 
 pub struct Header {
@@ -31,6 +32,8 @@ pub struct Header {
     // Registered lanes and living senders.
     pub lanes: u64,
     pub living: u64,
+    // The opening number, which lane ids carry beside the channel's id.
+    pub opening: u64,
 }
 
 impl Header {
@@ -64,8 +67,10 @@ impl Header {
 
     pub const LIVING: usize = 14;
 
+    pub const OPENING: usize = 15;
+
     // The words that the header takes.
-    pub const WORDS: usize = 15;
+    pub const WORDS: usize = 16;
 
     // `READY_POLL_INTERVAL`
     pub const POLL_BUDGET: u64 = 64;
@@ -90,11 +95,12 @@ impl Header {
             fast: 0,
             lanes: 0,
             living: 0,
+            opening: opening.number,
         }
     }
 
     // The header's words, in the order of their places.
-    fn words(self) -> [u64; 15]
+    fn words(self) -> [u64; 16]
         ensures { λ r. ⌜ r ≡ headerList self ⌝ }
     {
         [
@@ -113,7 +119,19 @@ impl Header {
             self.fast,
             self.lanes,
             self.living,
+            self.opening,
         ]
+    }
+
+    // The channel's id and the opening number, as lane ids carry them.
+    pub fn channel(table: &[u64]) -> OpenedChannel
+        requires { ⌜ headerWords ≤ length (now table) ⌝ }
+        ensures { λ r. ⌜ r ≡ channel (now (table .entry)) ⌝ }
+    {
+        OpenedChannel {
+            id: table[Header::CHANNEL],
+            opening: table[Header::OPENING],
+        }
     }
 
     // The first words of the table store.

@@ -17,6 +17,7 @@ use Rattle.model.specs.State.{vacant, registeredLanes, livingSenders}
 use Rattle.model.specs.Changes.{withIssued, put}
 use Rattle.demands.proofs.Counting.{Same, equal, other, same?}
 use Rattle.demands.proofs.Simulation.{state-path}
+use Rattle.demands.proofs.LaneIds.{channel-path}
 use Rattle.lane.specs.declared.lane.Lane.{Lane}
 use Rattle.yring.specs.Ring.{newRing}
 use Rattle.lane.specs.Lane.{heldItems}
@@ -258,7 +259,7 @@ module _ (t : List ℕ) (s : Shaped t) (k : Linked t) (below : issued t < slots 
   view-issued-next r =
       let hd = head-issued-next in
       state-path _ _ (λ y. rw issued-next (go y (same? n y) (decLt y n))) queue-issued-next free-issued-next (issued-next ∙ add-one n) (hd 5 refl refl) (hd 6 refl refl)
-      (ap flag (hd 7 refl refl)) (hd 8 refl refl) (hd 4 refl refl) (hd 9 refl refl) (hd 11 refl refl)
+      (ap flag (hd 7 refl refl)) (hd 8 refl refl) (hd 4 refl refl) (channel-path _ _ (hd 9 refl refl) (hd 15 refl refl)) (hd 11 refl refl)
     where
       go : (y : ℕ) → Same n y → Dec (y < n) → if (ltb y (n + 1)) (slotAt u r y) vacant ≡ if (eqb n y) (slotAt u r n) (if (ltb y n) (slotAt t r y) vacant)
       go y (equal e p i) c = rw (p, ← e, lt-ltb n (n + 1) (omega arith))

@@ -21,6 +21,7 @@ use Rattle.model.specs.Ready as rules
 use Rattle.model.specs.Ready.{groupOf, groupsIn, marks, isReady, collectMarks, startGroup, groupsRound, collectFirst, collectEach, collectReadyGroup}
 use Rattle.demands.proofs.Counting.{Same, equal, other, same?}
 use Rattle.demands.proofs.Simulation.{state-path}
+use Rattle.demands.proofs.LaneIds.{channel-path}
 use Rattle.lane.specs.declared.lane.Lane.{Lane}
 use Rattle.yring.specs.Ring.{newRing}
 use Rattle.lane.specs.Lane.{heldItems}
@@ -248,7 +249,8 @@ module _ (t r : List ℕ) (c : Collects t) where
     unfolding view
     view-now =
         state-path _ _ slots-now queue-now (free-left t u r left-now) issued-now (left-now .heads 5 refl refl refl) (simp (frames, long-after) (add-one g))
-        (ap flag (left-now .heads 7 refl refl refl)) (left-now .heads 8 refl refl refl) (left-now .heads 4 refl refl refl) (left-now .heads 9 refl refl refl) (left-now .heads 11 refl refl refl)
+        (ap flag (left-now .heads 7 refl refl refl)) (left-now .heads 8 refl refl refl) (left-now .heads 4 refl refl refl)
+        (channel-path _ _ (left-now .heads 9 refl refl refl) (left-now .heads 15 refl refl refl)) (left-now .heads 11 refl refl refl)
 
     -- a group that has bits is collected as the rules collect it
     view-group : groupWord t g ≢ 0 → view u r ≡ rules.collectGroup (view t r) g

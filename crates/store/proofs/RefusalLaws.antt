@@ -16,8 +16,9 @@ use Rattle.model.specs.declared.Answer.{Answer}
 use Rattle.model.specs.declared.Answer.the-variants.{Refused}
 use Rattle.model.specs.State.{State, vacant, senderLives, hasLane, hasLaneId}
 use Rattle.model.specs.Outcome.{Outcome, unless}
+use Rattle.demands.proofs.LaneIds.{channel-path}
 use Rattle.lane.specs.Table.{laneAt}
-use Rattle.queues.specs.Header.{issued, alive, channel}
+use Rattle.queues.specs.Header.{issued, alive, channelId, openingNumber, channel}
 use Rattle.store.specs.declared.refusal.Verdict.{Verdict}
 use Rattle.store.specs.declared.refusal.Verdict.the-variants.{Pass, Refuse}
 use Rattle.store.specs.View.{flag, slotAt, view}
@@ -155,20 +156,28 @@ module _ (t r : List ℕ) where
     unfolding laneVerdict hasLaneId hasLane firstOf view slotAt vacant
     lane-verdict = go (ltb (i .key .slot) (issued t)) refl
       where
-        three : (a b c : Bool) → cond a (cond b (cond c Pass (Refuse NoSuchLane)) (Refuse NoSuchLane)) (Refuse NoSuchLane)
-            ≡ if (not (both a (both b c))) (Refuse NoSuchLane) Pass
-        three true true true = refl
-        three true true false = refl
-        three true false c = refl
-        three false b c = refl
+        four : (a b c d : Bool) → cond a (cond b (cond c (cond d Pass (Refuse NoSuchLane)) (Refuse NoSuchLane)) (Refuse NoSuchLane)) (Refuse NoSuchLane)
+            ≡ if (not (both (both a b) (both c d))) (Refuse NoSuchLane) Pass
+        four true true true true = refl
+        four true true true false = refl
+        four true true false d = refl
+        four true false c d = refl
+        four false b c d = refl
 
-        none : (a : Bool) → cond a (Refuse NoSuchLane) (Refuse NoSuchLane) ≡ if (not (both a false)) (Refuse NoSuchLane) Pass
-        none true = refl
-        none false = refl
+        none : (a b : Bool) → cond a (cond b (Refuse NoSuchLane) (Refuse NoSuchLane)) (Refuse NoSuchLane) ≡ if (not (both (both a b) false)) (Refuse NoSuchLane) Pass
+        none true true = refl
+        none true false = refl
+        none false b = refl
+
+        ids : Bool
+        ids = eqb (i .channel .id) (channelId t)
+
+        numbers : Bool
+        numbers = eqb (i .channel .opening) (openingNumber t)
 
         go : (b : Bool) → ltb (i .key .slot) (issued t) ≡ b → laneVerdict t i ≡ firstOf ((not (hasLaneId (view t r) i), NoSuchLane) ∷ [])
-        go true e = rw e (three (eqb (i .channel) (channel t)) (flag (laneAt t (i .key .slot) .registered)) (eqb (laneAt t (i .key .slot) .key .generation) (i .key .generation)))
-        go false e = rw e (none (eqb (i .channel) (channel t)))
+        go true e = rw e (four ids numbers (flag (laneAt t (i .key .slot) .registered)) (eqb (laneAt t (i .key .slot) .key .generation) (i .key .generation)))
+        go false e = rw e (none ids numbers)
 
     pub id-verdict : idVerdict t i ≡ firstOf ((not (view t r .isOpen), ReceiverClosed) ∷ (not (hasLaneId (view t r) i), NoSuchLane) ∷ [])
     unfolding idVerdict
@@ -213,11 +222,12 @@ receiver-passes t e = eqb-true _ _ (passes (eqb (alive t) 1) ReceiverClosed Pass
 pub lane-passes : (t : List ℕ) (i : LaneId) → laneVerdict t i ≡ Pass → Knows t i
 unfolding laneVerdict
 lane-passes t i e =
-    let a = passes (eqb (i .channel) (channel t)) NoSuchLane _ e in
-    let b = passes (ltb (i .key .slot) (issued t)) NoSuchLane _ (a .1) in
+    let a = passes (eqb (i .channel .id) (channelId t)) NoSuchLane _ e in
+    let n = passes (eqb (i .channel .opening) (openingNumber t)) NoSuchLane _ (a .1) in
+    let b = passes (ltb (i .key .slot) (issued t)) NoSuchLane _ (n .1) in
     let c = passes (eqb (laneAt t (i .key .slot) .registered) 1) NoSuchLane _ (b .1) in
     let d = passes (eqb (laneAt t (i .key .slot) .key .generation) (i .key .generation)) NoSuchLane Pass (c .1) in
-    record { channel = eqb-true _ _ (a .0); is-issued = ltb-true _ _ (b .0); registered = eqb-true _ _ (c .0); generation = eqb-true _ _ (d .0) }
+    record { channel = channel-path _ _ (eqb-true _ _ (a .0)) (eqb-true _ _ (n .0)); is-issued = ltb-true _ _ (b .0); registered = eqb-true _ _ (c .0); generation = eqb-true _ _ (d .0) }
 
 -- of a send
 pub record Sends (t : List ℕ) (k : LaneKey) : Type 0 where

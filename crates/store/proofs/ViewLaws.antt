@@ -9,6 +9,7 @@ use native.Mathlib.Omega.{arith}
 use borrow.Author.Tests.{lt-ltb, ltb-true, eq-eqb, ne-eqb}
 use lib.Dec.{eqb, ltb}
 use lib.ListN.{length, set}
+use Rattle.model.specs.declared.OpenedChannel.{OpenedChannel}
 use Rattle.model.specs.Lists as rules
 use Rattle.model.specs.Lists.{if}
 use Rattle.model.specs.State.{Slot, State, vacant}
@@ -49,7 +50,7 @@ slot-out t r x h = rw h
 
 -- the header words that the view reads
 abbrev pub Heads : Type 0
-Heads = ℕ × ℕ × ℕ × ℕ × ℕ × ℕ × ℕ × ℕ
+Heads = ℕ × ℕ × ℕ × ℕ × ℕ × ℕ × OpenedChannel × ℕ
 
 abbrev pub headsOf : List ℕ → Heads
 headsOf t = (issued t, slots t, budget t, groupCursor t, alive t, capacity t, channel t, firstGeneration t)
@@ -385,17 +386,17 @@ module _ (t r : List ℕ) (s : Shaped t) where
   view-alive a = state-path _ _ (λ y. simp frames) (simp queue-frames) (simp registry-frames) (simp frames) (simp frames) (simp frames) (simp (frames, header-in t s)) (simp frames) (simp frames) (simp frames) (simp frames)
 
   -- words that the view does not read
-  unseen : (k v : ℕ) → ltb k headerWords ≡ true → ltb 11 k ≡ true → view (setHead t k v) r ≡ view t r
+  unseen : (k v : ℕ) → ltb k headerWords ≡ true → ltb 11 k ≡ true → eqb k 15 ≡ false → view (setHead t k v) r ≡ view t r
   unfolding view slotAt
-  unseen k v p g =
+  unseen k v p g o =
       let n : (j : ℕ) → ltb j 12 ≡ true → eqb k j ≡ false = λ j m. ne-eqb k j (λ e. omega (arith, ltb-true j 12 m, ltb-true 11 k g)) in
-      state-path _ _ (λ y. simp (frames, p, n)) (simp (queue-frames, p, n)) (simp (registry-frames, p, n)) (simp (frames, n)) (simp (frames, n)) (simp (frames, n)) (simp (frames, n)) (simp (frames, n)) (simp (frames, n)) (simp (frames, n)) (simp (frames, n))
+      state-path _ _ (λ y. simp (frames, p, n)) (simp (queue-frames, p, n)) (simp (registry-frames, p, n)) (simp (frames, n)) (simp (frames, n)) (simp (frames, n)) (simp (frames, n)) (simp (frames, n)) (simp (frames, n)) (simp (frames, n, o)) (simp (frames, n))
 
   pub view-fast-slot : (x : ℕ) → view (setFastSlot t x) r ≡ view t r
-  view-fast-slot x = unseen 12 x refl refl
+  view-fast-slot x = unseen 12 x refl refl refl
 
   pub view-lane-count : (n : ℕ) → view (setLaneCount t n) r ≡ view t r
-  view-lane-count n = unseen 13 n refl refl
+  view-lane-count n = unseen 13 n refl refl refl
 
   pub view-living-count : (n : ℕ) → view (setLivingCount t n) r ≡ view t r
-  view-living-count n = unseen 14 n refl refl
+  view-living-count n = unseen 14 n refl refl refl

@@ -9,7 +9,7 @@ use Rattle.model.specs.declared.LaneId.{LaneId}
 use Rattle.model.specs.declared.Refusal.the-variants.{ReceiverClosed, NoSuchSender, LaneClosed, NoSuchLane}
 use Rattle.lane.specs.declared.lane.Lane.{Lane}
 use Rattle.lane.specs.Table.{laneAt}
-use Rattle.queues.specs.Header.{issued, alive, channel}
+use Rattle.queues.specs.Header.{issued, alive, channelId, openingNumber}
 use Rattle.store.specs.declared.refusal.Verdict.{Verdict}
 use Rattle.store.specs.declared.refusal.Verdict.the-variants.{Pass, Refuse}
 
@@ -30,13 +30,15 @@ closedVerdict t l = cond (eqb (alive t) 1) (cond (eqb (l .registered) 1) Pass (R
 unfoldable pub receiverVerdict : List ℕ → Verdict
 receiverVerdict t = cond (eqb (alive t) 1) Pass (Refuse ReceiverClosed)
 
--- "no lane with this id"
+-- "no lane with this id": "channel, opening number, slot and generation all agree"
 unfoldable pub laneVerdict : List ℕ → LaneId → Verdict
 laneVerdict t i =
-    cond (eqb (i .channel) (channel t))
+    cond (eqb (i .channel .id) (channelId t))
+    (cond (eqb (i .channel .opening) (openingNumber t))
     (cond (ltb (i .key .slot) (issued t))
     (cond (eqb (laneAt t (i .key .slot) .registered) 1)
     (cond (eqb (laneAt t (i .key .slot) .key .generation) (i .key .generation)) Pass (Refuse NoSuchLane))
+    (Refuse NoSuchLane))
     (Refuse NoSuchLane))
     (Refuse NoSuchLane))
     (Refuse NoSuchLane)

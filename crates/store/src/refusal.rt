@@ -74,7 +74,12 @@ fn lane_verdict(t: &[u64], id: LaneId) -> Verdict
     ensures { λ r. ⌜ r ≡ laneVerdict (now (t .entry)) id ⌝ }
 {
     let key = id.key;
-    if id.channel != t[Header::CHANNEL] {
+    if id.channel.id != t[Header::CHANNEL] {
+        return Verdict::Refuse {
+            why: Refusal::NoSuchLane,
+        };
+    }
+    if id.channel.opening != t[Header::OPENING] {
         return Verdict::Refuse {
             why: Refusal::NoSuchLane,
         };
