@@ -75,7 +75,7 @@ pub window-rests : (t : List ℕ) (item : ℕ) (l : Lane) → Rests (takeFromWin
 unfolding takeFromWindow
 window-rests t item l = omega arith
 
--- and the channel's id as it was
+-- and what names the opening as it was
 pub window-channel : (t u : List ℕ) (took : Took) (item : ℕ) (l : Lane) → (took, u) ≡ takeFromWindow t item l → channel u ≡ channel t
 unfolding takeFromWindow
 window-channel t u took item l e =

@@ -5,6 +5,7 @@ use mathlib.Core.List.{List}
 use mathlib.Core.Path.{_≡_}
 use Prim.Native.Nat.{ℕ, _-_, _<_}
 use lib.Dec.{eqb, ltb}
+use Rattle.model.specs.declared.OpenedChannel.{OpenedChannel}
 use Rattle.model.specs.declared.Answer.{Answer}
 use Rattle.model.specs.declared.Answer.the-variants.{Item}
 use Rattle.lane.specs.declared.lane.Lane.{Lane}
@@ -92,8 +93,8 @@ takeLone t r =
 unfoldable pub takeFair : List ℕ → List ℕ → Took × List ℕ
 takeFair t r = elseTake (takeLone (setBudget (collectReady true t) 64) r) (λ u. turns u r true)
 
--- "Single receives answer item and lane id (channel id, key)."
-unfoldable pub answerOne : ℕ → Took × List ℕ → Answer × List ℕ
+-- "Single receives answer item and lane id (channel id, key)." The id carries the opening number too.
+unfoldable pub answerOne : OpenedChannel → Took × List ℕ → Answer × List ℕ
 answerOne channel (Took.Item item k, t) = (Item item (record { channel = channel; key = k }), t)
 answerOne channel (Took.Nothing, t) = nothingTaken t
 

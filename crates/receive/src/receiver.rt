@@ -19,6 +19,7 @@ use lane::lane::Lane;
 use lane::lane::Popped;
 use model::Answer;
 use model::LaneId;
+use model::OpenedChannel;
 use queues::header::Header;
 use queues::queue;
 use ready::ready as marks;
@@ -157,7 +158,7 @@ fn take_fair(t: &mut [u64], r: &[u64]) -> Took
 }
 
 // The item with its lane's id, or Empty or Disconnected.
-fn answer_one(t: &mut [u64], channel: u64, took: Took) -> Answer
+fn answer_one(t: &mut [u64], channel: OpenedChannel, took: Took) -> Answer
     requires { ⌜ Rests (took, now t) ⌝ }
     ensures { λ a. ⌜ (a, now (t .exit)) ≡ answerOne channel (took, now (t .entry)) ⌝ }
 {
@@ -178,7 +179,7 @@ fn answer_refill(t: &mut [u64], r: &[u64]) -> Answer
     requires { ⌜ StoreInOrder (now t) (now r) ⌝ }
     ensures { λ a. ⌜ (a, now (t .exit)) ≡ answerOne (channel (now (t .entry))) (tryRecvRefill (now (t .entry)) (now (r .entry))) ⌝ }
 {
-    let channel = t[Header::CHANNEL];
+    let channel = Header::channel(t);
     let took = try_recv_refill(t, r);
     answer_one(t, channel, took)
 }
@@ -214,7 +215,7 @@ fn answer_window(t: &mut [u64], r: &[u64], l: Lane) -> Answer
 {
     let taken = l.pop_window(Ring::new(l.key.slot, t[Header::CAPACITY]), r);
     let took = take_from_window(t, taken.item, taken.lane);
-    let channel = t[Header::CHANNEL];
+    let channel = Header::channel(t);
     answer_one(t, channel, took)
 }
 
@@ -237,7 +238,7 @@ pub fn try_recv_fair(t: &mut [u64], r: &[u64]) -> Answer
     match refusal::receiver_verdict(t) {
         Verdict::Refuse { why } => Answer::Refused { why: why },
         Verdict::Pass => {
-            let channel = t[Header::CHANNEL];
+            let channel = Header::channel(t);
             let took = take_fair(t, r);
             answer_one(t, channel, took)
         }

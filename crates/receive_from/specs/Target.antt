@@ -2,7 +2,8 @@
 -- Assumes nothing.
 use mathlib.Core.Bool.{cond}
 use mathlib.Core.List.{List}
-use Prim.Native.Nat.{ℕ}
+use mathlib.Core.Path.{_≡_}
+use Prim.Native.Nat.{ℕ, _<_}
 use lib.Dec.{eqb}
 use Rattle.model.specs.declared.LaneId.{LaneId}
 use Rattle.model.specs.declared.Answer.{Answer}
@@ -12,15 +13,26 @@ use Rattle.lane.specs.declared.lane.EmptyLane.{EmptyLane}
 use Rattle.lane.specs.declared.lane.Refill.{Refill}
 use Rattle.lane.specs.declared.lane.Refill.the-variants as Refill
 use Rattle.yring.specs.Ring.{newRing}
+use Rattle.lane.specs.Order.{Filled}
 use Rattle.lane.specs.Lane.{refill, popTargeted}
 use Rattle.lane.specs.Table.{laneAt, putLane}
-use Rattle.queues.specs.Header.{capacity, channel}
+use Rattle.queues.specs.Header.{issued, capacity, channel}
 use Rattle.queues.specs.Queue.{pushBack, remove}
+use Rattle.store.specs.Order.{StoreInOrder}
 use Rattle.store.specs.Refusal.{idVerdict}
 use Rattle.store.specs.Words.{Words, unlessRefused, withRings}
 use Rattle.store.specs.Signal.{markIfIdle}
 use Rattle.control.specs.Control.{withTurn}
 use Rattle.turns.specs.Turn.{retireIf}
+
+-- a queued lane with an item that is known and no open window; whether credit is due with it does not matter here
+pub record AtHand (t r : List ℕ) (l : Lane) : Type 0 where
+  pub in-order : StoreInOrder t r
+  pub is-issued : l .key .slot < issued t
+  pub is-lane : l ≡ laneAt t (l .key .slot)
+  pub is-registered : l .registered ≡ 1
+  pub filled : Filled (capacity t) l
+  pub is-queued : l .queued ≡ 0 → ⊥
 
 -- A lane found empty settles and leaves the queue; with its sender dropped it retires and the answer is Disconnected.
 unfoldable pub settleTarget : List ℕ → EmptyLane → Answer × List ℕ

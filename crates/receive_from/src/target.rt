@@ -4,7 +4,7 @@ ghost use Prim.Native.Nat.{_<_};
 ghost use Rattle.lane.specs.Table.{laneAt};
 ghost use Rattle.queues.specs.Header.{Shaped, issued, slots, queueCount, freeCount, laneCount};
 ghost use Rattle.store.specs.Order.{StoreInOrder};
-ghost use Rattle.receive_from.specs.Target.{settleTarget, queueTarget, keepTarget, takeFrom, tryRecvFrom};
+ghost use Rattle.receive_from.specs.Target.{AtHand, settleTarget, queueTarget, keepTarget, takeFrom, tryRecvFrom};
 use control::lane_control;
 use lane::lane::EmptyLane;
 use lane::lane::Lane;
@@ -59,11 +59,12 @@ fn keep_target(t: &mut [u64], l: Lane)
     queue_target(t, l);
 }
 
-fn take_from(t: &mut [u64], r: &[u64], slot: u64) -> Answer
+// Any lane: not queued, with no item known, with an open window, or with credit due with the item.
+fn take_refilled(t: &mut [u64], r: &[u64], slot: u64) -> Answer
     requires { ⌜ StoreInOrder (now t) (now r) × (slot < issued (now t)) × (laneAt (now t) slot .registered ≡ 1) ⌝ }
     ensures { λ a. ⌜ (a, now (t .exit)) ≡ takeFrom (now (t .entry)) (now (r .entry)) slot ⌝ }
 {
-    let channel = t[Header::CHANNEL];
+    let channel = Header::channel(t);
     let ring = Ring::new(slot, t[Header::CAPACITY]);
     match Lane::load(t, slot).refill() {
         Refill::Idle { found } => settle_target(t, found),
@@ -80,6 +81,43 @@ fn take_from(t: &mut [u64], r: &[u64], slot: u64) -> Answer
             }
         }
     }
+}
+
+// The next item of a queued lane that has one at hand.
+fn take_at_hand(t: &mut [u64], r: &[u64], l: Lane) -> Answer
+    requires { ⌜ AtHand (now t) (now r) l ⌝ }
+    ensures { λ a. ⌜ (a, now (t .exit)) ≡ takeFrom (now (t .entry)) (now (r .entry)) (l .key .slot) ⌝ }
+{
+    let key = l.key;
+    let taken = l.pop_targeted(Ring::new(key.slot, t[Header::CAPACITY]), r);
+    taken.lane.store(t);
+    let channel = Header::channel(t);
+    Answer::Item {
+        item: taken.item,
+        lane: LaneId {
+            channel: channel,
+            key: key,
+        },
+    }
+}
+
+// Often the lane is queued and has an item at hand: few of its words change then. Each other way out
+// calls the rest itself, with `r` lent anew and the answer in a local, as `try_recv_output` of crate
+// `receive` does: the compiler then keeps the rest out of line, and the registers that it needs too.
+fn take_from(t: &mut [u64], r: &[u64], slot: u64) -> Answer
+    requires { ⌜ StoreInOrder (now t) (now r) × (slot < issued (now t)) × (laneAt (now t) slot .registered ≡ 1) ⌝ }
+    ensures { λ a. ⌜ (a, now (t .exit)) ≡ takeFrom (now (t .entry)) (now (r .entry)) slot ⌝ }
+{
+    let l = Lane::load(t, slot);
+    if l.queued == 0 {
+        let a = take_refilled(t, &*r, slot);
+        return a;
+    }
+    if !l.is_at_hand(t[Header::CAPACITY]) {
+        let a = take_refilled(t, &*r, slot);
+        return a;
+    }
+    take_at_hand(t, r, l)
 }
 
 // Receives one item of this lane, paused or not.

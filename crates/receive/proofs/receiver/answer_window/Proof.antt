@@ -18,13 +18,13 @@ take-from-window-requires : tie.Need-take-from-window-requires
 take-from-window-requires c κs = open-room _ _ _ (c .before .before .before .before .before .before .pre) _ (open-ring _ _ _ (c .before .before .before .before .before .before .pre) _ (c .before .before .new .ensures)) _ (c .before .pop-window .ensures)
 
 answer-one-requires : tie.Need-answer-one-requires
-answer-one-requires c κs = subst Rests (sym (c .before .before .before .before .take-from-window .ensures)) (window-rests _ _ _)
+answer-one-requires c κs = subst Rests (sym (c .before .before .before .before .before .take-from-window .ensures)) (window-rests _ _ _)
 
 returns : tie.Need-returns
 returns c =
     c .before .before .answer-one .ensures
-    ∙ ap₂ answerOne (window-channel _ _ _ _ _ (c .before .before .before .before .before .before .before .take-from-window .ensures))
-    (c .before .before .before .before .before .before .before .take-from-window .ensures ∙ open-take _ _ _ (c .before .before .before .before .before .before .before .before .before .before .before .before .before .before .pre) _ (open-ring _ _ _ (c .before .before .before .before .before .before .before .before .before .before .before .before .before .before .pre) _ (c .before .before .before .before .before .before .before .before .before .before .new .ensures)) _ (c .before .before .before .before .before .before .before .before .before .pop-window .ensures))
+    ∙ ap₂ answerOne (c .before .before .before .before .channel .ensures ∙ window-channel _ _ _ _ _ (c .before .before .before .before .before .before .before .before .take-from-window .ensures))
+    (c .before .before .before .before .before .before .before .before .take-from-window .ensures ∙ open-take _ _ _ (c .before .before .before .before .before .before .before .before .before .before .before .before .before .before .before .pre) _ (open-ring _ _ _ (c .before .before .before .before .before .before .before .before .before .before .before .before .before .before .before .pre) _ (c .before .before .before .before .before .before .before .before .before .before .before .new .ensures)) _ (c .before .before .before .before .before .before .before .before .before .before .pop-window .ensures))
 
 pub answer-window-spec : {M : Type 1} → statement M
 answer-window-spec =
@@ -34,7 +34,7 @@ answer-window-spec =
     new-requires
     pop-window-requires
     take-from-window-requires
-    (λ c. search needs)
+    (λ c κs. search needs)
     answer-one-requires
     (λ c. search needs)
     returns)

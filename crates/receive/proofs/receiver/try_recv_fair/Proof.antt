@@ -8,7 +8,8 @@ use Rattle.store.specs.Words.{withRings, unlessRefused}
 use Rattle.turns.specs.Drained.{Rests}
 use Prim.Native.Nat.{ℕ}
 use mathlib.Core.List.{List}
-use mathlib.Core.Path.{sym, ap, _∙_, subst}
+use native.Mathlib.Omega.{arith}
+use mathlib.Core.Path.{sym, ap, ap₂, _∙_, subst}
 use borrow.Author.Needs.{needs}
 use Rattle.receive.proofs.receiver.try_recv_fair.Statement.{statement}
 use Rattle.receive.proofs.receiver.try_recv_fair.Tie as tie
@@ -22,14 +23,14 @@ enum-known-why c = search needs
 enum-told : tie.Need-enum-told
 enum-told c = search needs
 
-slice-read-channel : tie.Need-slice-read-channel
-slice-read-channel c = search needs
+channel-requires : tie.Need-channel-requires
+channel-requires c κs = omega (arith, c .before .before .before .before .before .before .before .pre .stores .shaped .room)
 
 take-fair-requires : tie.Need-take-fair-requires
-take-fair-requires c κs = (turning-of _ _ (c .before .before .before .before .before .before .before .before .pre), ringed-of _ _ (c .before .before .before .before .before .before .before .before .pre))
+take-fair-requires c κs = (turning-of _ _ (c .before .before .before .before .before .before .before .before .before .pre), ringed-of _ _ (c .before .before .before .before .before .before .before .before .before .pre))
 
 answer-one-requires : tie.Need-answer-one-requires
-answer-one-requires c κs = subst Rests (sym (c .before .before .before .take-fair .ensures)) (take-fair-rest _ (c .before .before .before .before .before .before .before .before .before .before .before .before .args .r .now) (turning-of _ _ (c .before .before .before .before .before .before .before .before .before .before .before .before .pre)))
+answer-one-requires c κs = subst Rests (sym (c .before .before .before .take-fair .ensures)) (take-fair-rest _ (c .before .before .before .before .before .before .before .before .before .before .before .before .before .args .r .now) (turning-of _ _ (c .before .before .before .before .before .before .before .before .before .before .before .before .before .pre)))
 
 same-length : tie.Need-same-length
 same-length c = search needs
@@ -44,8 +45,8 @@ same-length-2 c = search needs
 returns-2 : tie.Need-returns-2
 unfolding tryRecvFair unlessRefused
 returns-2 c =
-    rw (sym (c .before .before .before .before .before .before .before .before .before .before .before .receiver-verdict .ensures) ∙ c .before .before .before .before .before .before .before .before .before .enum-told .given .1)
-    (ap (λ (o : Answer × List ℕ). withRings (c .before .before .before .before .before .before .before .before .before .before .before .before .before .before .before .args .r .now) o) (c .before .before .answer-one .ensures ∙ ap (answerOne _) (c .before .before .before .before .before .before .take-fair .ensures)))
+    rw (sym (c .before .before .before .before .before .before .before .before .before .before .before .before .receiver-verdict .ensures) ∙ c .before .before .before .before .before .before .before .before .before .before .enum-told .given .1)
+    (ap (λ (o : Answer × List ℕ). withRings (c .before .before .before .before .before .before .before .before .before .before .before .before .before .before .before .before .args .r .now) o) (c .before .before .answer-one .ensures ∙ ap₂ answerOne (c .before .before .before .before .before .before .before .before .channel .ensures) (c .before .before .before .before .before .before .take-fair .ensures)))
 
 pub try-recv-fair-spec : {M : Type 1} → statement M
 try-recv-fair-spec =
@@ -54,7 +55,7 @@ try-recv-fair-spec =
     receiver-verdict-requires
     enum-known-why
     enum-told
-    slice-read-channel
+    channel-requires
     take-fair-requires
     answer-one-requires
     same-length
