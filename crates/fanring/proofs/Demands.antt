@@ -9,7 +9,7 @@ use Rattle.model.specs.declared.Refusal.the-variants.{StoreNotInOrder}
 use Rattle.model.specs.declared.Answer.the-variants.{Refused}
 use Rattle.model.specs.Simulation.{Simulation}
 use Rattle.model.specs.Demand2.{Demand2In}
-use Rattle.demands.proofs.Simulation.{words-demand2, words-demand3, words-equal-turns, words-free-places, words-not-full-before, words-none-after-close, words-held-as-counted, words-hands-as-answered, words-no-lost-wake, words-nothing-waits, words-keys-never-again, words-issued-as-answered}
+use Rattle.demands.proofs.Simulation.{words-demand2, words-demand3, words-equal-turns, words-free-places, words-not-full-before, words-openings-told-apart, words-saved-ids-refused, words-number-only-tells-ids, words-none-after-close, words-held-as-counted, words-hands-as-answered, words-no-lost-wake, words-nothing-waits, words-keys-never-again, words-issued-as-answered}
 use Rattle.store.specs.View.{view}
 use Rattle.store.specs.Order.{StoreInOrder}
 use Rattle.store.specs.Words.{Words}
@@ -26,7 +26,7 @@ use Rattle.refinement.proofs.RulesKept.{keeps-rules}
 use Rattle.refinement.proofs.Simulation.{simulates}
 use Rattle.refinement.proofs.AsRules.{each-call-as-rules, lists-as-rules, examples-of, credit-of}
 use Rattle.fanring.specs.Runs.{checkedWords, checkedCalls, theCalls}
-use Rattle.fanring.specs.Demands.{RefusalsChangeNothing, FiveExactly, CallsSimulate, CallsKeepOrder, OpensAsRules, OpensInOrder, runs, NeverFive, ItemsInOrder, AnswersTell, LanesWaitBounded, LanesShareEqually, FreePlacesSaid, NotFullBefore, NoneAfterClose, HeldIsCounted, RulesKept, TraceAsRules, MixedAsChecked, ExamplesHold, CreditByTable, NoLostWake, NothingWaits, KeysNeverAgain, IssuedAsAnswered}
+use Rattle.fanring.specs.Demands.{RefusalsChangeNothing, FiveExactly, CallsSimulate, CallsKeepOrder, OpensAsRules, OpensInOrder, runs, NeverFive, ItemsInOrder, AnswersTell, LanesWaitBounded, LanesShareEqually, FreePlacesSaid, NotFullBefore, OpeningsToldApart, SavedIdsRefused, NumberOnlyTellsIds, NoneAfterClose, HeldIsCounted, RulesKept, TraceAsRules, MixedAsChecked, ExamplesHold, CreditByTable, NoLostWake, NothingWaits, KeysNeverAgain, IssuedAsAnswered}
 use Rattle.fanring.proofs.CheckedLaws.{checked-five}
 use Rattle.fanring.proofs.CheckedCalls.{checked-as-inner, words-unmoved, output-left}
 use Rattle.fanring.proofs.NeverFive.{never-five}
@@ -95,6 +95,15 @@ free-places-said = words-free-places (viewedOf checkedCalls) checked-simulate
 
 pub not-full-before : NotFullBefore
 not-full-before = words-not-full-before (viewedOf checkedCalls) checked-simulate
+
+pub openings-told-apart : OpeningsToldApart
+openings-told-apart = words-openings-told-apart (viewedOf checkedCalls) checked-simulate
+
+pub saved-ids-refused : SavedIdsRefused
+saved-ids-refused = words-saved-ids-refused (viewedOf checkedCalls) checked-simulate
+
+pub number-only-tells-ids : NumberOnlyTellsIds
+number-only-tells-ids = words-number-only-tells-ids (viewedOf checkedCalls) checked-simulate
 
 pub none-after-close : NoneAfterClose
 none-after-close = words-none-after-close (viewedOf checkedCalls) checked-simulate

@@ -28,7 +28,7 @@ use Rattle.lane.specs.declared.lane.Lane.{Lane}
 use Rattle.lane.specs.declared.producer.Sent.{Sent}
 use Rattle.lane.specs.declared.producer.Sent.the-variants as Sent
 use Rattle.lane.specs.Table.{laneAt}
-use Rattle.queues.specs.Header.{issued, freeCount, slots, alive, channel, laneCount}
+use Rattle.queues.specs.Header.{issued, freeCount, slots, alive, channelId, openingNumber, laneCount}
 use Rattle.queues.specs.Registry.{lastFreed}
 use Rattle.store.specs.declared.refusal.Verdict.{Verdict}
 use Rattle.store.specs.declared.refusal.Verdict.the-variants.{Pass, Refuse}
@@ -81,10 +81,12 @@ module _ (t : List ℕ) where
   lane-verdict : (i : LaneId) → NotFive (laneVerdict t i)
   unfolding laneVerdict number
   lane-verdict i =
-      test (eqb (i .channel) (channel t))
+      test (eqb (i .channel .id) (channelId t))
+      (test (eqb (i .channel .opening) (openingNumber t))
       (test (ltb (i .key .slot) (issued t))
       (test (eqb (laneAt t (i .key .slot) .registered) 1)
       (test (eqb (laneAt t (i .key .slot) .key .generation) (i .key .generation)) passed (refused Refusal.NoSuchLane refl))
+      (refused Refusal.NoSuchLane refl))
       (refused Refusal.NoSuchLane refl))
       (refused Refusal.NoSuchLane refl))
       (refused Refusal.NoSuchLane refl)

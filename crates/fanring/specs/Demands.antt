@@ -1,6 +1,6 @@
 -- What is claimed of the checked calls: of each on any two stores, and of lists of them from an accepted opening on.
--- Most claims are crate `model`'s (its specs/Demand2.antt, Demand3.antt, EqualTurns.antt, FreePlaces.antt, Closed.antt, Held.antt, Wake.antt, Keys.antt), here of
--- the words that the calls' contracts name; others are crate `refinement`'s (its specs/RulesOnWords.antt, AsRules.antt).
+-- Most claims are crate `model`'s (its specs/Demand2.antt, Demand3.antt, EqualTurns.antt, FreePlaces.antt, LaneIds.antt, Renumbered.antt, Closed.antt,
+-- Held.antt, Wake.antt, Keys.antt), here of the words that the calls' contracts name; others are crate `refinement`'s (its specs/RulesOnWords.antt, AsRules.antt).
 -- Assumes nothing.
 use mathlib.Core.Path.{_≡_}
 use mathlib.Core.List.{List, map}
@@ -16,6 +16,8 @@ use Rattle.model.specs.Demand2.{Demand2In, HandsAsAnsweredIn}
 use Rattle.model.specs.Demand3.{Demand3In}
 use Rattle.model.specs.EqualTurns.{EqualTurnsIn}
 use Rattle.model.specs.FreePlaces.{FreePlacesIn, NotFullBeforeIn}
+use Rattle.model.specs.LaneIds.{OpeningsToldApartIn, SavedIdsRefusedIn}
+use Rattle.model.specs.Renumbered.{NumberOnlyTellsIdsIn}
 use Rattle.model.specs.Closed.{NoneAfterCloseIn}
 use Rattle.model.specs.Held.{HeldAsCountedIn}
 use Rattle.model.specs.Wake.{NoLostWakeIn, NothingWaitsIn}
@@ -96,6 +98,18 @@ FreePlacesSaid = FreePlacesIn theCalls runs
 abbrev pub NotFullBefore : Type 0
 NotFullBefore = NotFullBeforeIn theCalls runs
 
+-- document 02, N7: a call by an id with another channel or opening number is refused, and every item's id carries this opening's
+abbrev pub OpeningsToldApart : Type 0
+OpeningsToldApart = OpeningsToldApartIn theCalls runs
+
+-- so "an id saved for the earlier patient" is refused by every call after an opening with another number
+abbrev pub SavedIdsRefused : Type 0
+SavedIdsRefused = SavedIdsRefusedIn theCalls runs
+
+-- and the number does nothing else: with another one, in the opening and in the calls' ids, a run is the same but for the number in the items' ids, outputs too
+abbrev pub NumberOnlyTellsIds : Type 0
+NumberOnlyTellsIds = NumberOnlyTellsIdsIn theCalls runs
+
 -- "closed by an accepted `close_lane`, after which none of its items is handed out"
 abbrev pub NoneAfterClose : Type 0
 NoneAfterClose = NoneAfterCloseIn theCalls runs
@@ -104,8 +118,8 @@ NoneAfterClose = NoneAfterCloseIn theCalls runs
 abbrev pub HeldIsCounted : Type 0
 HeldIsCounted = HeldAsCountedIn theCalls runs
 
--- document 01's sentences on order kept, the poll budget, turns of 64, collections, where receives end, Disconnected and Empty, signals, first cursors and queued
--- keys, one field for each
+-- document 01's sentences on order kept, the poll budget, turns of 64, collections, where receives end, Disconnected and Empty, refusal 13, signals, first cursors
+-- and queued keys, one field for each
 abbrev pub RulesKept : Type 0
 RulesKept = KeepsRules checkedCalls
 

@@ -10,7 +10,7 @@ use Rattle.model.specs.Lists.{if, both}
 use Rattle.model.specs.State as rules
 use Rattle.model.specs.State.{vacant, hasLane}
 use Rattle.model.specs.Demand2.{Demand2In}
-use Rattle.demands.proofs.Simulation.{words-demand2, words-demand3, words-equal-turns, words-free-places, words-not-full-before, words-none-after-close, words-held-as-counted, words-hands-as-answered, words-no-lost-wake, words-nothing-waits, words-keys-never-again, words-issued-as-answered}
+use Rattle.demands.proofs.Simulation.{words-demand2, words-demand3, words-equal-turns, words-free-places, words-not-full-before, words-openings-told-apart, words-saved-ids-refused, words-number-only-tells-ids, words-none-after-close, words-held-as-counted, words-hands-as-answered, words-no-lost-wake, words-nothing-waits, words-keys-never-again, words-issued-as-answered}
 use Rattle.yring.specs.Ring.{newRing}
 use Rattle.lane.specs.Lane.{heldItems}
 use Rattle.lane.specs.Table.{laneAt}
@@ -18,7 +18,7 @@ use Rattle.queues.specs.Header.{issued, capacity}
 use Rattle.store.specs.View.{flag, slotAt, view}
 use Rattle.opening.specs.Opening.{openStore}
 use Rattle.refinement.specs.Runs.{callWords, viewedOf, innerCalls, theStores}
-use Rattle.refinement.specs.Demands.{itemsIn, runs, RefusalsChangeNothing, ItemsInOrder, AnswersTell, LanesWaitBounded, LanesShareEqually, FreePlacesSaid, NotFullBefore, NoneAfterClose, HeldIsCounted, NoLostWake, NothingWaits, KeysNeverAgain, IssuedAsAnswered, CallsSimulate, TraceAsRules, ExamplesHold, CreditByTable}
+use Rattle.refinement.specs.Demands.{itemsIn, runs, RefusalsChangeNothing, ItemsInOrder, AnswersTell, LanesWaitBounded, LanesShareEqually, FreePlacesSaid, NotFullBefore, OpeningsToldApart, SavedIdsRefused, NumberOnlyTellsIds, NoneAfterClose, HeldIsCounted, NoLostWake, NothingWaits, KeysNeverAgain, IssuedAsAnswered, CallsSimulate, TraceAsRules, ExamplesHold, CreditByTable}
 use Rattle.refinement.proofs.RefusedUnmoved.{all-left, open-unmoved}
 use Rattle.refinement.proofs.CallLaws.{call-unmoved, output-unmoved}
 use Rattle.refinement.proofs.AsInner.{inner-as-inner}
@@ -66,6 +66,15 @@ free-places-said = words-free-places (viewedOf innerCalls) stores-simulate
 
 pub not-full-before : NotFullBefore
 not-full-before = words-not-full-before (viewedOf innerCalls) stores-simulate
+
+pub openings-told-apart : OpeningsToldApart
+openings-told-apart = words-openings-told-apart (viewedOf innerCalls) stores-simulate
+
+pub saved-ids-refused : SavedIdsRefused
+saved-ids-refused = words-saved-ids-refused (viewedOf innerCalls) stores-simulate
+
+pub number-only-tells-ids : NumberOnlyTellsIds
+number-only-tells-ids = words-number-only-tells-ids (viewedOf innerCalls) stores-simulate
 
 pub none-after-close : NoneAfterClose
 none-after-close = words-none-after-close (viewedOf innerCalls) stores-simulate

@@ -1,4 +1,4 @@
--- No call changes a header word that none writes: first cursor, channel, capacity, slots, first generation.
+-- No call changes a header word that none writes: first cursor, channel id, opening number, capacity, slots, first generation.
 -- Of any words, in order or not.
 -- Assumes nothing.
 use mathlib.Core.Path.{_≡_, refl, _∙_}
@@ -7,11 +7,13 @@ use mathlib.Core.List.{List, [], _∷_}
 use Prim.Native.Nat.{ℕ, zero, suc, _-_}
 use lib.Dec.{eqb, ltb}
 use lib.ListN.{length}
+use Rattle.model.specs.declared.OpenedChannel.{OpenedChannel}
 use Rattle.model.specs.declared.ReceiveCall.{ReceiveCall}
 use Rattle.model.specs.declared.ReceiveCall.the-variants.{TryRecv, TryRecvFair, TryRecvFrom, TryRecvBatchInto}
 use Rattle.model.specs.declared.Call.{Call}
 use Rattle.model.specs.declared.Call.the-variants.{Sender, Receive, Control}
 use Rattle.model.specs.declared.Answer.the-variants.{Items, Empty}
+use Rattle.demands.proofs.LaneIds.{channel-path}
 use Rattle.lane.specs.declared.lane.Lane.{Lane}
 use Rattle.lane.specs.declared.lane.Popped.{Popped}
 use Rattle.lane.specs.declared.lane.Popped.the-variants as Popped
@@ -24,7 +26,7 @@ use Rattle.yring.specs.Ring.{newRing}
 use Rattle.lane.specs.Lane.{reloadIsEmpty, refill, popTargeted, poll, endFullBurst, moveChunk}
 use Rattle.lane.specs.Table.{head, laneAt, putLane}
 use Rattle.lane.proofs.OrderLaws.{cond-holds}
-use Rattle.queues.specs.Header.{issued, queueFront, queueCount, freeCount, slots, budget, capacity, channel, firstCursor, firstGeneration, fastSlot, laneCount, livingCount, setBudget, setFastSlot}
+use Rattle.queues.specs.Header.{issued, queueFront, queueCount, freeCount, slots, budget, capacity, channelId, openingNumber, channel, firstCursor, firstGeneration, fastSlot, laneCount, livingCount, setBudget, setFastSlot}
 use Rattle.queues.specs.Queue.{frontSlot, rotateLeft}
 use Rattle.ready.specs.Ready.{collectReady}
 use Rattle.queues.proofs.QueueLaws.{head-rotated}
@@ -169,7 +171,7 @@ module _ {c : KeptWord} where
       cond-holds (TableAt c) (eqb (livingCount t) 0) _ (Empty, t)
       (λ e. at-slots retireEmptyPaused at-empty-paused (issued t) 0 t h) (λ e. h)
 
-  at-answer : (channel : ℕ) (took : Took × List ℕ) → At c (took .1) → At c ((answerOne channel took) .1)
+  at-answer : (channel : OpenedChannel) (took : Took × List ℕ) → At c (took .1) → At c ((answerOne channel took) .1)
   unfolding answerOne
   at-answer channel (Took.Item item k, t) h = h
   at-answer channel (Took.Nothing, t) h = at-nothing t h
@@ -290,10 +292,10 @@ holds-now : {j : ℕ} (n : Unwritten j) (t : List ℕ) → At (keptNow n t) t
 holds-now n t = record { holds = refl }
 
 module _ {j : ℕ} (n : Unwritten j) (t r : List ℕ) where
-  pub take-one-leaves : head ((takeOne t r) .1) j ≡ head t j
+  take-one-leaves : head ((takeOne t r) .1) j ≡ head t j
   take-one-leaves = at-one t r (holds-now n t) .holds
 
-  pub take-fair-leaves : head ((takeFair t r) .1) j ≡ head t j
+  take-fair-leaves : head ((takeFair t r) .1) j ≡ head t j
   take-fair-leaves = at-fair t r (holds-now n t) .holds
 
   pub call-leaves : (s : Call) → head ((callWords t r s) .1) j ≡ head t j
@@ -307,11 +309,21 @@ slots-unwritten = beside refl refl
 pub capacity-unwritten : Unwritten (placeOf capacity)
 capacity-unwritten = beside refl refl
 
-pub channel-unwritten : Unwritten (placeOf channel)
-channel-unwritten = beside refl refl
+pub channel-id-unwritten : Unwritten (placeOf channelId)
+channel-id-unwritten = beside refl refl
+
+pub opening-number-unwritten : Unwritten (placeOf openingNumber)
+opening-number-unwritten = beside refl refl
 
 pub first-cursor-unwritten : Unwritten (placeOf firstCursor)
 first-cursor-unwritten = beside refl refl
 
 pub first-generation-unwritten : Unwritten (placeOf firstGeneration)
 first-generation-unwritten = beside refl refl
+
+-- so a take leaves what names the opening
+pub take-one-channel : (t r : List ℕ) → channel ((takeOne t r) .1) ≡ channel t
+take-one-channel t r = channel-path _ _ (take-one-leaves channel-id-unwritten t r) (take-one-leaves opening-number-unwritten t r)
+
+pub take-fair-channel : (t r : List ℕ) → channel ((takeFair t r) .1) ≡ channel t
+take-fair-channel t r = channel-path _ _ (take-fair-leaves channel-id-unwritten t r) (take-fair-leaves opening-number-unwritten t r)

@@ -6,6 +6,7 @@ use mathlib.Core.List.{List}
 use Prim.Native.Nat.{ℕ}
 use lib.Dec.{eqb}
 use lib.ListN.{length}
+use Rattle.model.specs.declared.OpenedChannel.{OpenedChannel}
 use Rattle.model.specs.declared.LaneKey.{LaneKey}
 use Rattle.model.specs.declared.LaneId.{LaneId}
 use Rattle.model.specs.declared.Opening.{Opening}
@@ -116,7 +117,7 @@ nothing-taken-accepted t = go (eqb (livingCount t) 0) (eqb (laneCount (retireEmp
     go true false = refl
     go false c = refl
 
-pub answer-one-accepted : (channel : ℕ) (took : Took × List ℕ) → accepted ((answerOne channel took) .0) ≡ true
+pub answer-one-accepted : (channel : OpenedChannel) (took : Took × List ℕ) → accepted ((answerOne channel took) .0) ≡ true
 unfolding answerOne accepted
 answer-one-accepted channel (Took.Item item k, t) = refl
 answer-one-accepted channel (Took.Nothing, t) = nothing-taken-accepted t

@@ -17,7 +17,7 @@ use Rattle.receive.specs.Receive.{takeFair, answerOne, tryRecvFair}
 use Rattle.store.proofs.RefusalLaws.{seen, receiver-verdict, refused-alike, unless-refused-case}
 use Rattle.refinement.proofs.HandsLaws.{try-recv-fair-answers, hands-by-answer}
 use Rattle.refinement.proofs.TakeFairView.{take-fair-alike}
-use Rattle.refinement.proofs.HeaderKept.{take-fair-leaves, channel-unwritten}
+use Rattle.refinement.proofs.HeaderKept.{take-fair-channel}
 use Rattle.refinement.proofs.TryRecvLaws.{answer-one-alike, answer-one-keeps}
 
 module _ (t r : List ℕ) (o : StoreInOrder t r) where
@@ -26,7 +26,7 @@ module _ (t r : List ℕ) (o : StoreInOrder t r) where
   try-recv-fair-alike =
       let w : rules-turn.Took = rules-turn.takeFair (view t r) in
       refused-alike (receiverVerdict t) ((not (view t r .isOpen), ReceiverClosed) ∷ []) t r (withRings r (answerOne (channel t) (takeFair t r))) (rules.answerOne (w .0) (w .1))
-      (receiver-verdict t r) (λ e. answer-one-alike r (channel t) (takeFair t r) w (take-fair-alike t r o) (take-fair-leaves channel-unwritten t r))
+      (receiver-verdict t r) (λ e. answer-one-alike r (channel t) (takeFair t r) w (take-fair-alike t r o) (take-fair-channel t r))
 
   pub try-recv-fair-keeps : StoreInOrder ((tryRecvFair t r) .1) ((tryRecvFair t r) .2)
   unfolding tryRecvFair

@@ -4,6 +4,7 @@ use mathlib.Core.Path.{_≡_, sym, ap, _∙_}
 use mathlib.Core.Bool.{not}
 use mathlib.Core.List.{List, [], _∷_}
 use Prim.Native.Nat.{ℕ}
+use Rattle.model.specs.declared.OpenedChannel.{OpenedChannel}
 use Rattle.model.specs.declared.Answer.the-variants.{Item}
 use Rattle.model.specs.declared.Refusal.the-variants.{ReceiverClosed}
 use Rattle.model.specs.Turn.{Took as RulesTook}
@@ -23,20 +24,20 @@ use Rattle.refinement.proofs.NothingTakenLaws.{nothing-taken-alike, not
 use Rattle.refinement.proofs.HandsLaws.{try-recv-answers, hands-by-answer}
 use Rattle.refinement.proofs.TurnView.{TookAs}
 use Rattle.refinement.proofs.TakeOneView.{take-one-alike}
-use Rattle.refinement.proofs.HeaderKept.{take-one-leaves, channel-unwritten}
+use Rattle.refinement.proofs.HeaderKept.{take-one-channel}
 
 -- ---- the answer to a take that is the rules'
 
-pub answer-one-alike : (r : List ℕ) (c : ℕ) (w : Took × List ℕ) (v : RulesTook) → TookAs r w v → channel (w .1) ≡ c
+pub answer-one-alike : (r : List ℕ) (c : OpenedChannel) (w : Took × List ℕ) (v : RulesTook) → TookAs r w v → channel (w .1) ≡ c
     → seen (withRings r (answerOne c w)) ≡ (rules.answerOne (v .0) (v .1)) .1
 unfolding answerOne rules.answerOne view
 answer-one-alike r c (Took.Item item key, u) v a e =
-    ap (λ (n : ℕ). (Item item (record { channel = n; key = key }), view u r)) (sym e)
+    ap (λ (n : OpenedChannel). (Item item (record { channel = n; key = key }), view u r)) (sym e)
     ∙ ap (λ (z : RulesTook). (rules.answerOne (z .0) (z .1)) .1) (a .alike)
 answer-one-alike r c (Took.Nothing, u) v a e =
     nothing-taken-alike u r (a .in-order) ∙ ap (λ (z : RulesTook). (rules.answerOne (z .0) (z .1)) .1) (a .alike)
 
-pub answer-one-keeps : (r : List ℕ) (c : ℕ) (w : Took × List ℕ) (v : RulesTook) → TookAs r w v → StoreInOrder ((answerOne c w) .1) r
+pub answer-one-keeps : (r : List ℕ) (c : OpenedChannel) (w : Took × List ℕ) (v : RulesTook) → TookAs r w v → StoreInOrder ((answerOne c w) .1) r
 unfolding answerOne
 answer-one-keeps r c (Took.Item item key, u) v a = a .in-order
 answer-one-keeps r c (Took.Nothing, u) v a = nothing-taken-keeps u r (a .in-order)
@@ -49,7 +50,7 @@ module _ (t r : List ℕ) (o : StoreInOrder t r) where
   try-recv-alike =
       let w : RulesTook = rules-turn.takeOne (view t r) in
       refused-alike (receiverVerdict t) ((not (view t r .isOpen), ReceiverClosed) ∷ []) t r (withRings r (answerOne (channel t) (takeOne t r))) (rules.answerOne (w .0) (w .1))
-      (receiver-verdict t r) (λ e. answer-one-alike r (channel t) (takeOne t r) w (take-one-alike t r o) (take-one-leaves channel-unwritten t r))
+      (receiver-verdict t r) (λ e. answer-one-alike r (channel t) (takeOne t r) w (take-one-alike t r o) (take-one-channel t r))
 
   pub try-recv-keeps : StoreInOrder ((tryRecv t r) .1) ((tryRecv t r) .2)
   unfolding tryRecv

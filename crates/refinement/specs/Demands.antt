@@ -1,6 +1,6 @@
 -- What is claimed of lists of calls on the two stores, made from an opening on, each on the words as the last one left them.
--- The claims are crate `model`'s (its specs/Demand1.antt, Demand2.antt, Demand3.antt, EqualTurns.antt, FreePlaces.antt, Closed.antt, Held.antt, Wake.antt,
--- Keys.antt), here of the words that the calls' contracts name.
+-- The claims are crate `model`'s (its specs/Demand1.antt, Demand2.antt, Demand3.antt, EqualTurns.antt, FreePlaces.antt, LaneIds.antt, Renumbered.antt,
+-- Closed.antt, Held.antt, Wake.antt, Keys.antt), here of the words that the calls' contracts name.
 -- Assumes nothing.
 use mathlib.Core.Bool.{cond}
 use mathlib.Core.List.{List, []}
@@ -13,6 +13,8 @@ use Rattle.model.specs.Demand2.{Demand2In, HandsAsAnsweredIn}
 use Rattle.model.specs.Demand3.{Demand3In}
 use Rattle.model.specs.EqualTurns.{EqualTurnsIn}
 use Rattle.model.specs.FreePlaces.{FreePlacesIn, NotFullBeforeIn}
+use Rattle.model.specs.LaneIds.{OpeningsToldApartIn, SavedIdsRefusedIn}
+use Rattle.model.specs.Renumbered.{NumberOnlyTellsIdsIn}
 use Rattle.model.specs.Closed.{NoneAfterCloseIn}
 use Rattle.model.specs.Held.{HeldAsCountedIn}
 use Rattle.model.specs.Wake.{NoLostWakeIn, NothingWaitsIn}
@@ -66,6 +68,18 @@ FreePlacesSaid = FreePlacesIn theStores runs
 -- and with other calls between, a send to the lane is refused 11 only once so many more were accepted
 abbrev pub NotFullBefore : Type 0
 NotFullBefore = NotFullBeforeIn theStores runs
+
+-- document 02, N7: a call by an id with another channel or opening number is refused, and every item's id carries this opening's
+abbrev pub OpeningsToldApart : Type 0
+OpeningsToldApart = OpeningsToldApartIn theStores runs
+
+-- so "an id saved for the earlier patient" is refused by every call after an opening with another number
+abbrev pub SavedIdsRefused : Type 0
+SavedIdsRefused = SavedIdsRefusedIn theStores runs
+
+-- and the number does nothing else: with another one, in the opening and in the calls' ids, a run is the same but for the number in the items' ids, outputs too
+abbrev pub NumberOnlyTellsIds : Type 0
+NumberOnlyTellsIds = NumberOnlyTellsIdsIn theStores runs
 
 -- "closed by an accepted `close_lane`, after which none of its items is handed out"
 abbrev pub NoneAfterClose : Type 0

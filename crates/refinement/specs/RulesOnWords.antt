@@ -1,6 +1,6 @@
--- Document 01's sentences on order kept, the poll budget, turns of 64, collections, Disconnected and Empty, signals, first cursors and queued keys, of calls on two
--- stores. Those that the rules have too are crate `model`'s (its specs/Budget.antt, BudgetAfterNothing.antt, OneTurn.antt, Collections.antt, WhileMarked.antt,
--- Disconnected.antt, Signals.antt, ReceivesEnd.antt), said of the state that the words show; those on words alone are here.
+-- Document 01's sentences on order kept, the poll budget, turns of 64, collections, Disconnected and Empty, refusal 13, signals, first cursors and queued keys, of
+-- calls on two stores. Those that the rules have too are crate `model`'s (its specs/Budget.antt, BudgetAfterNothing.antt, OneTurn.antt, Collections.antt,
+-- WhileMarked.antt, Disconnected.antt, LaneIds.antt, Signals.antt, ReceivesEnd.antt), said of the state that the words show; those on words alone are here.
 -- Assumes nothing.
 use mathlib.Core.Path.{_≡_}
 use mathlib.Core.Bool.{Bool, true, false}
@@ -18,6 +18,7 @@ use Rattle.model.specs.Collections.{AtMost64BetweenCollections, Collecting}
 use Rattle.model.specs.WhileMarked.{AtMost64WhileMarked, AtMost64WhileMarkedInBatch}
 use Rattle.model.specs.BudgetAfterNothing.{BudgetAfterNothing, BudgetAsEventsSet}
 use Rattle.model.specs.Disconnected.{DisconnectedExactly, RetiresEmptyPaused, EmptyWithPausedItems, OnlyPausedItemsLeft, TargetedDisconnectedExactly}
+use Rattle.model.specs.LaneIds.{ThirteenExactly}
 use Rattle.model.specs.ReceivesEnd.{EndsWithNothingLeft}
 use Rattle.model.specs.Signals.{IdleOnlyWhenEmpty, ClosedSignalKept, OlderSenderRefused}
 use Rattle.lane.specs.Table.{laneAt}
@@ -63,6 +64,7 @@ pub record KeepsRules (M : StoreCalls) : Type 0 where
   pub empty-with-paused-items : EmptyWithPausedItems (viewedOf M)
   pub only-paused-items-left : OnlyPausedItemsLeft (viewedOf M)
   pub targeted-disconnected-exactly : TargetedDisconnectedExactly (viewedOf M)
+  pub thirteen-exactly : ThirteenExactly (viewedOf M)
   pub idle-only-when-empty : IdleOnlyWhenEmpty (viewedOf M)
   pub closed-signal-kept : ClosedSignalKept (viewedOf M)
   pub older-sender-refused : OlderSenderRefused (viewedOf M)
