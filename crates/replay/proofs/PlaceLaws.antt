@@ -14,7 +14,7 @@ use lib.Seq.{take-add, take-nil, take-at, drop-drop, length-take-le, sets-eq}
 use Rattle.wire_record.specs.declared.record.Record.{Record}
 use Rattle.wire_record.specs.declared.record.Parsed.{Parsed}
 use Rattle.wire_record.specs.declared.record.Parsed.the-variants as Parsed
-use Rattle.wire_record.specs.Record.{Kind, number, size, kindOf, fieldsBy, fieldsOf, parseAs, parse}
+use Rattle.wire_record.specs.Record.{Kind, mostFields, number, size, kindOf, fieldsBy, fieldsOf, parseAs, parse}
 use Rattle.wire_record.specs.Stream.{Reads}
 use Rattle.wire_record.proofs.KindLaws.{fields-listed, few-fields}
 use Rattle.wire_line.specs.Text.{Puts, longest}
@@ -77,25 +77,25 @@ between-more at have got d h =
 -- ---- a beginning is shorter than the longest record
 
 module _ (b : List ℕ) where
-  few : (k : Kind) → kindOf b ≡ some k → k .fields ≤ 5
+  few : (k : Kind) → kindOf b ≡ some k → k .fields ≤ mostFields
   unfolding fieldsOf
   few k l = omega (arith, few-fields (number b 2 2), fields-listed (number b 2 2), ap fieldsBy l)
 
-  short-as : (o : Option Kind) → kindOf b ≡ o → parseAs o b ≡ Parsed.Incomplete → length b < 44
+  short-as : (o : Option Kind) → kindOf b ≡ o → parseAs o b ≡ Parsed.Incomplete → length b < size mostFields
   unfolding parseAs
   short-as none l e = let z : _≡_ {A = ℕ} 0 1 = cc in absurd (omega arith)
   short-as (some k) l e = go (eqb (number b 0 2) (2 + 8 * k .fields)) (ltb (length b) (size (k .fields))) refl e
     where
-      go : (x y : Bool) → ltb (length b) (size (k .fields)) ≡ y → cond x (cond y Parsed.Incomplete (Parsed.Whole (k .says b) (size (k .fields)))) Parsed.Malformed ≡ Parsed.Incomplete → length b < 44
+      go : (x y : Bool) → ltb (length b) (size (k .fields)) ≡ y → cond x (cond y Parsed.Incomplete (Parsed.Whole (k .says b) (size (k .fields)))) Parsed.Malformed ≡ Parsed.Incomplete → length b < size mostFields
       go true true m f = omega (arith, ltb-true (length b) (size (k .fields)) m, few k l)
       go true false m f = let z : _≡_ {A = ℕ} 0 1 = cc in absurd (omega arith)
       go false y m f = let z : _≡_ {A = ℕ} 0 1 = cc in absurd (omega arith)
 
-  begun-short : parse b ≡ Parsed.Incomplete → length b < 44
+  begun-short : parse b ≡ Parsed.Incomplete → length b < size mostFields
   unfolding parse
   begun-short e = go (ltb (length b) 4) refl e
     where
-      go : (x : Bool) → ltb (length b) 4 ≡ x → cond x Parsed.Incomplete (parseAs (kindOf b) b) ≡ Parsed.Incomplete → length b < 44
+      go : (x : Bool) → ltb (length b) 4 ≡ x → cond x Parsed.Incomplete (parseAs (kindOf b) b) ≡ Parsed.Incomplete → length b < size mostFields
       go true m f = omega (arith, ltb-true (length b) 4 m)
       go false m f = short-as (kindOf b) refl f
 

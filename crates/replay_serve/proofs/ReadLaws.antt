@@ -83,9 +83,10 @@ module _ (b : List ℕ) (u : Each (λ x. x < 256) b) where
   kinds-fit =
       let f = field-fits 0 in
       let g = field-fits 1 in
-      let h = field-fits 2 in (
-        (f, (g, (h, (field-fits 3, (field-fits 4, tt))))),
-        ((f, tt), ((f, (g, (h, tt))), ((f, (g, (h, tt))), ((f, (g, tt)), (tt, (tt, ((f, (g, (h, tt))), ((f, (omega arith, tt)), ((f, (g, (h, tt))), ((f, (g, (h, tt))), ((f, (g, (h, tt))), (tt, (tt, (tt, (tt, tt))))))))))))))),
+      let h = field-fits 2 in
+      let k = field-fits 3 in (
+        (f, (g, (h, (k, (field-fits 4, (field-fits 5, tt)))))),
+        ((f, tt), ((f, (g, (h, tt))), ((f, (g, (h, tt))), ((f, (g, tt)), (tt, (tt, ((f, (g, (h, (k, tt)))), ((f, (omega arith, tt)), ((f, (g, (h, (k, tt)))), ((f, (g, (h, (k, tt)))), ((f, (g, (h, (k, tt)))), (tt, (tt, (tt, (tt, tt))))))))))))))),
       )
 
   pub record-fits : {r : Record} {n : ℕ} → parse b ≡ Whole r n → RecordFits r

@@ -43,7 +43,7 @@ pub record Openings : Type 0 where
 
 -- the numbers of a record are u64, as those of code are
 abbrev pub RecordFits : Record → Type 0
-RecordFits (Record.Open o) = Fits (o .capacity ∷ o .slots ∷ o .channel ∷ o .cursor ∷ o .generation ∷ [])
+RecordFits (Record.Open o) = Fits (o .capacity ∷ o .slots ∷ o .channel ∷ o .cursor ∷ o .generation ∷ o .number ∷ [])
 RecordFits (Record.Call c) = CallFits c
 
 -- A call that was read from bytes is answered as it is in a list of calls: a batch was read with the room that it is lent.

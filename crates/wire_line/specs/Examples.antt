@@ -7,13 +7,13 @@ use Rattle.model.specs.declared.Answer.{Answer}
 use Rattle.model.specs.declared.Answer.the-variants.{Done, Registered, Taken, Item, Empty, Disconnected}
 use Rattle.wire_line.specs.Text.{answerText}
 
--- the answers to "Input 0 (4, 2, 7, 0, 0); 1 (2); 2 (0, 0, 11); 5; 5; 4 (0, 0); 5", the records of crate `wire_record`'s `sevenRecords`
+-- the answers to "Input [..]; 1 (2); 2 (0, 0, 11); 5; 5; 4 (0, 0); 5", the records of crate `wire_record`'s `sevenRecords`
 abbrev pub sevenAnswers : List Answer
 sevenAnswers =
     Done
     ∷ Registered (record { slot = 0; generation = 0 })
     ∷ Taken true 3
-    ∷ Item 11 (record { channel = 7; key = record { slot = 0; generation = 0 } })
+    ∷ Item 11 (record { channel = record { id = 7; opening = 0 }; key = record { slot = 0; generation = 0 } })
     ∷ Empty
     ∷ Done
     ∷ Disconnected

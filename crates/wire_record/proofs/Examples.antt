@@ -1,12 +1,12 @@
 -- The records of document 01's example compute, and so do inputs around it.
 -- Assumes nothing.
 use mathlib.Core.Path.{_≡_, refl}
-use mathlib.Core.List.{List, [], _∷_, _++_}
+use mathlib.Core.List.{List, [], _∷_, _++_, map}
 use Rattle.model.specs.declared.ReceiveCall.the-variants.{TryRecv, TryRecvBatchInto}
 use Rattle.model.specs.declared.Call.the-variants.{Receive}
 use Rattle.wire_record.specs.declared.record.Record.the-variants.{Call}
 use Rattle.wire_record.specs.declared.record.Parsed.the-variants.{Incomplete, Malformed, Whole}
-use Rattle.wire_record.specs.Record.{number, parseAs, parse}
+use Rattle.wire_record.specs.Record.{mostFields, number, fieldsOf, parseAs, parse}
 use Rattle.wire_record.specs.Stream.{streamIn, stream, ended, malformed}
 use Rattle.wire_record.specs.Examples.{u64, receive, sevenBytes, sevenRecords, eachKindBytes, eachKindRecords}
 
@@ -48,6 +48,18 @@ other-length = refl
 pub other-length-high : parse (2 ∷ 1 ∷ 5 ∷ 0 ∷ []) ≡ Malformed
 unfolding parse parseAs number
 other-length-high = refl
+
+-- the bound on fields is met, by an opening
+pub most-met : fieldsOf 0 ≡ mostFields
+unfolding fieldsOf
+most-met = refl
+
+-- document 02, N7: the lengths without the opening number are no longer their kinds', of an opening and of the four calls by lane id
+pub without-number :
+    map parse ((42 ∷ 0 ∷ 0 ∷ 0 ∷ []) ∷ (26 ∷ 0 ∷ 7 ∷ 0 ∷ []) ∷ (26 ∷ 0 ∷ 9 ∷ 0 ∷ []) ∷ (26 ∷ 0 ∷ 10 ∷ 0 ∷ []) ∷ (26 ∷ 0 ∷ 11 ∷ 0 ∷ []) ∷ [])
+    ≡ Malformed ∷ Malformed ∷ Malformed ∷ Malformed ∷ Malformed ∷ []
+unfolding parse parseAs number
+without-number = refl
 
 -- the beginning of a batch, and a batch with each byte of its limit another
 pub begun : parse (10 ∷ 0 ∷ 8 ∷ 0 ∷ 1 ∷ 0 ∷ 0 ∷ []) ≡ Incomplete

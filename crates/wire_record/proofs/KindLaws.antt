@@ -12,7 +12,7 @@ use lib.Dec.{ltb, leb, eqb}
 use borrow.Author.Tests.{leb-true, lt-ltb, le-ltb, eq-eqb, ne-eqb}
 use Rattle.wire_record.specs.declared.record.Record.{Record}
 use Rattle.wire_record.specs.declared.record.Parsed.the-variants.{Incomplete, Malformed, Whole}
-use Rattle.wire_record.specs.Record.{Kind, kinds, number, said, saidBy, fieldsOf, fieldsBy, size, parseAs, parse}
+use Rattle.wire_record.specs.Record.{Kind, kinds, mostFields, number, said, saidBy, fieldsOf, fieldsBy, size, parseAs, parse}
 
 and-left : (x y : Bool) → (x && y) ≡ true → x ≡ true
 and-left true y e = refl
@@ -44,7 +44,7 @@ in-list (x ∷ l) (suc k) h e = in-list l k (le-of-suc-le-suc h) e
 -- ---- the number of fields, as the code has it
 
 abbrev pub counts : List ℕ
-counts = 5 ∷ 1 ∷ 3 ∷ 3 ∷ 2 ∷ 0 ∷ 0 ∷ 3 ∷ 1 ∷ 3 ∷ 3 ∷ 3 ∷ 0 ∷ 0 ∷ 0 ∷ 0 ∷ []
+counts = 6 ∷ 1 ∷ 3 ∷ 3 ∷ 2 ∷ 0 ∷ 0 ∷ 4 ∷ 1 ∷ 4 ∷ 4 ∷ 4 ∷ 0 ∷ 0 ∷ 0 ∷ 0 ∷ []
 
 abbrev fieldCounts : List Kind → List ℕ
 fieldCounts [] = []
@@ -59,16 +59,16 @@ pub fields-listed : (k : ℕ) → getD counts k 0 ≡ fieldsOf k
 unfolding fieldsOf
 fields-listed k = count-at kinds k
 
-abbrev atMostFive : List ℕ → Bool
-atMostFive [] = true
-atMostFive (x ∷ l) = leb x 5 && atMostFive l
+abbrev withinMost : List ℕ → Bool
+withinMost [] = true
+withinMost (x ∷ l) = leb x mostFields && withinMost l
 
-most-fields : (l : List ℕ) (k : ℕ) → atMostFive l ≡ true → getD l k 0 ≤ 5
+most-fields : (l : List ℕ) (k : ℕ) → withinMost l ≡ true → getD l k 0 ≤ mostFields
 most-fields [] k e = omega arith
-most-fields (x ∷ l) zero e = leb-true x 5 (and-left (leb x 5) (atMostFive l) e)
-most-fields (x ∷ l) (suc k) e = most-fields l k (and-right (leb x 5) (atMostFive l) e)
+most-fields (x ∷ l) zero e = leb-true x mostFields (and-left (leb x mostFields) (withinMost l) e)
+most-fields (x ∷ l) (suc k) e = most-fields l k (and-right (leb x mostFields) (withinMost l) e)
 
-pub few-fields : (k : ℕ) → getD counts k 0 ≤ 5
+pub few-fields : (k : ℕ) → getD counts k 0 ≤ mostFields
 few-fields k = most-fields counts k refl
 
 -- ---- the record at the head, by the tests that the code makes

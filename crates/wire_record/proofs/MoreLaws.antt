@@ -9,10 +9,15 @@ use native.Mathlib.Omega.{arith}
 use borrow.Author.Tests.{ltb-false, eqb-true, eqb-false, le-ltb, eq-eqb, ne-eqb}
 use lib.Dec.{ltb, eqb}
 use lib.ListN.{length, getD, getElem?, drop, length-append, List·getD-append}
+use Rattle.model.specs.declared.LaneId.{LaneId}
+use Rattle.model.specs.declared.ReceiveCall.the-variants.{TryRecvFrom}
+use Rattle.model.specs.declared.ControlCall.the-variants.{Pause, Resume, CloseLane}
+use Rattle.model.specs.declared.Call.the-variants.{Receive, Control}
 use Rattle.wire_record.specs.declared.record.Record.{Record}
+use Rattle.wire_record.specs.declared.record.Record.the-variants.{Call}
 use Rattle.wire_record.specs.declared.record.Parsed.{Parsed}
 use Rattle.wire_record.specs.declared.record.Parsed.the-variants.{Incomplete, Malformed, Whole}
-use Rattle.wire_record.specs.Record.{Kind, kinds, number, field, size, kindOf, parseAs, parse}
+use Rattle.wire_record.specs.Record.{Kind, kinds, number, field, id, size, kindOf, parseAs, parse}
 
 number-more : (b c : List ℕ) (i n : ℕ) → i + n ≤ length b → number (b ++ c) i n ≡ number b i n
 unfolding number
@@ -33,18 +38,32 @@ says-at [] i k a e = let z : _≡_ {A = ℕ} 0 1 = cc in absurd (omega arith)
 says-at (x ∷ l) zero k a e = let q : x ≡ k = cc in subst ByFields q (a .0)
 says-at (x ∷ l) (suc i) k a e = says-at l i k (a .1) e
 
+-- a lane id goes by its four fields
+id-by-fields : (b d : List ℕ) → ((j : ℕ) → j < 4 → field b j ≡ field d j) → id b ≡ id d
+id-by-fields b d f =
+    λ z. record {
+      channel = record { id = f 0 (omega arith) z; opening = f 3 (omega arith) z };
+      key = record { slot = f 1 (omega arith) z; generation = f 2 (omega arith) z };
+    }
+
 -- kinds 12 to 15, 9 to 11, 5 to 8, and all
 last-by-fields : AllByFields (drop 12 kinds)
 last-by-fields = (λ b d f. refl, (λ b d f. refl, (λ b d f. refl, (λ b d f. refl, tt))))
 
 controls-by-fields : AllByFields (drop 9 kinds)
-controls-by-fields = (λ b d f. cc (f 0 (omega arith), f 1 (omega arith), f 2 (omega arith)), (λ b d f. cc (f 0 (omega arith), f 1 (omega arith), f 2 (omega arith)), (λ b d f. cc (f 0 (omega arith), f 1 (omega arith), f 2 (omega arith)), last-by-fields)))
+controls-by-fields = (
+  λ b d f. ap (λ (i : LaneId). Call (Control (Pause i))) (id-by-fields b d f),
+  (
+    λ b d f. ap (λ (i : LaneId). Call (Control (Resume i))) (id-by-fields b d f),
+    (λ b d f. ap (λ (i : LaneId). Call (Control (CloseLane i))) (id-by-fields b d f), last-by-fields),
+  ),
+)
 
 receives-by-fields : AllByFields (drop 5 kinds)
-receives-by-fields = (λ b d f. refl, (λ b d f. refl, (λ b d f. cc (f 0 (omega arith), f 1 (omega arith), f 2 (omega arith)), (λ b d f. cc (f 0 (omega arith)), controls-by-fields))))
+receives-by-fields = (λ b d f. refl, (λ b d f. refl, (λ b d f. ap (λ (i : LaneId). Call (Receive (TryRecvFrom i))) (id-by-fields b d f), (λ b d f. cc (f 0 (omega arith)), controls-by-fields))))
 
 all-by-fields : AllByFields kinds
-all-by-fields = (λ b d f. cc (f 0 (omega arith), f 1 (omega arith), f 2 (omega arith), f 3 (omega arith), f 4 (omega arith)), (λ b d f. cc (f 0 (omega arith)), (λ b d f. cc (f 0 (omega arith), f 1 (omega arith), f 2 (omega arith)), (λ b d f. cc (f 0 (omega arith), f 1 (omega arith), f 2 (omega arith)), (λ b d f. cc (f 0 (omega arith), f 1 (omega arith)), receives-by-fields)))))
+all-by-fields = (λ b d f. cc (f 0 (omega arith), f 1 (omega arith), f 2 (omega arith), f 3 (omega arith), f 4 (omega arith), f 5 (omega arith)), (λ b d f. cc (f 0 (omega arith)), (λ b d f. cc (f 0 (omega arith), f 1 (omega arith), f 2 (omega arith)), (λ b d f. cc (f 0 (omega arith), f 1 (omega arith), f 2 (omega arith)), (λ b d f. cc (f 0 (omega arith), f 1 (omega arith)), receives-by-fields)))))
 
 -- ---- a record that was found, taken apart and put together
 

@@ -19,10 +19,10 @@ u64 n = n ∷ 0 ∷ 0 ∷ 0 ∷ 0 ∷ 0 ∷ 0 ∷ 0 ∷ []
 abbrev pub receive : List ℕ
 receive = 2 ∷ 0 ∷ 5 ∷ 0 ∷ []
 
--- "Input 0 (4, 2, 7, 0, 0); 1 (2); 2 (0, 0, 11); 5; 5; 4 (0, 0); 5"
+-- "Input [..]; 1 (2); 2 (0, 0, 11); 5; 5; 4 (0, 0); 5"; document 02, N7: it "begins with 0 (4, 2, 7, 0, 0, 0)"
 abbrev pub sevenBytes : List ℕ
 sevenBytes =
-    (42 ∷ 0 ∷ 0 ∷ 0 ∷ []) ++ u64 4 ++ u64 2 ++ u64 7 ++ u64 0 ++ u64 0
+    (50 ∷ 0 ∷ 0 ∷ 0 ∷ []) ++ u64 4 ++ u64 2 ++ u64 7 ++ u64 0 ++ u64 0 ++ u64 0
     ++ (10 ∷ 0 ∷ 1 ∷ 0 ∷ []) ++ u64 2
     ++ (26 ∷ 0 ∷ 2 ∷ 0 ∷ []) ++ u64 0 ++ u64 0 ++ u64 11
     ++ receive ++ receive
@@ -31,7 +31,7 @@ sevenBytes =
 
 abbrev pub sevenRecords : List Record
 sevenRecords =
-    Open (record { capacity = 4; slots = 2; channel = 7; cursor = 0; generation = 0 })
+    Open (record { capacity = 4; slots = 2; channel = 7; cursor = 0; generation = 0; number = 0 })
     ∷ Call (Sender (RegisterSender 2))
     ∷ Call (Sender (TrySend (record { slot = 0; generation = 0 }) 11))
     ∷ Call (Receive TryRecv)
@@ -40,21 +40,21 @@ sevenRecords =
     ∷ Call (Receive TryRecv)
     ∷ []
 
--- a record of each kind in turn, 0 to 15, each field another number where there are several: "0 open (capacity, S, channel, cursor, generation), 1 register (most), 2 send, 3 unsignalled (slot, generation, item), [..]"
+-- a record of each kind in turn, 0 to 15, each field another number where there are several: "0 open (capacity, S, channel, cursor, generation), 1 register (most), 2 send, 3 unsignalled (slot, generation, item), [..]", with "the number as a last field" of kinds 0, 7, 9, 10 and 11
 abbrev pub eachKindBytes : List ℕ
 eachKindBytes =
-    (42 ∷ 0 ∷ 0 ∷ 0 ∷ []) ++ u64 4 ++ u64 2 ++ u64 7 ++ u64 9 ++ u64 3
+    (50 ∷ 0 ∷ 0 ∷ 0 ∷ []) ++ u64 4 ++ u64 2 ++ u64 7 ++ u64 9 ++ u64 3 ++ u64 8
     ++ (10 ∷ 0 ∷ 1 ∷ 0 ∷ []) ++ u64 5
     ++ (26 ∷ 0 ∷ 2 ∷ 0 ∷ []) ++ u64 1 ++ u64 3 ++ u64 11
     ++ (26 ∷ 0 ∷ 3 ∷ 0 ∷ []) ++ u64 1 ++ u64 3 ++ u64 12
     ++ (18 ∷ 0 ∷ 4 ∷ 0 ∷ []) ++ u64 1 ++ u64 3
     ++ (2 ∷ 0 ∷ 5 ∷ 0 ∷ [])
     ++ (2 ∷ 0 ∷ 6 ∷ 0 ∷ [])
-    ++ (26 ∷ 0 ∷ 7 ∷ 0 ∷ []) ++ u64 7 ++ u64 1 ++ u64 3
+    ++ (34 ∷ 0 ∷ 7 ∷ 0 ∷ []) ++ u64 7 ++ u64 1 ++ u64 3 ++ u64 8
     ++ (10 ∷ 0 ∷ 8 ∷ 0 ∷ []) ++ u64 6
-    ++ (26 ∷ 0 ∷ 9 ∷ 0 ∷ []) ++ u64 7 ++ u64 1 ++ u64 3
-    ++ (26 ∷ 0 ∷ 10 ∷ 0 ∷ []) ++ u64 7 ++ u64 1 ++ u64 3
-    ++ (26 ∷ 0 ∷ 11 ∷ 0 ∷ []) ++ u64 7 ++ u64 1 ++ u64 3
+    ++ (34 ∷ 0 ∷ 9 ∷ 0 ∷ []) ++ u64 7 ++ u64 1 ++ u64 3 ++ u64 8
+    ++ (34 ∷ 0 ∷ 10 ∷ 0 ∷ []) ++ u64 7 ++ u64 1 ++ u64 3 ++ u64 8
+    ++ (34 ∷ 0 ∷ 11 ∷ 0 ∷ []) ++ u64 7 ++ u64 1 ++ u64 3 ++ u64 8
     ++ (2 ∷ 0 ∷ 12 ∷ 0 ∷ [])
     ++ (2 ∷ 0 ∷ 13 ∷ 0 ∷ [])
     ++ (2 ∷ 0 ∷ 14 ∷ 0 ∷ [])
@@ -62,7 +62,7 @@ eachKindBytes =
 
 abbrev pub eachKindRecords : List Record
 eachKindRecords =
-    Open (record { capacity = 4; slots = 2; channel = 7; cursor = 9; generation = 3 })
+    Open (record { capacity = 4; slots = 2; channel = 7; cursor = 9; generation = 3; number = 8 })
     ∷ Call (Sender (RegisterSender 5))
     ∷ Call (Sender (TrySend lane 11))
     ∷ Call (Sender (TrySendUnsignaled lane 12))
@@ -84,4 +84,4 @@ eachKindRecords =
     lane = record { slot = 1; generation = 3 }
 
     laneId : LaneId
-    laneId = record { channel = 7; key = lane }
+    laneId = record { channel = record { id = 7; opening = 8 }; key = lane }

@@ -31,13 +31,13 @@ field b j = number b (4 + 8 * j) 8
 abbrev pub key : List ℕ → ℕ → LaneKey
 key b j = record { slot = field b j; generation = field b (j + 1) }
 
--- "(channel, slot, generation)"
+-- "(channel, slot, generation)" and, of document 02's N7, "the number as a last field"
 abbrev pub id : List ℕ → LaneId
-id b = record { channel = field b 0; key = key b 1 }
+id b = record { channel = record { id = field b 0; opening = field b 3 }; key = key b 1 }
 
--- "(capacity, S, channel, cursor, generation)"
+-- "(capacity, S, channel, cursor, generation)" and "the number as a last field"
 abbrev pub opening : List ℕ → Opening
-opening b = record { capacity = field b 0; slots = field b 1; channel = field b 2; cursor = field b 3; generation = field b 4 }
+opening b = record { capacity = field b 0; slots = field b 1; channel = field b 2; cursor = field b 3; generation = field b 4; number = field b 5 }
 
 -- "output 64"
 abbrev pub room : ℕ
@@ -49,26 +49,31 @@ pub record Kind : Type 0 where
   pub says : List ℕ → Record
 
 -- "Kinds: 0 open (..), 1 register (most), 2 send, 3 unsignalled (slot, generation, item), 4 drop (slot, generation), 5 plain, 6 fair, 7 targeted (channel, slot, generation), 8 batch (limit),
--- 9 pause, 10 resume, 11 close (as 7), 12 release, 13 poll all, 14 close receiver, 15 held."
+-- 9 pause, 10 resume, 11 close (as 7), 12 release, 13 poll all, 14 close receiver, 15 held." Document 02, N7: "kind 0 and kinds 7, 9, 10 and 11 get the number as
+-- a last field".
 abbrev pub kinds : List Kind
 kinds =
-    record { fields = 5; says = λ (b : List ℕ). Open (opening b) }
+    record { fields = 6; says = λ (b : List ℕ). Open (opening b) }
     ∷ record { fields = 1; says = λ (b : List ℕ). Call (Sender (RegisterSender (field b 0))) }
     ∷ record { fields = 3; says = λ (b : List ℕ). Call (Sender (TrySend (key b 0) (field b 2))) }
     ∷ record { fields = 3; says = λ (b : List ℕ). Call (Sender (TrySendUnsignaled (key b 0) (field b 2))) }
     ∷ record { fields = 2; says = λ (b : List ℕ). Call (Sender (DropSender (key b 0))) }
     ∷ record { fields = 0; says = λ (b : List ℕ). Call (Receive TryRecv) }
     ∷ record { fields = 0; says = λ (b : List ℕ). Call (Receive TryRecvFair) }
-    ∷ record { fields = 3; says = λ (b : List ℕ). Call (Receive (TryRecvFrom (id b))) }
+    ∷ record { fields = 4; says = λ (b : List ℕ). Call (Receive (TryRecvFrom (id b))) }
     ∷ record { fields = 1; says = λ (b : List ℕ). Call (Receive (TryRecvBatchInto (field b 0) room)) }
-    ∷ record { fields = 3; says = λ (b : List ℕ). Call (Control (Pause (id b))) }
-    ∷ record { fields = 3; says = λ (b : List ℕ). Call (Control (Resume (id b))) }
-    ∷ record { fields = 3; says = λ (b : List ℕ). Call (Control (CloseLane (id b))) }
+    ∷ record { fields = 4; says = λ (b : List ℕ). Call (Control (Pause (id b))) }
+    ∷ record { fields = 4; says = λ (b : List ℕ). Call (Control (Resume (id b))) }
+    ∷ record { fields = 4; says = λ (b : List ℕ). Call (Control (CloseLane (id b))) }
     ∷ record { fields = 0; says = λ (b : List ℕ). Call (Control ReleaseConsumed) }
     ∷ record { fields = 0; says = λ (b : List ℕ). Call (Control PollAllLanes) }
     ∷ record { fields = 0; says = λ (b : List ℕ). Call (Control CloseReceiver) }
     ∷ record { fields = 0; says = λ (b : List ℕ). Call (Control CountHeld) }
     ∷ []
+
+-- the fields of an opening; no kind has more
+abbrev pub mostFields : ℕ
+mostFields = 6
 
 -- the two-byte kind, and the kind that is listed under it
 abbrev pub kindOf : List ℕ → Option Kind

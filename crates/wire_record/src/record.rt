@@ -3,11 +3,12 @@ ghost use mathlib.Core.Path.{_≡_};
 ghost use mathlib.Core.Option.{some};
 ghost use Prim.Native.Nat.{_+_, _*_, _<_, _≤_};
 ghost use lib.ListN.{length};
-ghost use Rattle.wire_record.specs.Record.{number, field, key, id, opening, fieldsOf, said, size, parse};
+ghost use Rattle.wire_record.specs.Record.{number, field, key, id, opening, mostFields, fieldsOf, said, size, parse};
 use model::Call;
 use model::ControlCall;
 use model::LaneId;
 use model::LaneKey;
+use model::OpenedChannel;
 use model::Opening;
 use model::ReceiveCall;
 use model::SenderCall;
@@ -29,7 +30,7 @@ pub enum Parsed {
 }
 
 // How many u64 fields a record has, by its kind.
-const FIELDS: [u64; 16] = [5, 1, 3, 3, 2, 0, 0, 3, 1, 3, 3, 3, 0, 0, 0, 0];
+const FIELDS: [u64; 16] = [6, 1, 3, 3, 2, 0, 0, 4, 1, 4, 4, 4, 0, 0, 0, 0];
 
 // The room of the output that the replay program lends to a batch.
 const ROOM: u64 = 64;
@@ -75,17 +76,20 @@ fn key(b: &[u8], j: usize) -> LaneKey
 }
 
 fn id(b: &[u8]) -> LaneId
-    requires { ⌜ size 3 ≤ length (now b) ⌝ }
+    requires { ⌜ size 4 ≤ length (now b) ⌝ }
     ensures { λ r. ⌜ r ≡ id (now (b .entry)) ⌝ }
 {
     LaneId {
-        channel: field(b, 0),
+        channel: OpenedChannel {
+            id: field(b, 0),
+            opening: field(b, 3),
+        },
         key: key(b, 1),
     }
 }
 
 fn opening(b: &[u8]) -> Opening
-    requires { ⌜ size 5 ≤ length (now b) ⌝ }
+    requires { ⌜ size 6 ≤ length (now b) ⌝ }
     ensures { λ r. ⌜ r ≡ opening (now (b .entry)) ⌝ }
 {
     Opening {
@@ -94,6 +98,7 @@ fn opening(b: &[u8]) -> Opening
         channel: field(b, 2),
         cursor: field(b, 3),
         generation: field(b, 4),
+        number: field(b, 5),
     }
 }
 
@@ -167,7 +172,7 @@ fn record_of(b: &[u8], kind: u64) -> Record
 
 fn fields_of(kind: u64) -> u64
     requires { ⌜ kind < 16 ⌝ }
-    ensures { λ r. ⌜ (r ≡ fieldsOf kind) × (r ≤ 5) ⌝ }
+    ensures { λ r. ⌜ (r ≡ fieldsOf kind) × (r ≤ mostFields) ⌝ }
 {
     FIELDS[kind as usize]
 }
