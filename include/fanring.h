@@ -12,6 +12,19 @@
    finds the lane empty makes it idle. Receives look for marked lanes and queue them; queued lanes have turns at the front. A lane's items come out in the
    order sent. Between lanes no order is kept, and a batch names no lanes: where it matters whose an item is, the item has to say so, or single receives do.
 
+   LANE IDS. A lane's id is four numbers: channel, slot, generation and opening number. They stand in this order in words[1] to words[4] of FANRING_ITEM and
+   in the calls that take an id (try_recv_from, pause, resume, close_lane). Two ids are equal exactly if all four agree. The id of a lane just registered is
+   the opening's channel, the lane's key and the opening's number.
+   The opening number is the host's, any u64. Slots and generations start afresh with each opening, and a recorder restarted between patients opens with the
+   same channel id: without the number, an id saved for the earlier patient would name a lane of the next. From an accepted opening on, until the next, the id
+   of every item carries that opening's number, and the four calls refuse every id that carries another: 13, or 6 once the receiver is closed.
+   Nothing checks that numbers differ. A host that saves ids, or has several channels with one id, gives each opening with that channel id, on whatever stores,
+   another number, such as one count for all of them, which it raises and saves before the opening and never sets back (examples/c/restart.c). A host whose
+   channels all have different ids, and that keeps no id over an opening, may always give 0. A copy of the stores, or an older save read back, keeps its
+   number: an id may then name a lane in each, and not of the same sender.
+   Keys carry neither channel nor number, and sends and drops go by key: a key of an earlier opening may name a sender of a later one, and is then taken. Keep
+   no key over an opening.
+
    SLEEP. No call waits. A send that finds its lane's signal idle answers woken 1: wake the receiver if it sleeps, and do nothing else.
    To look is to make a plain receive, a fair one or a batch of a limit other than 0. A receiver may sleep after a look that answered FANRING_EMPTY or
    FANRING_DISCONNECTED, and after a batch that answered fewer items than its limit. From such an answer on, while no calls but sender calls and held are
@@ -56,7 +69,7 @@
 extern "C" {
 #endif
 
-/* The words lent for an answer's numbers. Today's answers use four at most. */
+/* The words lent for an answer's numbers. Today's answers use five at most. */
 #define FANRING_WORDS 8
 
 /* The words that the stores of a channel of S slots need. C is a power of two: the opening rounds a capacity up, so for a capacity of 100 it is 128. */
@@ -68,7 +81,7 @@ enum fanring_tag {
     FANRING_DONE = 0,         /* no words */
     FANRING_REGISTERED = 1,   /* a lane's key: slot, generation */
     FANRING_TAKEN = 2,        /* woken: 1 or 0; free places */
-    FANRING_ITEM = 3,         /* item, channel, slot, generation */
+    FANRING_ITEM = 3,         /* item, channel, slot, generation, opening number */
     FANRING_ITEMS = 4,        /* count; the items are in the output */
     FANRING_EMPTY = 5,        /* no words */
     FANRING_DISCONNECTED = 6, /* no words */
@@ -97,11 +110,12 @@ enum fanring_refusal {
 /* ---- Checked calls: any stores, any numbers ---- */
 
 /* Opens a channel on two stores, whatever they hold: a capacity (1 to 65,536, rounded up to a power of two C), slots S (1 to 8,192), a channel id,
-   and the cursor and the generation to start with (any number; 0 in the original). No sender yet. Opening a used pair starts afresh. Answers
-   FANRING_DONE; or refused 1, 2, 3, 4. */
+   the cursor and the generation to start with (any number; 0 in the original), and the opening number (any; LANE IDS, above). No sender yet. Opening a used
+   pair starts afresh. Answers FANRING_DONE; or refused 1, 2, 3, 4. */
 uint64_t fanring_open(
     uint64_t *table, size_t table_len, const uint64_t *rings, size_t rings_len,
-    uint64_t capacity, uint64_t slots, uint64_t channel, uint64_t cursor, uint64_t generation, uint64_t words[FANRING_WORDS]);
+    uint64_t capacity, uint64_t slots, uint64_t channel, uint64_t cursor, uint64_t generation, uint64_t number,
+    uint64_t words[FANRING_WORDS]);
 
 /* Registers a sender with a lane of its own, if fewer than `most` lanes are registered. The slot freed last is issued first, with generation + 1;
    else the next unused one. Answers FANRING_REGISTERED with the lane's key: words[0] slot, words[1] generation; or refused 5, 6, 7, 8, 9. Refused 9
@@ -130,8 +144,8 @@ uint64_t fanring_drop_sender(
     uint64_t words[FANRING_WORDS]);
 
 /* Receives one item (plain), in bursts of at most 64 of a lane. Answers FANRING_ITEM with words[0] item, words[1] channel, words[2] slot, words[3]
-   generation; FANRING_DISCONNECTED if no sender lives and, once empty lanes have retired, no lane is registered; else FANRING_EMPTY; or refused 5, 6.
-   Disconnected is not final: it is answered before the first registration too, and a later one is taken. */
+   generation, words[4] opening number; FANRING_DISCONNECTED if no sender lives and, once empty lanes have retired, no lane is registered; else
+   FANRING_EMPTY; or refused 5, 6. Disconnected is not final: it is answered before the first registration too, and a later one is taken. */
 uint64_t fanring_try_recv(uint64_t *table, size_t table_len, const uint64_t *rings, size_t rings_len, uint64_t words[FANRING_WORDS]);
 
 /* Receives one item (fair): one of the front lane, which goes to the back. Two lanes that are never without an ordinarily sent item, unpaused and open, get
@@ -144,7 +158,7 @@ uint64_t fanring_try_recv_fair(uint64_t *table, size_t table_len, const uint64_t
    whether or not others live, and the lane retires; or refused 5, 6, 13. */
 uint64_t fanring_try_recv_from(
     uint64_t *table, size_t table_len, const uint64_t *rings, size_t rings_len,
-    uint64_t channel, uint64_t slot, uint64_t generation, uint64_t words[FANRING_WORDS]);
+    uint64_t channel, uint64_t slot, uint64_t generation, uint64_t opening, uint64_t words[FANRING_WORDS]);
 
 /* Receives items into out[0], out[1], .. in order, with turns as of plain receives, until the limit, or until nothing is queued and nothing is ready;
    then every lane gives back its credit. Answers FANRING_ITEMS with words[0] their count; FANRING_EMPTY or FANRING_DISCONNECTED if there was none, but 0
@@ -158,18 +172,18 @@ uint64_t fanring_try_recv_batch_into(
    targeted ones. Answers FANRING_DONE; or refused 5, 6, 13. */
 uint64_t fanring_pause(
     uint64_t *table, size_t table_len, const uint64_t *rings, size_t rings_len,
-    uint64_t channel, uint64_t slot, uint64_t generation, uint64_t words[FANRING_WORDS]);
+    uint64_t channel, uint64_t slot, uint64_t generation, uint64_t opening, uint64_t words[FANRING_WORDS]);
 
 /* Brings a paused lane back, queued at the back; a lane that is not paused stays as it is. Answers FANRING_DONE; or refused 5, 6, 13. */
 uint64_t fanring_resume(
     uint64_t *table, size_t table_len, const uint64_t *rings, size_t rings_len,
-    uint64_t channel, uint64_t slot, uint64_t generation, uint64_t words[FANRING_WORDS]);
+    uint64_t channel, uint64_t slot, uint64_t generation, uint64_t opening, uint64_t words[FANRING_WORDS]);
 
 /* Retires the lane with this id, with the items that it holds: none of them is handed out. A sender not dropped yet still counts as living, with its
    sends refused 12, and must be dropped. Answers FANRING_DONE; or refused 5, 6, 13. */
 uint64_t fanring_close_lane(
     uint64_t *table, size_t table_len, const uint64_t *rings, size_t rings_len,
-    uint64_t channel, uint64_t slot, uint64_t generation, uint64_t words[FANRING_WORDS]);
+    uint64_t channel, uint64_t slot, uint64_t generation, uint64_t opening, uint64_t words[FANRING_WORDS]);
 
 /* Every lane gives back the places of its items that were handed out. Answers FANRING_DONE; or refused 5, 6. */
 uint64_t fanring_release_consumed(uint64_t *table, size_t table_len, const uint64_t *rings, size_t rings_len, uint64_t words[FANRING_WORDS]);
@@ -221,7 +235,7 @@ uint64_t fanring_inner_try_recv_fair(uint64_t *table, size_t table_len, const ui
    FANRING_DISCONNECTED; or refused 6, 13. */
 uint64_t fanring_inner_try_recv_from(
     uint64_t *table, size_t table_len, const uint64_t *rings, size_t rings_len,
-    uint64_t channel, uint64_t slot, uint64_t generation, uint64_t words[FANRING_WORDS]);
+    uint64_t channel, uint64_t slot, uint64_t generation, uint64_t opening, uint64_t words[FANRING_WORDS]);
 
 /* Premise: the stores are in order. As fanring_try_recv_batch_into: receives items into out. Answers FANRING_ITEMS, FANRING_EMPTY, FANRING_DISCONNECTED;
    or refused 6, 14. */
@@ -233,17 +247,17 @@ uint64_t fanring_inner_try_recv_batch_into(
    or refused 6, 13. */
 uint64_t fanring_inner_pause(
     uint64_t *table, size_t table_len, const uint64_t *rings, size_t rings_len,
-    uint64_t channel, uint64_t slot, uint64_t generation, uint64_t words[FANRING_WORDS]);
+    uint64_t channel, uint64_t slot, uint64_t generation, uint64_t opening, uint64_t words[FANRING_WORDS]);
 
 /* Premise: the stores are in order. As fanring_resume: brings a paused lane back. Answers FANRING_DONE; or refused 6, 13. */
 uint64_t fanring_inner_resume(
     uint64_t *table, size_t table_len, const uint64_t *rings, size_t rings_len,
-    uint64_t channel, uint64_t slot, uint64_t generation, uint64_t words[FANRING_WORDS]);
+    uint64_t channel, uint64_t slot, uint64_t generation, uint64_t opening, uint64_t words[FANRING_WORDS]);
 
 /* Premise: the stores are in order. As fanring_close_lane: retires the lane with this id, with its items. Answers FANRING_DONE; or refused 6, 13. */
 uint64_t fanring_inner_close_lane(
     uint64_t *table, size_t table_len, const uint64_t *rings, size_t rings_len,
-    uint64_t channel, uint64_t slot, uint64_t generation, uint64_t words[FANRING_WORDS]);
+    uint64_t channel, uint64_t slot, uint64_t generation, uint64_t opening, uint64_t words[FANRING_WORDS]);
 
 /* Premise: the stores are in order. As fanring_release_consumed: every lane gives back its credit. Answers FANRING_DONE; or refused 6. */
 uint64_t fanring_inner_release_consumed(uint64_t *table, size_t table_len, const uint64_t *rings, size_t rings_len, uint64_t words[FANRING_WORDS]);

@@ -93,7 +93,7 @@ static uint64_t receive(void) {
 
 int main(void) {
     uint64_t words[FANRING_WORDS];
-    expect(CALL(open, CAPACITY, BELTS, 7, 0, 0, words), FANRING_DONE, "open");
+    expect(CALL(open, CAPACITY, BELTS, 7, 0, 0, 0, words), FANRING_DONE, "open");
     for (unsigned i = 0; i < BELTS; i++) {
         expect(CALL(register_sender, BELTS, words), FANRING_REGISTERED, "register_sender");
         belts[i] = (struct belt){.slot = words[0], .generation = words[1], .free = CAPACITY, .mean_of = 1};

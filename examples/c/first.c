@@ -36,7 +36,7 @@ int main(void) {
     /* not opened: not in order */
     print(fanring_try_recv(STORES, words));
 
-    print(fanring_open(STORES, 4, 2, 7, 0, 0, words));
+    print(fanring_open(STORES, 4, 2, 7, 0, 0, 0, words));
     print(fanring_register_sender(STORES, 2, words));
     uint64_t slot = words[0], generation = words[1];
     print(fanring_try_send(STORES, slot, generation, 11, words));

@@ -13,7 +13,7 @@
 #include <stdio.h>
 #include <stdlib.h>
 
-enum { HEADBOXES = 3, NIGHT = 200000, CAPACITY = 64, LIMIT = 128, KEEP = 32, UNPLUGGED = 1, CHANNEL = 7 };
+enum { HEADBOXES = 3, NIGHT = 200000, CAPACITY = 64, LIMIT = 128, KEEP = 32, UNPLUGGED = 1, CHANNEL = 7, OPENING = 1 };
 enum { TABLE = FANRING_TABLE_WORDS(HEADBOXES), RINGS = FANRING_RING_WORDS(HEADBOXES, CAPACITY) };
 
 /* A batch names no lanes, so a sample says itself whose it is: 8 bits for the headbox, 32 for the sample's number in the night, 24 for the reading,
@@ -70,7 +70,7 @@ static void plug_in(struct headbox *h) {
 /* The lane ends at once, with what is in its ring. The sender has to be dropped too, or its slot is not issued again. */
 static void unplug(struct headbox *h) {
     uint64_t words[FANRING_WORDS], before = held();
-    expect(CALL(close_lane, CHANNEL, h->slot, h->generation, words), FANRING_DONE, "close_lane");
+    expect(CALL(close_lane, CHANNEL, h->slot, h->generation, OPENING, words), FANRING_DONE, "close_lane");
     h->lost += before - held();
     expect(CALL(drop_sender, h->slot, h->generation, words), FANRING_DONE, "drop_sender");
     wake_receiver();
@@ -161,7 +161,7 @@ static void *run_receiver(void *unused) {
 
 int main(void) {
     uint64_t words[FANRING_WORDS];
-    expect(CALL(open, CAPACITY, HEADBOXES, CHANNEL, 0, 0, words), FANRING_DONE, "open");
+    expect(CALL(open, CAPACITY, HEADBOXES, CHANNEL, 0, 0, OPENING, words), FANRING_DONE, "open");
     pthread_t receiver;
     for (int i = 0; i < HEADBOXES; i++) {
         headboxes[i].number = (uint64_t)i;

@@ -3,7 +3,7 @@
 
 #[rustfmt::skip]
 unsafe extern "C" {
-    fn fanring_open(table: *mut u64, table_len: usize, rings: *const u64, rings_len: usize, capacity: u64, slots: u64, channel: u64, cursor: u64, generation: u64, words: *mut [u64; 8]) -> u64;
+    fn fanring_open(table: *mut u64, table_len: usize, rings: *const u64, rings_len: usize, capacity: u64, slots: u64, channel: u64, cursor: u64, generation: u64, number: u64, words: *mut [u64; 8]) -> u64;
     fn fanring_register_sender(table: *mut u64, table_len: usize, rings: *const u64, rings_len: usize, most: u64, words: *mut [u64; 8]) -> u64;
     fn fanring_try_send(table: *mut u64, table_len: usize, rings: *mut u64, rings_len: usize, slot: u64, generation: u64, item: u64, words: *mut [u64; 8]) -> u64;
     fn fanring_drop_sender(table: *mut u64, table_len: usize, rings: *const u64, rings_len: usize, slot: u64, generation: u64, words: *mut [u64; 8]) -> u64;
@@ -54,7 +54,7 @@ fn checked(s: &mut Stores) {
     // not opened: not in order
     print!(s, fanring_try_recv);
 
-    print!(s, fanring_open, 4, 2, 7, 0, 0);
+    print!(s, fanring_open, 4, 2, 7, 0, 0, 0);
     print!(s, fanring_register_sender, 2);
     let [slot, generation, ..] = s.words;
     print!(s, fanring_try_send, slot, generation, 11);

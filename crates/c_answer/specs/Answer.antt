@@ -27,8 +27,8 @@ put Done ws = ws
 put (Registered k) ws = set (set ws 0 (k .slot)) 1 (k .generation)
 -- "`taken W F`, W as before and F that number" (document 02, N1); before: "`taken 1` (woken: 1 or 0; unsignalled always 0)"
 put (Taken w f) ws = set (set ws 0 (bit w)) 1 f
--- "Single receives answer item and lane id (channel id, key)."
-put (Item v i) ws = set (set (set (set ws 0 v) 1 (i .channel)) 2 (i .key .slot)) 3 (i .key .generation)
+-- "Single receives answer item and lane id (channel id, key)"; the opening number, which the id carries, comes last
+put (Item v i) ws = set (set (set (set (set ws 0 v) 1 (i .channel .id)) 2 (i .key .slot)) 3 (i .key .generation)) 4 (i .channel .opening)
 -- "`items N`"; the N values are in the output
 put (Items n) ws = set ws 0 n
 put Empty ws = ws

@@ -1,4 +1,4 @@
--- Each kind of answer as C gets it, where the eight words held 9 before.
+-- Each kind of answer as C gets it, where the eight words held 9 before; and an id of the numbers that C gives, in the order of the answer's words.
 -- Assumes nothing.
 use mathlib.Core.Path.{_≡_, refl}
 use mathlib.Core.Bool.{true, false}
@@ -11,12 +11,18 @@ use Rattle.model.specs.declared.Answer.{Answer}
 use Rattle.model.specs.declared.Answer.the-variants.{Done, Registered, Taken, Item, Items, Empty, Disconnected, Held, Refused}
 use Rattle.model.specs.Answers.{number}
 use Rattle.c_answer.specs.Answer.{tag, put}
+use Rattle.c_answer.specs.Numbers.{laneId}
 
 key : LaneKey
 key = record { slot = 3; generation = 8 }
 
 id : LaneId
-id = record { channel = 7; key = record { slot = 3; generation = 8 } }
+id = record { channel = record { id = 7; opening = 6 }; key = record { slot = 3; generation = 8 } }
+
+-- words[1] to words[4] of an item are the four numbers that a call by id takes
+id-of-numbers : laneId 7 3 8 6 ≡ id
+unfolding id
+id-of-numbers = refl
 
 gets : Answer → List ℕ
 gets a = tag a ∷ put a (9 ∷ 9 ∷ 9 ∷ 9 ∷ 9 ∷ 9 ∷ 9 ∷ 9 ∷ [])
@@ -27,7 +33,7 @@ answers-told :
     ∷ (1 ∷ 3 ∷ 8 ∷ 9 ∷ 9 ∷ 9 ∷ 9 ∷ 9 ∷ 9 ∷ [])
     ∷ (2 ∷ 1 ∷ 5 ∷ 9 ∷ 9 ∷ 9 ∷ 9 ∷ 9 ∷ 9 ∷ [])
     ∷ (2 ∷ 0 ∷ 0 ∷ 9 ∷ 9 ∷ 9 ∷ 9 ∷ 9 ∷ 9 ∷ [])
-    ∷ (3 ∷ 11 ∷ 7 ∷ 3 ∷ 8 ∷ 9 ∷ 9 ∷ 9 ∷ 9 ∷ [])
+    ∷ (3 ∷ 11 ∷ 7 ∷ 3 ∷ 8 ∷ 6 ∷ 9 ∷ 9 ∷ 9 ∷ [])
     ∷ (4 ∷ 2 ∷ 9 ∷ 9 ∷ 9 ∷ 9 ∷ 9 ∷ 9 ∷ 9 ∷ [])
     ∷ (5 ∷ 9 ∷ 9 ∷ 9 ∷ 9 ∷ 9 ∷ 9 ∷ 9 ∷ 9 ∷ [])
     ∷ (6 ∷ 9 ∷ 9 ∷ 9 ∷ 9 ∷ 9 ∷ 9 ∷ 9 ∷ 9 ∷ [])

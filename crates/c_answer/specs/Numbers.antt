@@ -7,5 +7,5 @@ use Rattle.model.specs.declared.LaneId.{LaneId}
 abbrev pub laneKey : ℕ → ℕ → LaneKey
 laneKey slot generation = record { slot = slot; generation = generation }
 
-abbrev pub laneId : ℕ → ℕ → ℕ → LaneId
-laneId channel slot generation = record { channel = channel; key = laneKey slot generation }
+abbrev pub laneId : ℕ → ℕ → ℕ → ℕ → LaneId
+laneId channel slot generation opening = record { channel = record { id = channel; opening = opening }; key = laneKey slot generation }

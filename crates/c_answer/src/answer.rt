@@ -17,12 +17,13 @@ fn put_two(words: &mut [u64; 8], first: u64, second: u64, kind: u64) -> u64
 
 fn put_item(words: &mut [u64; 8], item: u64, lane: LaneId) -> u64
     ensures { λ r. ⌜ r ≡ 3 ⌝ }
-    ensures { λ _. ⌜ now (words .exit) ≡ set (set (set (set (now (words .entry)) 0 item) 1 (lane .channel)) 2 (lane .key .slot)) 3 (lane .key .generation) ⌝ }
+    ensures { λ _. ⌜ now (words .exit) ≡ set (set (set (set (set (now (words .entry)) 0 item) 1 (lane .channel .id)) 2 (lane .key .slot)) 3 (lane .key .generation)) 4 (lane .channel .opening) ⌝ }
 {
     words[0] = item;
-    words[1] = lane.channel;
+    words[1] = lane.channel.id;
     words[2] = lane.key.slot;
     words[3] = lane.key.generation;
+    words[4] = lane.channel.opening;
     3
 }
 

@@ -11,6 +11,7 @@ use fanring::lane_control;
 use fanring::recv;
 use model::LaneId;
 use model::LaneKey;
+use model::OpenedChannel;
 
 // Pauses a lane.
 #[no_mangle]
@@ -20,15 +21,19 @@ pub extern "C" fn fanring_pause(
     channel: u64,
     slot: u64,
     generation: u64,
+    opening: u64,
     words: &mut [u64; 8],
 ) -> u64
-    ensures { λ a. ⌜ (a, now (words .exit), now (table .exit), now (rings .entry)) ≡ told (now (words .entry)) (checkedWords (now (table .entry)) (now (rings .entry)) (Control (Pause (laneId channel slot generation)))) ⌝ }
+    ensures { λ a. ⌜ (a, now (words .exit), now (table .exit), now (rings .entry)) ≡ told (now (words .entry)) (checkedWords (now (table .entry)) (now (rings .entry)) (Control (Pause (laneId channel slot generation opening)))) ⌝ }
 {
     let done = lane_control::pause(
         table,
         rings,
         LaneId {
-            channel: channel,
+            channel: OpenedChannel {
+                id: channel,
+                opening: opening,
+            },
             key: LaneKey {
                 slot: slot,
                 generation: generation,
@@ -46,15 +51,19 @@ pub extern "C" fn fanring_resume(
     channel: u64,
     slot: u64,
     generation: u64,
+    opening: u64,
     words: &mut [u64; 8],
 ) -> u64
-    ensures { λ a. ⌜ (a, now (words .exit), now (table .exit), now (rings .entry)) ≡ told (now (words .entry)) (checkedWords (now (table .entry)) (now (rings .entry)) (Control (Resume (laneId channel slot generation)))) ⌝ }
+    ensures { λ a. ⌜ (a, now (words .exit), now (table .exit), now (rings .entry)) ≡ told (now (words .entry)) (checkedWords (now (table .entry)) (now (rings .entry)) (Control (Resume (laneId channel slot generation opening)))) ⌝ }
 {
     let done = lane_control::resume(
         table,
         rings,
         LaneId {
-            channel: channel,
+            channel: OpenedChannel {
+                id: channel,
+                opening: opening,
+            },
             key: LaneKey {
                 slot: slot,
                 generation: generation,
@@ -72,15 +81,19 @@ pub extern "C" fn fanring_close_lane(
     channel: u64,
     slot: u64,
     generation: u64,
+    opening: u64,
     words: &mut [u64; 8],
 ) -> u64
-    ensures { λ a. ⌜ (a, now (words .exit), now (table .exit), now (rings .entry)) ≡ told (now (words .entry)) (checkedWords (now (table .entry)) (now (rings .entry)) (Control (CloseLane (laneId channel slot generation)))) ⌝ }
+    ensures { λ a. ⌜ (a, now (words .exit), now (table .exit), now (rings .entry)) ≡ told (now (words .entry)) (checkedWords (now (table .entry)) (now (rings .entry)) (Control (CloseLane (laneId channel slot generation opening)))) ⌝ }
 {
     let done = lane_control::close_lane(
         table,
         rings,
         LaneId {
-            channel: channel,
+            channel: OpenedChannel {
+                id: channel,
+                opening: opening,
+            },
             key: LaneKey {
                 slot: slot,
                 generation: generation,

@@ -13,6 +13,7 @@ use fanring::lane_control;
 use fanring::recv;
 use model::LaneId;
 use model::LaneKey;
+use model::OpenedChannel;
 
 // Receives one item.
 #[no_mangle]
@@ -44,15 +45,19 @@ pub extern "C" fn fanring_try_recv_from(
     channel: u64,
     slot: u64,
     generation: u64,
+    opening: u64,
     words: &mut [u64; 8],
 ) -> u64
-    ensures { λ a. ⌜ (a, now (words .exit), now (table .exit), now (rings .entry)) ≡ told (now (words .entry)) (checkedWords (now (table .entry)) (now (rings .entry)) (Receive (TryRecvFrom (laneId channel slot generation)))) ⌝ }
+    ensures { λ a. ⌜ (a, now (words .exit), now (table .exit), now (rings .entry)) ≡ told (now (words .entry)) (checkedWords (now (table .entry)) (now (rings .entry)) (Receive (TryRecvFrom (laneId channel slot generation opening)))) ⌝ }
 {
     let done = lane_control::try_recv_from(
         table,
         rings,
         LaneId {
-            channel: channel,
+            channel: OpenedChannel {
+                id: channel,
+                opening: opening,
+            },
             key: LaneKey {
                 slot: slot,
                 generation: generation,

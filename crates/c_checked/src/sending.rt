@@ -22,9 +22,10 @@ pub extern "C" fn fanring_open(
     channel: u64,
     cursor: u64,
     generation: u64,
+    number: u64,
     words: &mut [u64; 8],
 ) -> u64
-    ensures { λ a. ⌜ (a, now (words .exit), now (table .exit), now (rings .entry)) ≡ told (now (words .entry)) (openStore (record { capacity = capacity; slots = slots; channel = channel; cursor = cursor; generation = generation }) (now (table .entry)) (now (rings .entry))) ⌝ }
+    ensures { λ a. ⌜ (a, now (words .exit), now (table .exit), now (rings .entry)) ≡ told (now (words .entry)) (openStore (record { capacity = capacity; slots = slots; channel = channel; cursor = cursor; generation = generation; number = number }) (now (table .entry)) (now (rings .entry))) ⌝ }
 {
     let done = mpsc::open(
         Opening {
@@ -33,6 +34,7 @@ pub extern "C" fn fanring_open(
             channel: channel,
             cursor: cursor,
             generation: generation,
+            number: number,
         },
         table,
         rings,

@@ -10,6 +10,7 @@ use c_answer::answer;
 use control::lane_control;
 use model::LaneId;
 use model::LaneKey;
+use model::OpenedChannel;
 
 // Pauses a lane.
 #[no_mangle]
@@ -19,16 +20,20 @@ pub extern "C" fn fanring_inner_pause(
     channel: u64,
     slot: u64,
     generation: u64,
+    opening: u64,
     words: &mut [u64; 8],
 ) -> u64
     requires { ⌜ StoreInOrder (now table) (now rings) ⌝ }
-    ensures { λ a. ⌜ (a, now (words .exit), now (table .exit), now (rings .entry)) ≡ told (now (words .entry)) (callWords (now (table .entry)) (now (rings .entry)) (Control (Pause (laneId channel slot generation)))) ⌝ }
+    ensures { λ a. ⌜ (a, now (words .exit), now (table .exit), now (rings .entry)) ≡ told (now (words .entry)) (callWords (now (table .entry)) (now (rings .entry)) (Control (Pause (laneId channel slot generation opening)))) ⌝ }
 {
     let done = lane_control::pause(
         table,
         rings,
         LaneId {
-            channel: channel,
+            channel: OpenedChannel {
+                id: channel,
+                opening: opening,
+            },
             key: LaneKey {
                 slot: slot,
                 generation: generation,
@@ -46,16 +51,20 @@ pub extern "C" fn fanring_inner_resume(
     channel: u64,
     slot: u64,
     generation: u64,
+    opening: u64,
     words: &mut [u64; 8],
 ) -> u64
     requires { ⌜ StoreInOrder (now table) (now rings) ⌝ }
-    ensures { λ a. ⌜ (a, now (words .exit), now (table .exit), now (rings .entry)) ≡ told (now (words .entry)) (callWords (now (table .entry)) (now (rings .entry)) (Control (Resume (laneId channel slot generation)))) ⌝ }
+    ensures { λ a. ⌜ (a, now (words .exit), now (table .exit), now (rings .entry)) ≡ told (now (words .entry)) (callWords (now (table .entry)) (now (rings .entry)) (Control (Resume (laneId channel slot generation opening)))) ⌝ }
 {
     let done = lane_control::resume(
         table,
         rings,
         LaneId {
-            channel: channel,
+            channel: OpenedChannel {
+                id: channel,
+                opening: opening,
+            },
             key: LaneKey {
                 slot: slot,
                 generation: generation,
@@ -73,16 +82,20 @@ pub extern "C" fn fanring_inner_close_lane(
     channel: u64,
     slot: u64,
     generation: u64,
+    opening: u64,
     words: &mut [u64; 8],
 ) -> u64
     requires { ⌜ StoreInOrder (now table) (now rings) ⌝ }
-    ensures { λ a. ⌜ (a, now (words .exit), now (table .exit), now (rings .entry)) ≡ told (now (words .entry)) (callWords (now (table .entry)) (now (rings .entry)) (Control (CloseLane (laneId channel slot generation)))) ⌝ }
+    ensures { λ a. ⌜ (a, now (words .exit), now (table .exit), now (rings .entry)) ≡ told (now (words .entry)) (callWords (now (table .entry)) (now (rings .entry)) (Control (CloseLane (laneId channel slot generation opening)))) ⌝ }
 {
     let done = lane_control::close_lane(
         table,
         rings,
         LaneId {
-            channel: channel,
+            channel: OpenedChannel {
+                id: channel,
+                opening: opening,
+            },
             key: LaneKey {
                 slot: slot,
                 generation: generation,

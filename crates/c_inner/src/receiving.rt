@@ -10,6 +10,7 @@ ghost use Rattle.c_answer.specs.Numbers.{laneId};
 use c_answer::answer;
 use model::LaneId;
 use model::LaneKey;
+use model::OpenedChannel;
 use receive::receiver as plain;
 use receive_batch::batch;
 use receive_from::target;
@@ -50,16 +51,20 @@ pub extern "C" fn fanring_inner_try_recv_from(
     channel: u64,
     slot: u64,
     generation: u64,
+    opening: u64,
     words: &mut [u64; 8],
 ) -> u64
     requires { ⌜ StoreInOrder (now table) (now rings) ⌝ }
-    ensures { λ a. ⌜ (a, now (words .exit), now (table .exit), now (rings .entry)) ≡ told (now (words .entry)) (callWords (now (table .entry)) (now (rings .entry)) (Receive (TryRecvFrom (laneId channel slot generation)))) ⌝ }
+    ensures { λ a. ⌜ (a, now (words .exit), now (table .exit), now (rings .entry)) ≡ told (now (words .entry)) (callWords (now (table .entry)) (now (rings .entry)) (Receive (TryRecvFrom (laneId channel slot generation opening)))) ⌝ }
 {
     let done = target::try_recv_from(
         table,
         rings,
         LaneId {
-            channel: channel,
+            channel: OpenedChannel {
+                id: channel,
+                opening: opening,
+            },
             key: LaneKey {
                 slot: slot,
                 generation: generation,
