@@ -23,7 +23,7 @@ impl Answer {
     #[inline]
     pub(crate) fn read(tag: u64, words: Words) -> Self {
         let key = |slot, generation| LaneKey { slot, generation };
-        let lane = LaneId { channel_id: words[1], key: key(words[2], words[3]) };
+        let lane = LaneId { channel_id: words[1], opening: words[4], key: key(words[2], words[3]) };
         match tag {
             0 => Self::Done,
             1 => Self::Registered(key(words[0], words[1])),

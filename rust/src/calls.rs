@@ -46,6 +46,7 @@ impl StoresInOrder {
                 opening.channel_id,
                 opening.first_cursor,
                 opening.first_generation,
+                opening.opening_number,
                 &mut words,
             )
         };

@@ -33,12 +33,14 @@ use crate::{LaneId, LaneKey, Opening, Stores};
 /// - A call that writes takes `&mut self`, so nothing else runs on the stores at that time; [`held`](Self::held) takes
 ///   `&self` and only reads. A `Channel` may move to another thread, or stand behind a lock.
 ///
-/// Neither it nor [`Opening`] is `Clone`: two channels would share their id, and each would take the other's lane ids.
+/// Neither it nor [`Opening`] is `Clone`: two channels would share channel id and opening number, and each would take the
+/// other's lane ids.
 pub struct Channel {
     stores: StoresInOrder,
     capacity_per_sender: usize,
     slots: usize,
     channel_id: u64,
+    opening_number: u64,
 }
 
 impl Channel {
@@ -48,6 +50,7 @@ impl Channel {
             capacity_per_sender: opening.capacity_per_sender.next_power_of_two(),
             slots: opening.slots,
             channel_id: opening.channel_id,
+            opening_number: opening.opening_number,
         }
     }
 
@@ -57,14 +60,14 @@ impl Channel {
     /// let mut channel = proved_fanring::channel(4, 2);
     /// let key = channel.register_sender(usize::MAX).unwrap();
     /// let lane = channel.lane(key);
-    /// assert_eq!((lane.channel_id, lane.key), (channel.channel_id(), key));
+    /// assert_eq!((lane.channel_id, lane.opening, lane.key), (channel.channel_id(), channel.opening_number(), key));
     /// ```
     #[must_use]
     pub const fn lane(&self, key: LaneKey) -> LaneId {
-        LaneId { channel_id: self.channel_id, key }
+        LaneId { channel_id: self.channel_id, opening: self.opening_number, key }
     }
 
-    /// The number that tells this channel's lane ids from others'.
+    /// The channel's number, which its lane ids have.
     ///
     /// ```
     /// use proved_fanring::Opening;
@@ -75,6 +78,19 @@ impl Channel {
     #[must_use]
     pub const fn channel_id(&self) -> u64 {
         self.channel_id
+    }
+
+    /// The number of the opening, which tells its lane ids from those of others with the same channel id.
+    ///
+    /// ```
+    /// use proved_fanring::Opening;
+    ///
+    /// let channel = Opening { opening_number: 3, ..Opening::new(4, 2) }.open().unwrap();
+    /// assert_eq!(channel.opening_number(), 3);
+    /// ```
+    #[must_use]
+    pub const fn opening_number(&self) -> u64 {
+        self.opening_number
     }
 
     /// Return per-sender capacity after rounding.
@@ -117,6 +133,7 @@ impl fmt::Debug for Channel {
     fn fmt(&self, f: &mut fmt::Formatter<'_>) -> fmt::Result {
         f.debug_struct("Channel")
             .field("channel_id", &self.channel_id)
+            .field("opening_number", &self.opening_number)
             .field("capacity_per_sender", &self.capacity_per_sender)
             .field("slots", &self.slots)
             .field("held", &self.held())

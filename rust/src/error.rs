@@ -287,7 +287,7 @@ pub enum TryRecvError {
     Disconnected,
     /// The receiver is closed. Refusal 6.
     ReceiverClosed,
-    /// No lane has this id. Refusal 13. fanring answers `Disconnected` here.
+    /// No lane has this id, as of [`LaneControlError::NoSuchLane`]. Refusal 13. fanring answers `Disconnected` here.
     NoSuchLane,
     /// The output is shorter than the limit. Refusal 14.
     OutputShort,
@@ -361,8 +361,8 @@ impl Error for TryRecvError {}
 pub enum LaneControlError {
     /// The receiver is closed. Refusal 6.
     ReceiverClosed,
-    /// No lane has this id: it has retired, or the id is of another channel. Refusal 13. fanring answers `RecvError`
-    /// here.
+    /// No registered lane has exactly this id: the lane has retired, or the id is of another channel, or of another
+    /// opening with the same channel id. Refusal 13. fanring answers `RecvError` here.
     NoSuchLane,
 }
 

@@ -4,7 +4,8 @@
 ///
 /// [`Channel::register_sender`](crate::Channel::register_sender) gives it out; the sender calls take it. A slot's
 /// generations never come again in one channel, so an old key names no later sender. A key does not say of which
-/// channel it is: [`LaneId`] does.
+/// channel and opening it is, as [`LaneId`] does: one of an earlier opening may name a sender of a later one, and is then
+/// taken. So keep no key over an opening.
 ///
 /// Any key may be made from its two numbers and given to any call. One that names no living sender is refused.
 ///
@@ -23,11 +24,14 @@ pub struct LaneKey {
     pub generation: u64,
 }
 
-/// A lane of one channel: the channel's number and the lane's key.
+/// A lane of one opening of a channel: the channel's number, the opening's and the lane's key.
 ///
-/// Single receives answer with it, and the lane controls take it. Each [`Opening::new`](crate::Opening::new) takes a
-/// number of its own, and an opening opens one channel. So an id selects no lane of another channel, unless a
-/// `channel_id` was set by hand.
+/// Single receives answer with it, and the lane controls take it. Two ids are equal exactly if all of their numbers are,
+/// and an id with another `channel_id` or `opening` than the channel's own is refused as
+/// [`NoSuchLane`](crate::LaneControlError::NoSuchLane). Each [`Opening::new`](crate::Opening::new) takes numbers of its
+/// own, and an opening opens one channel. So an id selects no lane of another channel, unless an
+/// [`opening_number`](crate::Opening::opening_number) was set by hand; nor does one saved by an earlier process
+/// select a lane, unless the system's clock was set back since: `Opening::new` has more.
 ///
 /// ```
 /// use proved_fanring::{channel, LaneControlError};
@@ -39,10 +43,29 @@ pub struct LaneKey {
 /// assert_ne!(one.lane(key), other.lane(key));
 /// assert_eq!(other.pause(&one.lane(key)), Err(LaneControlError::NoSuchLane));
 /// ```
+///
+/// A recorder that is started again for the next patient opens with the same channel id:
+///
+/// ```
+/// use proved_fanring::{LaneControlError, Opening};
+///
+/// let open = || Opening { channel_id: 7, ..Opening::new(4, 2) };
+/// let mut channel = open().open().unwrap();
+/// let key = channel.register_sender(2).unwrap();
+/// let saved = channel.lane(key);
+/// let mut channel = open().open_on(channel.into_stores()).unwrap();
+/// // The key is the same again, and the id is not.
+/// assert_eq!(channel.register_sender(2), Ok(key));
+/// assert_eq!(channel.lane(key).channel_id, saved.channel_id);
+/// assert_ne!(channel.lane(key), saved);
+/// assert_eq!(channel.close_lane(&saved), Err(LaneControlError::NoSuchLane));
+/// ```
 #[derive(Debug, Clone, Copy, PartialEq, Eq, Hash, PartialOrd, Ord)]
 pub struct LaneId {
     /// The channel's number.
     pub channel_id: u64,
-    /// The lane's key in that channel.
+    /// The opening number.
+    pub opening: u64,
+    /// The lane's key in that opening.
     pub key: LaneKey,
 }

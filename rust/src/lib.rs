@@ -69,6 +69,7 @@
 //! | `try_register_bounded(n)`; `try_clone`, `try_register` | [`register_sender(n)`](Channel::register_sender); with `usize::MAX` |
 //! | `Sender::lane`, `lane_id`, `capacity` | [`Channel::lane`], [`LaneKey::slot`], [`Channel::capacity_per_sender`] |
 //! | `with_lane_ids` | [`try_recv`](Channel::try_recv) and [`try_recv_fair`](Channel::try_recv_fair) always answer the lane's id |
+//! | a lane's id, which names its channel | [`LaneId`], which names its opening too |
 //! | `Ok(())` of a send | [`Taken`]: whether to wake the receiver, and how many more sends the lane takes |
 //! | a `Sender` or the `Receiver` is dropped | [`drop_sender`](Channel::drop_sender), [`close_receiver`](Channel::close_receiver) |
 //!
@@ -97,7 +98,9 @@
 //! - a lane that has an item, sent by [`Channel::try_send`], and is neither paused nor closed waits for a bounded
 //!   number of other lanes' items (`lanes-wait-bounded`);
 //! - an accepted send says how many further sends its lane takes with no other call between (`free-places-said`), and
-//!   whatever calls come between, none is refused as full before so many more were accepted (`not-full-before`).
+//!   whatever calls come between, none is refused as full before so many more were accepted (`not-full-before`);
+//! - an id with another opening number than the opening's is refused, at every point from an accepted opening on, and
+//!   the id of every item has the opening's (`openings-told-apart`).
 //!
 //! This crate itself is Rust and is not proved: it makes the two stores, passes numbers on, and reads the answer.
 //! That the calls' one premise holds is argued at [`Channel`].

@@ -1,6 +1,6 @@
 //! Opening a channel.
 
-use std::sync::atomic::{AtomicU64, Ordering};
+mod numbers;
 
 use crate::calls::{zeros, StoresInOrder};
 use crate::{Channel, ChannelError};
@@ -10,15 +10,6 @@ pub const MAX_CAPACITY_PER_SENDER: usize = 65_536;
 
 /// Maximum number of slots, and so of lanes at one time.
 pub const MAX_SLOTS: usize = 8_192;
-
-// A lane's id outlives its channel, so each `Opening::new` takes a number of its own.
-static NEXT_CHANNEL_ID: AtomicU64 = AtomicU64::new(0);
-
-fn allocate_channel_id(counter: &AtomicU64) -> u64 {
-    counter
-        .fetch_update(Ordering::Relaxed, Ordering::Relaxed, |id| id.checked_add(1))
-        .expect("MPSC channel IDs exhausted")
-}
 
 /// Open a channel with one bounded ring per sender, and room for `slots` lanes at one time.
 ///
@@ -78,7 +69,8 @@ pub struct Stores {
 /// }
 /// ```
 ///
-/// It is not `Clone`: the two channels would share their id, and each would take the other's lane ids.
+/// It is not `Clone`: the two channels would share channel id and opening number, and each would take the other's lane
+/// ids.
 ///
 /// ```compile_fail,E0382
 /// let opening = proved_fanring::Opening::new(4, 2);
@@ -91,37 +83,53 @@ pub struct Opening {
     pub capacity_per_sender: usize,
     /// Lanes at one time, from 1 to [`MAX_SLOTS`].
     pub slots: usize,
-    /// The channel's number, which is part of every [`LaneId`](crate::LaneId). [`new`](Self::new) takes one of its own;
-    /// who sets it, or takes it over from another opening by `..`, sees to it that no other channel has it.
+    /// The channel's number, which is part of every [`LaneId`](crate::LaneId). [`new`](Self::new) takes one of its own.
+    /// It may be set, to the same for each opening too: the opening number still tells their lane ids from each other.
     pub channel_id: u64,
     /// Where the cursors of every ring start. 0 in fanring.
     pub first_cursor: u64,
     /// The generation of a slot's first lane. 0 in fanring.
     pub first_generation: u64,
+    /// The opening's number, which is part of every [`LaneId`](crate::LaneId) too. [`new`](Self::new) takes one of its
+    /// own; who sets it, or takes it over from another opening by `..`, sees to it that no other opening with this
+    /// `channel_id` has it.
+    pub opening_number: u64,
 }
 
 impl Opening {
-    /// An opening as fanring has it: cursor and generation 0, and a channel id that no other has of those made here.
+    /// An opening as fanring has it: cursor and generation 0, and a channel id that no other has of those made here; and
+    /// an opening number, which fanring has not.
+    ///
+    /// The opening number is what the system's clock says, in nanoseconds since 1970: 0 before that, and modulo 2^64.
+    /// Where this is not more than the last number given out in this process, or not more than 0, it is one more. So
+    /// openings of one process differ in their numbers, whatever the clock says. They differ from those of another
+    /// process, a fork or an earlier one too, unless the clock was set back, or says the same to both. Who saves lane ids
+    /// and cannot rely on the clock sets [`opening_number`](Self::opening_number), to a count that is raised and saved
+    /// before the opening for instance, as examples/restart.rs does. Lane ids of openings as they are made here differ
+    /// from run to run: set it for runs that repeat.
     ///
     /// ```
     /// use proved_fanring::Opening;
     ///
     /// let opening = Opening::new(4, 2);
     /// assert_eq!((opening.first_cursor, opening.first_generation), (0, 0));
-    /// assert_ne!(opening.channel_id, Opening::new(4, 2).channel_id);
+    /// let other = Opening::new(4, 2);
+    /// assert_ne!(opening.channel_id, other.channel_id);
+    /// assert_ne!(opening.opening_number, other.opening_number);
     /// ```
     ///
     /// # Panics
     ///
-    /// Panics when 2^64 - 1 channel ids have been given out.
+    /// Panics when channel ids or opening numbers, which both end at 2^64 - 1, have run out.
     #[must_use]
     pub fn new(capacity_per_sender: usize, slots: usize) -> Self {
         Self {
             capacity_per_sender,
             slots,
-            channel_id: allocate_channel_id(&NEXT_CHANNEL_ID),
+            channel_id: numbers::channel_id(),
             first_cursor: 0,
             first_generation: 0,
+            opening_number: numbers::opening_number(),
         }
     }
 

@@ -88,8 +88,8 @@ fn as_with_the_limit_given() {
     let mut drained = 0;
     for _ in 0..400 {
         let (capacity, slots) = (1 << random.below(6), 1 + random.below(4) as usize);
-        // One id for both, so that their stores can be compared.
-        let open = || Opening { channel_id: 7, ..Opening::new(capacity, slots) }.open().unwrap();
+        // The same numbers for both, so that their stores can be compared.
+        let open = || Opening { channel_id: 7, opening_number: 1, ..Opening::new(capacity, slots) }.open().unwrap();
         let (mut one, mut other) = (open(), open());
         for _ in 0..200 {
             if random.below(12) == 0 {

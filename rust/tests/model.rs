@@ -1,10 +1,15 @@
-//! Random calls against a small model: a queue of items for each lane, and how many of its places are occupied still.
+//! Random calls against a small model: a queue of items for each lane, and how many of its places are occupied still. At
+//! times the channel ends, and the next is opened on its stores with the same channel id.
 
 use std::collections::{BTreeMap, BTreeSet, VecDeque};
+use std::mem;
 
 use proved_fanring::{
-    Channel, LaneControlError, LaneKey, Opening, Taken, TryRecvError, TryRegisterBoundedError, TrySendError,
+    channel, Channel, LaneControlError, LaneId, LaneKey, Opening, Taken, TryRecvError, TryRegisterBoundedError,
+    TrySendError,
 };
+
+const CHANNEL_ID: u64 = 7;
 
 struct Random(u64);
 
@@ -64,7 +69,11 @@ impl Lane {
 
 struct Run {
     channel: Channel,
+    /// Of the opening. The next has one more, modulo 2^64.
+    number: u64,
     lanes: BTreeMap<LaneKey, Lane>,
+    /// Ids of lanes of earlier openings.
+    saved: Vec<LaneId>,
     sends: u64,
     receiver_closed: bool,
     random: Random,
@@ -74,6 +83,8 @@ struct Run {
     refusals: BTreeSet<u64>,
     /// Accepted sends of which the model knew the free places, with places occupied by items taken.
     foretold: u64,
+    /// Calls with an id of another opening whose key is one of this opening too.
+    told_apart: u64,
 }
 
 impl Run {
@@ -81,10 +92,18 @@ impl Run {
         let mut random = Random(seed.wrapping_mul(0x9e37_79b9_7f4a_7c15) | 1);
         let capacity = [1, 2, 4, 7, 64, 128][random.below(6) as usize];
         let slots = 1 + random.below(6) as usize;
-        let opening = Opening { first_cursor: 0_u64.wrapping_sub(random.below(300)), ..Opening::new(capacity, slots) };
+        let number = 0_u64.wrapping_sub(random.below(4));
+        let opening = Opening {
+            channel_id: CHANNEL_ID,
+            first_cursor: 0_u64.wrapping_sub(random.below(300)),
+            opening_number: number,
+            ..Opening::new(capacity, slots)
+        };
         Self {
             channel: opening.open().unwrap(),
+            number,
             lanes: BTreeMap::new(),
+            saved: Vec::new(),
             sends: 0,
             receiver_closed: false,
             random,
@@ -92,7 +111,44 @@ impl Run {
             woken: 0,
             refusals: BTreeSet::new(),
             foretold: 0,
+            told_apart: 0,
         }
+    }
+
+    /// The channel ends, with the items in it, and the next is opened on its stores.
+    fn restart(&mut self) {
+        for key in mem::take(&mut self.lanes).into_keys() {
+            self.saved.push(self.id(key));
+        }
+        self.receiver_closed = false;
+        self.number = self.number.wrapping_add(1);
+        let (capacity, slots) = (self.channel.capacity_per_sender(), self.channel.slots());
+        let opening = Opening { channel_id: CHANNEL_ID, opening_number: self.number, ..Opening::new(capacity, slots) };
+        let ended = mem::replace(&mut self.channel, channel(1, 1));
+        self.channel = opening.open_on(ended.into_stores()).unwrap();
+    }
+
+    fn id(&self, key: LaneKey) -> LaneId {
+        LaneId { channel_id: CHANNEL_ID, opening: self.number, key }
+    }
+
+    /// Most often the id of a key as below; or a saved one; or one of another channel or of the next opening.
+    fn any_id(&mut self) -> LaneId {
+        let key = self.any_key();
+        let id = self.id(key);
+        match self.random.below(20) {
+            0 => LaneId { channel_id: CHANNEL_ID + 1, ..id },
+            1 => LaneId { opening: self.number.wrapping_add(1), ..id },
+            2..=4 if !self.saved.is_empty() => self.saved[self.random.below(self.saved.len() as u64) as usize],
+            _ => id,
+        }
+    }
+
+    /// Whether the id is of this opening.
+    fn own(&mut self, id: LaneId) -> bool {
+        let own = (id.channel_id, id.opening) == (CHANNEL_ID, self.number);
+        self.told_apart += u64::from(!own && self.lanes.contains_key(&id.key));
+        own
     }
 
     /// Most often the key of a lane that is in use; or one that was; or one that never was.
@@ -244,7 +300,7 @@ impl Run {
     fn receive(&mut self, fair: bool) {
         match if fair { self.channel.try_recv_fair() } else { self.channel.try_recv() } {
             Ok((lane, item)) => {
-                assert_eq!(lane, self.channel.lane(lane.key));
+                assert_eq!(lane, self.id(lane.key));
                 self.handed_out(lane.key, item, false);
             }
             Err(error) => self.nothing(error),
@@ -252,16 +308,19 @@ impl Run {
     }
 
     fn receive_from(&mut self) {
-        let key = self.any_key();
-        match self.channel.try_recv_from(&self.channel.lane(key)) {
+        let id = self.any_id();
+        let (own, key) = (self.own(id), id.key);
+        match self.channel.try_recv_from(&id) {
             Ok(item) => {
+                assert!(own, "{id:?} is of another opening");
                 self.handed_out(key, item, true);
                 self.lanes.get_mut(&key).expect("a lane that was given out").quiet = false;
             }
             Err(error) => {
                 assert_eq!(error == TryRecvError::ReceiverClosed, self.receiver_closed);
+                assert!(own || self.receiver_closed || error == TryRecvError::NoSuchLane, "{id:?}: {error:?}");
                 let empty = self.lanes.get(&key).map_or(true, |lane| lane.items.is_empty());
-                assert!(empty || self.receiver_closed, "{key:?} has items, and the answer is {error:?}");
+                assert!(!own || empty || self.receiver_closed, "{key:?} has items, and the answer is {error:?}");
                 if error == TryRecvError::Empty {
                     self.lanes.get_mut(&key).expect("a lane that was given out").unreleased = (0, 0);
                 }
@@ -297,8 +356,8 @@ impl Run {
     }
 
     fn control(&mut self) {
-        let key = self.any_key();
-        let id = self.channel.lane(key);
+        let id = self.any_id();
+        let own = self.own(id);
         let which = self.random.below(10);
         let result = match which {
             0 => self.channel.close_lane(&id),
@@ -306,7 +365,7 @@ impl Run {
             _ => self.channel.resume(&id),
         };
         self.refusals.extend(result.err().map(|error| error.refusal()));
-        match (result, self.lanes.get_mut(&key)) {
+        match (result, self.lanes.get_mut(&id.key).filter(|_| own)) {
             (Ok(()), Some(lane)) => {
                 assert!(!lane.closed && !self.receiver_closed);
                 match which {
@@ -320,7 +379,7 @@ impl Run {
                 // Closed, or retired: then it is empty and its sender is gone.
                 assert!(lane.map_or(true, |lane| lane.closed || lane.sender_dropped && lane.items.is_empty()));
             }
-            (Ok(()), None) => panic!("{key:?} was never given out"),
+            (Ok(()), None) => panic!("{id:?} was never given out, or is of another opening"),
         }
     }
 
@@ -340,6 +399,9 @@ impl Run {
     }
 
     fn call(&mut self) {
+        if self.random.below(300) == 0 {
+            self.restart();
+        }
         match self.random.below(100) {
             0..=6 => self.register(),
             which @ 7..=50 => {
@@ -361,7 +423,7 @@ impl Run {
 
 #[test]
 fn items_come_out_as_they_went_in() {
-    let (mut handed_out, mut woken, mut foretold) = (0, 0, 0);
+    let (mut handed_out, mut woken, mut foretold, mut told_apart) = (0, 0, 0, 0);
     let mut refusals = BTreeSet::new();
     for seed in 1..=400 {
         let mut run = Run::new(seed);
@@ -372,10 +434,12 @@ fn items_come_out_as_they_went_in() {
         handed_out += run.handed_out;
         woken += run.woken;
         foretold += run.foretold;
+        told_apart += run.told_apart;
         refusals.append(&mut run.refusals);
     }
     assert!(handed_out > 50_000, "only {handed_out} items");
     assert!(woken > 5_000, "only {woken} sends that woke");
     assert!(foretold > 5_000, "only {foretold} sends with places occupied by items taken");
+    assert!(told_apart > 2_000, "only {told_apart} ids of other openings with a key of the present one");
     assert!((6..=13).all(|number| refusals.contains(&number)), "only refusals {refusals:?}");
 }

@@ -20,6 +20,7 @@ fn open(lengths: &Lengths, numbers: &[u64], channel: &mut Option<Channel>) -> St
         channel_id: numbers[2],
         first_cursor: numbers[3],
         first_generation: numbers[4],
+        opening_number: numbers[5],
     };
     let stores = Stores { table: vec![u64::MAX; lengths.table], rings: vec![u64::MAX; lengths.rings] };
     match opening.open_on(stores.clone()) {
@@ -44,10 +45,11 @@ fn sent(result: Result<Taken, TrySendError>, item: u64) -> String {
     }
 }
 
-fn received(channel_id: u64, result: Result<(LaneId, u64), TryRecvError>) -> String {
+/// With the channel's number and the opening's, which are part of the lane's id and not of the line.
+fn received(own: (u64, u64), result: Result<(LaneId, u64), TryRecvError>) -> String {
     match result {
         Ok((lane, item)) => {
-            assert_eq!(lane.channel_id, channel_id);
+            assert_eq!((lane.channel_id, lane.opening), own);
             format!("item {item} {} {}", lane.key.slot, lane.key.generation)
         }
         Err(error) => not_received(error),
@@ -80,8 +82,8 @@ fn done<E>(result: Result<(), E>, number: impl Fn(&E) -> u64) -> String {
 /// The line that a call answers with.
 fn line(channel: &mut Channel, call: &str, numbers: &[u64]) -> String {
     let key = |at: usize| LaneKey { slot: numbers[at], generation: numbers[at + 1] };
-    let id = || LaneId { channel_id: numbers[0], key: key(1) };
-    let own = channel.channel_id();
+    let id = || LaneId { channel_id: numbers[0], opening: numbers[3], key: key(1) };
+    let own = (channel.channel_id(), channel.opening_number());
     match call {
         "register" => match channel.register_sender(numbers[0] as usize) {
             Ok(key) => format!("lane {} {}", key.slot, key.generation),
@@ -211,6 +213,12 @@ fn free_places() {
     }
 }
 
+/// Lane ids of several openings with one channel id.
+#[test]
+fn opening_numbers() {
+    assert!(replay(&data("opening-numbers.txt"), &REPLAY) >= 120, "opening-numbers.txt is shorter than it was");
+}
+
 #[test]
 fn refused_openings() {
     replay(&data("openings.txt"), &REPLAY);
@@ -270,7 +278,7 @@ fn an_error_of_a_list_is_said() {
 )]
 fn an_error_of_a_list_is_said_with_its_line() {
     let path = Path::new(env!("CARGO_TARGET_TMPDIR")).join("wrong.txt");
-    fs::write(&path, "open 4 1 7 0 0 => done\nregister 1 => lane 0 0\n2 * send 0 0 5 => taken 1 3..0\n").unwrap();
+    fs::write(&path, "open 4 1 7 0 0 0 => done\nregister 1 => lane 0 0\n2 * send 0 0 5 => taken 1 3..0\n").unwrap();
     replay(&path, &REPLAY);
 }
 
@@ -279,7 +287,7 @@ fn an_error_of_a_list_is_said_with_its_line() {
 fn another_answer_is_said_with_its_line() {
     let path = Path::new(env!("CARGO_TARGET_TMPDIR")).join("other.txt");
     let list =
-        "open 4 1 7 0 0 => done\nregister 1 => lane 0 0\nsend 0 0 5 => taken 1 3\n3 * send 0 0 5 => taken 0 3..1\n";
+        "open 4 1 7 0 0 0 => done\nregister 1 => lane 0 0\nsend 0 0 5 => taken 1 3\n3 * send 0 0 5 => taken 0 3..1\n";
     fs::write(&path, list).unwrap();
     replay(&path, &REPLAY);
 }

@@ -22,6 +22,7 @@ impl StoresInOrder {
                 id.channel_id,
                 id.key.slot,
                 id.key.generation,
+                id.opening,
                 &mut words,
             )
         };
@@ -41,6 +42,7 @@ impl StoresInOrder {
                 id.channel_id,
                 id.key.slot,
                 id.key.generation,
+                id.opening,
                 &mut words,
             )
         };
@@ -60,6 +62,7 @@ impl StoresInOrder {
                 id.channel_id,
                 id.key.slot,
                 id.key.generation,
+                id.opening,
                 &mut words,
             )
         };

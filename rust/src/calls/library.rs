@@ -17,6 +17,7 @@ extern "C" {
         channel: u64,
         cursor: u64,
         generation: u64,
+        number: u64,
         words: *mut Words,
     ) -> u64;
     pub(super) fn fanring_inner_register_sender(
@@ -78,6 +79,7 @@ extern "C" {
         channel: u64,
         slot: u64,
         generation: u64,
+        opening: u64,
         words: *mut Words,
     ) -> u64;
     pub(super) fn fanring_inner_try_recv_batch_into(
@@ -98,6 +100,7 @@ extern "C" {
         channel: u64,
         slot: u64,
         generation: u64,
+        opening: u64,
         words: *mut Words,
     ) -> u64;
     pub(super) fn fanring_inner_resume(
@@ -108,6 +111,7 @@ extern "C" {
         channel: u64,
         slot: u64,
         generation: u64,
+        opening: u64,
         words: *mut Words,
     ) -> u64;
     pub(super) fn fanring_inner_close_lane(
@@ -118,6 +122,7 @@ extern "C" {
         channel: u64,
         slot: u64,
         generation: u64,
+        opening: u64,
         words: *mut Words,
     ) -> u64;
     pub(super) fn fanring_inner_release_consumed(

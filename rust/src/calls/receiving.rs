@@ -43,6 +43,7 @@ impl StoresInOrder {
                 id.channel_id,
                 id.key.slot,
                 id.key.generation,
+                id.opening,
                 &mut words,
             )
         };

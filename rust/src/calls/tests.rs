@@ -1,6 +1,10 @@
-//! The checked calls' own test of order, after each of many inner calls; and free places, by sending on a copy.
+//! The checked calls' own test of order, after each of many inner calls; free places, by sending on a copy; and the words
+//! that answers set.
 
-use super::library::{fanring_inner_try_send, fanring_inner_try_send_unsignaled};
+use super::library::{
+    fanring_inner_try_recv, fanring_inner_try_recv_fair, fanring_inner_try_recv_from, fanring_inner_try_send,
+    fanring_inner_try_send_unsignaled,
+};
 use super::{StoresInOrder, Words};
 use crate::answer::Answer;
 use crate::{LaneId, LaneKey, Opening, Stores};
@@ -51,12 +55,15 @@ impl Random {
     }
 }
 
+/// Of every opening here. The next one is 0.
+const NUMBER: u64 = u64::MAX;
+
 fn any_key(random: &mut Random) -> LaneKey {
     LaneKey { slot: random.below(4), generation: random.below(3) }
 }
 
 fn any_call(stores: &mut StoresInOrder, key: LaneKey, random: &mut Random, output: &mut [u64]) -> Answer {
-    let id = LaneId { channel_id: 7 + random.below(16) / 15, key };
+    let id = LaneId { channel_id: 7 + random.below(16) / 15, opening: NUMBER.wrapping_add(random.below(16) / 15), key };
     match random.below(40) {
         0..=3 => stores.register_sender(random.below(6)),
         4..=15 => stores.try_send(key, random.below(1_000)),
@@ -82,6 +89,7 @@ fn stores_stay_in_order() {
     for round in 0..300 {
         let opening = Opening {
             channel_id: 7,
+            opening_number: NUMBER,
             first_cursor: (round % 2) * (u64::MAX - 3),
             ..Opening::new(1 << random.below(4), 1 + random.below(4) as usize)
         };
@@ -105,6 +113,7 @@ fn free_places_are_the_sends_taken_until_one_is_refused() {
         // From 128 on the release batch is less than the capacity.
         let opening = Opening {
             channel_id: 7,
+            opening_number: NUMBER,
             first_cursor: 0_u64.wrapping_sub(random.below(100)),
             ..Opening::new(1 << (round % 8), 1 + random.below(4) as usize)
         };
@@ -149,6 +158,30 @@ fn a_send_sets_the_words_of_its_answer_and_no_others() {
             assert_eq!(unsafe { send(table, table_len, rings, rings_len, 0, 0, 5, &mut words) }, tag);
             assert_eq!(words, [first, second, 9, 9, 9, 9, 9, 9]);
         }
+    }
+}
+
+#[test]
+fn an_item_sets_the_words_of_its_answer_and_no_others() {
+    let opening = Opening { channel_id: 7, first_generation: 3, opening_number: NUMBER, ..Opening::new(4, 1) };
+    let Ok(mut stores) = StoresInOrder::open(&opening, Stores { table: vec![0; 536], rings: vec![0; 4] }) else {
+        panic!("the opening is refused")
+    };
+    assert_eq!(stores.register_sender(1), Answer::Registered(LaneKey { slot: 0, generation: 3 }));
+    for receive in 0..3 {
+        stores.try_send(LaneKey { slot: 0, generation: 3 }, 5);
+        let Stores { table, rings } = &mut stores.stores;
+        let mut words = [9; 8];
+        let (table, table_len, rings, rings_len) = (table.as_mut_ptr(), table.len(), rings.as_ptr(), rings.len());
+        // SAFETY: the stores are in order; the slices are whole and apart.
+        let tag = unsafe {
+            match receive {
+                0 => fanring_inner_try_recv(table, table_len, rings, rings_len, &mut words),
+                1 => fanring_inner_try_recv_fair(table, table_len, rings, rings_len, &mut words),
+                _ => fanring_inner_try_recv_from(table, table_len, rings, rings_len, 7, 0, 3, NUMBER, &mut words),
+            }
+        };
+        assert_eq!((tag, words), (3, [5, 7, 0, 3, NUMBER, 9, 9, 9]));
     }
 }
 

@@ -16,7 +16,7 @@ impl Channel {
     ///
     /// # Errors
     ///
-    /// [`NoSuchLane`](LaneControlError::NoSuchLane) for a retired lane or an id of another channel, and
+    /// [`NoSuchLane`](LaneControlError::NoSuchLane) for a retired lane or an id of another channel or opening, and
     /// [`ReceiverClosed`](LaneControlError::ReceiverClosed).
     ///
     /// ```

@@ -73,8 +73,8 @@ impl Channel {
     ///
     /// [`Empty`](TryRecvError::Empty) when this lane is empty and its sender is alive,
     /// [`Disconnected`](TryRecvError::Disconnected) when it is empty and its own sender is dropped, whether or not
-    /// others live, [`NoSuchLane`](TryRecvError::NoSuchLane) for a retired lane or an id of another channel, and
-    /// [`ReceiverClosed`](TryRecvError::ReceiverClosed). With `Disconnected` the lane retires.
+    /// others live, [`NoSuchLane`](TryRecvError::NoSuchLane) for a retired lane or an id of another channel or opening,
+    /// and [`ReceiverClosed`](TryRecvError::ReceiverClosed). With `Disconnected` the lane retires.
     ///
     /// ```
     /// use proved_fanring::{channel, TryRecvError};
