@@ -11,7 +11,7 @@ static uint64_t table[FANRING_TABLE_WORDS(8192)], rings[FANRING_RING_WORDS(8192,
 /* 0 if it is accepted */
 static uint64_t refusal(uint64_t slots, uint64_t capacity, size_t table_len, size_t rings_len) {
     uint64_t words[FANRING_WORDS];
-    return fanring_open(table, table_len, rings, rings_len, capacity, slots, 7, 0, 0, words) == FANRING_DONE ? 0 : words[0];
+    return fanring_open(table, table_len, rings, rings_len, capacity, slots, 7, 0, 0, 0, words) == FANRING_DONE ? 0 : words[0];
 }
 
 int main(void) {

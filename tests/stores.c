@@ -13,7 +13,7 @@
 #include <sys/wait.h>
 #include <unistd.h>
 
-enum { SLOTS = 5, CAPACITY = 8, OUT = 8, CHANNEL = 7, MOVES = 40, CALLS = 500 };
+enum { SLOTS = 5, CAPACITY = 8, OUT = 8, CHANNEL = 7, OPENING = 3, MOVES = 40, CALLS = 500 };
 enum { TABLE = FANRING_TABLE_WORDS(SLOTS), RINGS = FANRING_RING_WORDS(SLOTS, CAPACITY) };
 /* each store in pages of its own, so that one of the two can be protected */
 enum { PAGE = 4096, TABLE_PAGES = (TABLE * 8 + PAGE - 1) / PAGE * PAGE, RINGS_PAGES = (RINGS * 8 + PAGE - 1) / PAGE * PAGE };
@@ -77,11 +77,11 @@ static struct answer call(struct stores s, const uint64_t n[5]) {
     case 11: a.tag = BOTH(drop_sender)(S, slot, generation, a.words); break;
     case 12: case 13: case 14: a.tag = BOTH(try_recv)(S, a.words); break;
     case 15: case 16: case 17: a.tag = BOTH(try_recv_fair)(S, a.words); break;
-    case 18: case 19: a.tag = BOTH(try_recv_from)(S, CHANNEL, slot, generation, a.words); break;
+    case 18: case 19: a.tag = BOTH(try_recv_from)(S, CHANNEL, slot, generation, OPENING, a.words); break;
     case 20: case 21: a.tag = BOTH(try_recv_batch_into)(S, a.out, OUT, number % (OUT + 2), a.words); break;
-    case 22: a.tag = BOTH(pause)(S, CHANNEL, slot, generation, a.words); break;
-    case 23: case 24: a.tag = BOTH(resume)(S, CHANNEL, slot, generation, a.words); break;
-    case 25: if (number % 4 == 0) a.tag = BOTH(close_lane)(S, CHANNEL, slot, generation, a.words); break;
+    case 22: a.tag = BOTH(pause)(S, CHANNEL, slot, generation, OPENING, a.words); break;
+    case 23: case 24: a.tag = BOTH(resume)(S, CHANNEL, slot, generation, OPENING, a.words); break;
+    case 25: if (number % 4 == 0) a.tag = BOTH(close_lane)(S, CHANNEL, slot, generation, OPENING, a.words); break;
     case 26: case 27: a.tag = BOTH(release_consumed)(S, a.words); break;
     case 28: case 29: a.tag = BOTH(poll_all_lanes)(S, a.words); break;
     default: a.tag = BOTH(held)(S, a.words); break;
@@ -158,8 +158,8 @@ int main(int count, char **names) {
     int same = 1;
     for (int i = 0; i < MOVES && same; i++) {
         if (i % 10 == 0 /* afresh, with cursors that pass 2^64 */
-            && (fanring_open(stays.table, TABLE, stays.rings, RINGS, CAPACITY, SLOTS, CHANNEL, UINT64_MAX - 20, 0, words) != FANRING_DONE
-                || fanring_open(moves.table, TABLE, moves.rings, RINGS, CAPACITY, SLOTS, CHANNEL, UINT64_MAX - 20, 0, words) != FANRING_DONE))
+            && (fanring_open(stays.table, TABLE, stays.rings, RINGS, CAPACITY, SLOTS, CHANNEL, UINT64_MAX - 20, 0, OPENING, words) != FANRING_DONE
+                || fanring_open(moves.table, TABLE, moves.rings, RINGS, CAPACITY, SLOTS, CHANNEL, UINT64_MAX - 20, 0, OPENING, words) != FANRING_DONE))
             same = 0;
         same = same && (i % 4 == 3 ? same_in_child(stays, moves) : same_answers(stays, moves));
         moves = i % 3 == 0 ? copied(moves) : saved(moves, names[1], i % 3 == 1);

@@ -124,15 +124,19 @@ impl Bench {
         *slowest = took.max(*slowest);
     }
 
-    /// Guard words stand, and of the answer's words only those that it has are written.
+    /// Guard words stand, and of the answer's words only those that it has are written; of an item's id, channel and opening number are the header's.
     fn look_at_words(&mut self, record: &Record, answer: &Answer) {
         let used = match answer {
-            Answer::Item(..) => 4,
+            Answer::Item(..) => 5,
             Answer::Lane(..) | Answer::Taken(..) => 2,
             Answer::Items(_) | Answer::Held(_) | Answer::Refused(_) => 1,
             _ => 0,
         };
         assert!(self.words.words()[used..].iter().all(|&word| word == UNSET), "{record:?}: {answer} leaves other words");
+        if matches!(answer, Answer::Item(..)) {
+            let (id, header) = (self.words.words(), &self.table_before);
+            assert_eq!([id[1], id[4]], [header[9], header[15]], "{record:?}: {answer} has another channel or opening number");
+        }
         for words in [&mut self.table, &mut self.rings, &mut self.output, &mut self.words] {
             assert!(words.guards_stand(), "{record:?}: {answer} writes beside a slice");
         }

@@ -11,7 +11,7 @@ impl Episode<'_> {
     fn place(&mut self, table: &[u64]) -> usize {
         let rows = table[0].clamp(1, ((table.len() - HEADER) / ROW) as u64);
         (match self.random.below(10) {
-            0..=3 => self.random.below(15),
+            0..=3 => self.random.below(16),
             4..=8 => HEADER as u64 + ROW as u64 * self.random.below(rows) + self.random.below(COLUMNS),
             _ => self.random.below(table.len() as u64),
         }) as usize

@@ -14,12 +14,14 @@ pub struct Episode<'a> {
     pub bench: &'a mut Bench,
     pub random: Random,
     pub channel: u64,
+    /// The opening number.
+    pub opening: u64,
     /// Keys that register has answered.
     pub keys: Vec<[u64; 2]>,
 }
 
 /// "1+ capacity 0 or above 65,536; 2+ S 0 or above 8,192; 3+ ring store short; 4+ table store short"
-fn opening_refusal([capacity, slots, ..]: [u64; 5], table: u64, rings: u64) -> Option<u64> {
+fn opening_refusal([capacity, slots, ..]: [u64; 6], table: u64, rings: u64) -> Option<u64> {
     if !(1..=65_536).contains(&capacity) {
         Some(1)
     } else if !(1..=8_192).contains(&slots) {
@@ -35,7 +37,7 @@ fn opening_refusal([capacity, slots, ..]: [u64; 5], table: u64, rings: u64) -> O
 
 impl<'a> Episode<'a> {
     pub fn new(bench: &'a mut Bench, seed: u64) -> Self {
-        Self { bench, random: Random(seed), channel: 0, keys: Vec::new() }
+        Self { bench, random: Random(seed), channel: 0, opening: 0, keys: Vec::new() }
     }
 
     // Numbers
@@ -61,6 +63,7 @@ impl<'a> Episode<'a> {
     fn record_of(&mut self, kind: u16) -> Record {
         let [slot, generation] = self.key();
         let channel = if self.random.one_in(24) { self.number() } else { self.channel };
+        let opening = if self.random.one_in(24) { self.number() } else { self.opening };
         match kind {
             REGISTER => {
                 let most = if self.random.one_in(4) { self.number() } else { u64::MAX };
@@ -68,7 +71,7 @@ impl<'a> Episode<'a> {
             }
             SEND | UNSIGNALLED => Record::new(kind, &[slot, generation, self.random.next()]),
             DROP => Record::new(kind, &[slot, generation]),
-            TARGETED | PAUSE | RESUME | CLOSE => Record::new(kind, &[channel, slot, generation]),
+            TARGETED | PAUSE | RESUME | CLOSE => Record::new(kind, &[channel, slot, generation, opening]),
             BATCH => {
                 let most = self.bench.output_length() as u64;
                 let limit = if self.random.one_in(8) { self.number() } else { self.random.below(most + 2) };
@@ -161,12 +164,12 @@ impl<'a> Episode<'a> {
     }
 
     /// Opens and looks at the answer.
-    pub fn open(&mut self, fields: [u64; 5]) -> bool {
+    pub fn open(&mut self, fields: [u64; 6]) -> bool {
         let refusal = opening_refusal(fields, self.bench.table().len() as u64, self.bench.rings().len() as u64);
         let answer = self.bench.call(&Record::new(OPEN, &fields));
         assert_eq!(answer, refusal.map_or(Answer::Done, Answer::Refused), "open {fields:?}");
         if refusal.is_none() {
-            self.channel = fields[2];
+            (self.channel, self.opening) = (fields[2], fields[5]);
             self.keys.clear();
         }
         refusal.is_none()
@@ -184,8 +187,8 @@ impl<'a> Episode<'a> {
         let rings: Vec<u64> = (0..rings_lent + more_words).map(|_| self.random.next()).collect();
         let output = self.output();
         self.lend(&table, &rings, &output);
-        let (channel, cursor, generation) = (self.number(), self.number(), self.number());
-        assert!(self.open([capacity, slots, channel, cursor, generation]));
+        let [channel, cursor, generation, opening] = std::array::from_fn(|_| self.number());
+        assert!(self.open([capacity, slots, channel, cursor, generation, opening]));
     }
 
     /// A run of calls, now and then one many times over.

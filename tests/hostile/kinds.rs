@@ -48,7 +48,7 @@ impl Episode<'_> {
     }
 
     fn length(&mut self, most: usize) -> u64 {
-        let near = self.random.pick(&[0, 8, 15, 24, 512, 536, 560, 584, 608, 2_048, 4_096]) + self.random.below(3);
+        let near = self.random.pick(&[0, 8, 16, 24, 512, 536, 560, 584, 608, 2_048, 4_096]) + self.random.below(3);
         let any = if self.random.one_in(50) { self.random.below(most as u64 + 1) } else { self.random.below(700) };
         if self.random.one_in(2) { near.saturating_sub(1) } else { any }
     }
@@ -60,8 +60,8 @@ impl Episode<'_> {
         if table.len() > 15 && self.random.one_in(2) {
             let (slots, capacity) = (1 + self.random.below(4), self.random.pick(&[1, 2, 4, 64]));
             let issued = self.random.below(slots + 1);
-            table[..15].copy_from_slice(&[issued, 0, 0, 0, slots, 64, 0, 1, capacity, 7, 0, 0, 0, 0, 0]);
-            for word in &mut table[..15] {
+            table[..16].copy_from_slice(&[issued, 0, 0, 0, slots, 64, 0, 1, capacity, 7, 0, 0, 0, 0, 0, 3]);
+            for word in &mut table[..16] {
                 if self.random.one_in(12) {
                     *word = self.random.below(4);
                 }
@@ -70,7 +70,7 @@ impl Episode<'_> {
         let (rings, output) = (self.words(rings), self.output());
         self.lend(&table, &rings, &output);
         self.keys = vec![[0, 0], [1, 0], [0, 1]];
-        self.channel = 7;
+        (self.channel, self.opening) = (7, 3);
         self.try_out();
     }
 
@@ -82,7 +82,7 @@ impl Episode<'_> {
         for _ in 0..4 {
             let small = self.random.one_in(2);
             let (capacity, slots) = if small { (1 + self.random.below(70), 1 + self.random.below(6)) } else { (self.number(), self.number()) };
-            let fields = [capacity, slots, self.number(), self.number(), self.number()];
+            let fields = [capacity, slots, self.number(), self.number(), self.number(), self.number()];
             if self.open(fields) {
                 self.try_out();
             }

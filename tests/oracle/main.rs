@@ -2,8 +2,8 @@
 //! the published files, unchanged; what they lack is in stubs/ and yring/. tests/build puts the tree together.
 //!
 //! A line `outside` is printed where the original has no answer, and for every later record up to the next opening:
-//! refusals 8 and 9, the subtraction from a zero budget, an opening whose first cursor or generation is not 0, and a receive
-//! before the first registration. With `--go-on` refusals 8 and 9 are `outside` alone: that call is not made, and the run goes on.
+//! refusals 8 and 9, the subtraction from a zero budget, an opening whose first cursor, generation or number is not 0, and a
+//! receive before the first registration. With `--go-on` refusals 8 and 9 are `outside` alone: that call is not made, and the run goes on.
 
 #[allow(dead_code)]
 mod records;
@@ -178,11 +178,12 @@ impl Channel {
         }
     }
 
-    /// The original's id for a record's; a foreign channel's is another than this one's.
+    /// The original's id for a record's. A foreign channel's is another than this one's; so is that of an opening with another number than this
+    /// one's 0, as the original gives every opening a channel id of its own.
     fn id(&self, record: &Record) -> LaneId {
-        let [channel, slot, generation, ..] = record.fields;
+        let [channel, slot, generation, number, ..] = record.fields;
         let own = self.shared.channel();
-        let shift = channel.wrapping_sub(self.channel);
+        let shift = channel.wrapping_sub(self.channel).max(u64::from(number != 0));
         LaneId::from_parts(own.wrapping_add(shift), slot as usize, generation as usize)
     }
 
@@ -318,7 +319,7 @@ fn guarded<R>(
 
 fn answer(state: &mut State, record: &Record, lent: &Lent, go_on: bool) -> Answer {
     if record.kind == records::OPEN {
-        let [capacity, slots, channel, cursor, generation] = record.fields;
+        let [capacity, slots, channel, cursor, generation, number] = record.fields;
         if capacity == 0 || capacity > 65_536 {
             return Answer::Refused(1);
         }
@@ -331,7 +332,7 @@ fn answer(state: &mut State, record: &Record, lent: &Lent, go_on: bool) -> Answe
         if 24 * slots + 512 > lent.table {
             return Answer::Refused(4);
         }
-        *state = if cursor == 0 && generation == 0 {
+        *state = if [cursor, generation, number] == [0; 3] {
             State::Open(Box::new(Channel::new(capacity, slots, channel)))
         } else {
             State::Outside

@@ -9,7 +9,7 @@ pub type Words = [u64; WORDS];
 type Bare = unsafe extern "C" fn(*mut u64, usize, *const u64, usize, *mut Words) -> u64;
 type OneNumber = unsafe extern "C" fn(*mut u64, usize, *const u64, usize, u64, *mut Words) -> u64;
 type ByKey = unsafe extern "C" fn(*mut u64, usize, *const u64, usize, u64, u64, *mut Words) -> u64;
-type ById = unsafe extern "C" fn(*mut u64, usize, *const u64, usize, u64, u64, u64, *mut Words) -> u64;
+type ById = unsafe extern "C" fn(*mut u64, usize, *const u64, usize, u64, u64, u64, u64, *mut Words) -> u64;
 type Send = unsafe extern "C" fn(*mut u64, usize, *mut u64, usize, u64, u64, u64, *mut Words) -> u64;
 type Batch = unsafe extern "C" fn(*mut u64, usize, *const u64, usize, *mut u64, usize, u64, *mut Words) -> u64;
 type Held = unsafe extern "C" fn(*const u64, usize, *const u64, usize, *mut Words) -> u64;
@@ -43,11 +43,11 @@ macro_rules! calls {
             fn $drop(t: *mut u64, tl: usize, r: *const u64, rl: usize, slot: u64, generation: u64, words: *mut Words) -> u64;
             fn $plain(t: *mut u64, tl: usize, r: *const u64, rl: usize, words: *mut Words) -> u64;
             fn $fair(t: *mut u64, tl: usize, r: *const u64, rl: usize, words: *mut Words) -> u64;
-            fn $targeted(t: *mut u64, tl: usize, r: *const u64, rl: usize, channel: u64, slot: u64, generation: u64, words: *mut Words) -> u64;
+            fn $targeted(t: *mut u64, tl: usize, r: *const u64, rl: usize, channel: u64, slot: u64, generation: u64, opening: u64, words: *mut Words) -> u64;
             fn $batch(t: *mut u64, tl: usize, r: *const u64, rl: usize, out: *mut u64, ol: usize, limit: u64, words: *mut Words) -> u64;
-            fn $pause(t: *mut u64, tl: usize, r: *const u64, rl: usize, channel: u64, slot: u64, generation: u64, words: *mut Words) -> u64;
-            fn $resume(t: *mut u64, tl: usize, r: *const u64, rl: usize, channel: u64, slot: u64, generation: u64, words: *mut Words) -> u64;
-            fn $close(t: *mut u64, tl: usize, r: *const u64, rl: usize, channel: u64, slot: u64, generation: u64, words: *mut Words) -> u64;
+            fn $pause(t: *mut u64, tl: usize, r: *const u64, rl: usize, channel: u64, slot: u64, generation: u64, opening: u64, words: *mut Words) -> u64;
+            fn $resume(t: *mut u64, tl: usize, r: *const u64, rl: usize, channel: u64, slot: u64, generation: u64, opening: u64, words: *mut Words) -> u64;
+            fn $close(t: *mut u64, tl: usize, r: *const u64, rl: usize, channel: u64, slot: u64, generation: u64, opening: u64, words: *mut Words) -> u64;
             fn $release(t: *mut u64, tl: usize, r: *const u64, rl: usize, words: *mut Words) -> u64;
             fn $poll_all(t: *mut u64, tl: usize, r: *const u64, rl: usize, words: *mut Words) -> u64;
             fn $close_receiver(t: *mut u64, tl: usize, r: *const u64, rl: usize, words: *mut Words) -> u64;
@@ -85,7 +85,8 @@ calls!(INNER: fanring_inner_register_sender fanring_inner_try_send fanring_inner
 
 unsafe extern "C" {
     fn fanring_open(
-        t: *mut u64, tl: usize, r: *const u64, rl: usize, capacity: u64, slots: u64, channel: u64, cursor: u64, generation: u64, words: *mut Words,
+        t: *mut u64, tl: usize, r: *const u64, rl: usize, capacity: u64, slots: u64, channel: u64, cursor: u64, generation: u64, number: u64,
+        words: *mut Words,
     ) -> u64;
 }
 
@@ -97,18 +98,18 @@ pub struct Stores<'a> {
 }
 
 /// Opens; the answer's tag.
-pub fn open(stores: &mut Stores, fields: [u64; 5], words: &mut Words) -> u64 {
+pub fn open(stores: &mut Stores, fields: [u64; 6], words: &mut Words) -> u64 {
     let (t, tl, r, rl) = (stores.table.as_mut_ptr(), stores.table.len(), stores.rings.as_ptr(), stores.rings.len());
-    let [capacity, slots, channel, cursor, generation] = fields;
+    let [capacity, slots, channel, cursor, generation, number] = fields;
     // SAFETY: pointers and lengths are of slices that do not overlap.
-    unsafe { fanring_open(t, tl, r, rl, capacity, slots, channel, cursor, generation, words) }
+    unsafe { fanring_open(t, tl, r, rl, capacity, slots, channel, cursor, generation, number, words) }
 }
 
 impl Calls {
     /// Makes a record's call, which is no opening; the answer's tag. The inner calls need stores in order.
     pub fn call(&self, stores: &mut Stores, record: &Record, words: &mut Words) -> u64 {
         let (t, tl, r, rl) = (stores.table.as_mut_ptr(), stores.table.len(), stores.rings.as_mut_ptr(), stores.rings.len());
-        let [a, b, c, ..] = record.fields;
+        let [a, b, c, d, ..] = record.fields;
         // SAFETY: pointers and lengths are of slices that do not overlap.
         unsafe {
             match record.kind {
@@ -118,11 +119,11 @@ impl Calls {
                 records::DROP => (self.drop_sender)(t, tl, r, rl, a, b, words),
                 records::PLAIN => (self.plain)(t, tl, r, rl, words),
                 records::FAIR => (self.fair)(t, tl, r, rl, words),
-                records::TARGETED => (self.targeted)(t, tl, r, rl, a, b, c, words),
+                records::TARGETED => (self.targeted)(t, tl, r, rl, a, b, c, d, words),
                 records::BATCH => (self.batch)(t, tl, r, rl, stores.output.as_mut_ptr(), stores.output.len(), a, words),
-                records::PAUSE => (self.pause)(t, tl, r, rl, a, b, c, words),
-                records::RESUME => (self.resume)(t, tl, r, rl, a, b, c, words),
-                records::CLOSE => (self.close_lane)(t, tl, r, rl, a, b, c, words),
+                records::PAUSE => (self.pause)(t, tl, r, rl, a, b, c, d, words),
+                records::RESUME => (self.resume)(t, tl, r, rl, a, b, c, d, words),
+                records::CLOSE => (self.close_lane)(t, tl, r, rl, a, b, c, d, words),
                 records::RELEASE => (self.release)(t, tl, r, rl, words),
                 records::POLL_ALL => (self.poll_all)(t, tl, r, rl, words),
                 records::CLOSE_RECEIVER => (self.close_receiver)(t, tl, r, rl, words),
@@ -133,7 +134,7 @@ impl Calls {
     }
 }
 
-/// An answer's tag and words read. The channel of an item's lane is not part of document 01's line.
+/// An answer's tag and words read. The channel and the opening number of an item's lane are not part of document 01's line.
 pub fn answer(tag: u64, words: &Words, output: &[u64]) -> Answer {
     let [a, b, c, d, ..] = *words;
     match tag {

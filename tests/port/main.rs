@@ -19,8 +19,8 @@ struct Port {
     output: Vec<u64>,
     words: Words,
     calls: &'static Calls,
-    /// The channel of the last accepted opening.
-    channel: Option<u64>,
+    /// The channel and the number of the last accepted opening.
+    opened: Option<[u64; 2]>,
     inner: bool,
 }
 
@@ -31,7 +31,7 @@ fn arbitrary(count: u64) -> Vec<u64> {
 
 impl Port {
     fn answer(&mut self, record: &Record) -> Answer {
-        if self.inner && record.kind != records::OPEN && self.channel.is_none() {
+        if self.inner && record.kind != records::OPEN && self.opened.is_none() {
             return Answer::Refused(5);
         }
         // So that a word that this answer should have written is not an earlier one's.
@@ -44,8 +44,8 @@ impl Port {
         };
         let answer = calls::answer(tag, &self.words, &self.output);
         match answer {
-            Answer::Done if record.kind == records::OPEN => self.channel = Some(record.fields[2]),
-            Answer::Item(..) => assert_eq!(Some(self.words[1]), self.channel, "the channel of an item's lane"),
+            Answer::Done if record.kind == records::OPEN => self.opened = Some([record.fields[2], record.fields[5]]),
+            Answer::Item(..) => assert_eq!(Some([self.words[1], self.words[4]]), self.opened, "channel and opening number of an item's lane"),
             _ => {}
         }
         answer
@@ -62,7 +62,7 @@ fn main() -> std::io::Result<()> {
         output: arbitrary(lent.output),
         words: [0; WORDS],
         calls: if inner { &INNER } else { &CHECKED },
-        channel: None,
+        opened: None,
         inner,
     };
     records::answer_all(|record| port.answer(record))

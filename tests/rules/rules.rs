@@ -39,6 +39,8 @@ pub struct State {
     pub capacity: u64,
     pub most_slots: usize,
     pub channel: u64,
+    /// The opening number.
+    pub number: u64,
     first_generation: u64,
 }
 
@@ -80,8 +82,8 @@ fn unless(refusal: bool, number: u64) -> Result<(), u64> {
 }
 
 impl State {
-    fn opened(fields: [u64; 5], lent: &Lent) -> Result<Self, u64> {
-        let [capacity, slots, channel, _cursor, generation] = fields;
+    fn opened(fields: [u64; 6], lent: &Lent) -> Result<Self, u64> {
+        let [capacity, slots, channel, _cursor, generation, number] = fields;
         unless(!(1..=65_536).contains(&capacity), 1)?;
         unless(!(1..=8_192).contains(&slots), 2)?;
         let capacity = capacity.next_power_of_two();
@@ -98,12 +100,13 @@ impl State {
             capacity,
             most_slots: slots as usize,
             channel,
+            number,
             first_generation: generation,
         })
     }
 
     fn call(&mut self, record: &Record, lent: &Lent) -> Outcome {
-        let [a, b, c, ..] = record.fields;
+        let [a, b, c, d, ..] = record.fields;
         match record.kind {
             records::REGISTER => self.register(a),
             records::SEND => self.send(a, b, c, true),
@@ -116,10 +119,10 @@ impl State {
                     records::PLAIN => Ok(self.plain()),
                     records::FAIR => Ok(self.fair()),
                     records::BATCH => self.batch(a, lent.output),
-                    records::TARGETED => self.lane(a, b, c).map(|x| self.targeted(x)),
-                    records::PAUSE => self.lane(a, b, c).map(|x| self.pause(x)),
-                    records::RESUME => self.lane(a, b, c).map(|x| self.resume(x)),
-                    records::CLOSE => self.lane(a, b, c).map(|x| self.close_lane(x)),
+                    records::TARGETED => self.lane(a, b, c, d).map(|x| self.targeted(x)),
+                    records::PAUSE => self.lane(a, b, c, d).map(|x| self.pause(x)),
+                    records::RESUME => self.lane(a, b, c, d).map(|x| self.resume(x)),
+                    records::CLOSE => self.lane(a, b, c, d).map(|x| self.close_lane(x)),
                     records::RELEASE => Ok(self.release_all()),
                     records::POLL_ALL => Ok(self.poll_all()),
                     records::CLOSE_RECEIVER => {
@@ -400,11 +403,11 @@ impl State {
         })
     }
 
-    /// The slot whose registered lane has this id.
-    fn lane(&self, channel: u64, slot: u64, generation: u64) -> Result<usize, u64> {
+    /// The slot whose registered lane has this id. "Two ids are equal exactly if channel, opening number, slot and generation all agree" (document 02, N7).
+    fn lane(&self, channel: u64, slot: u64, generation: u64, number: u64) -> Result<usize, u64> {
         let x = slot as usize;
         let has = |slot: &Slot| slot.registered && slot.generation == generation;
-        unless(channel != self.channel || !self.slots.get(x).is_some_and(has), 13)?;
+        unless(channel != self.channel || number != self.number || !self.slots.get(x).is_some_and(has), 13)?;
         Ok(x)
     }
 

@@ -1,14 +1,16 @@
 //! Record streams from a seed, and the text form of stored ones.
 //!
-//!     streams SEED RECORDS [--slots N] [--deep] [--style NAME] [--shifted] [--rings N] [--table N] [--output N]
+//!     streams SEED RECORDS [--slots N] [--deep] [--style NAME] [--shifted] [--numbered] [--rings N] [--table N] [--output N]
 //!     streams text < FILE        the records of a stored stream
 //!     streams expected < FILE    the lines that it expects
 //!
 //! A stream is a row of openings, each in a style of its own; the first has style SEED modulo the number of styles. The rules run
-//! along, so that a style can aim at a state; on the way their free places are held to the sends that follow. --slots N makes every
-//! opening wide: up to N lanes, for stores that hold them. --deep gives every opening a large capacity, up to 65,536, as far as the stores
-//! hold it, and so many records that its rings fill.
+//! along, so that a style can aim at a state; on the way their free places are held to the sends that follow, and their answers to
+//! ids to the opening's record. --slots N makes every opening wide: up to N lanes, for stores that hold them. --deep gives every opening a
+//! large capacity, up to 65,536, as far as the stores hold it, and so many records that its rings fill.
 //! --shifted gives every opening a first cursor and generation near 2^64, which the original does not have.
+//! --numbered makes shorter openings with numbers of their own, which the original does not have, mostly of the channel before, and among their calls
+//! many by ids and keys of other openings.
 
 mod random;
 #[allow(dead_code)]
@@ -207,6 +209,14 @@ struct Stream<W: Write> {
     shifted: bool,
     /// If the last call was a send that was taken, or one refused 11 after it: its lane's key, and the free places then.
     free: Option<([u64; 2], u64)>,
+    /// Openings have numbers, and calls by ids and keys of other openings.
+    numbered: bool,
+    /// The number of the next opening; 0 if they have none.
+    next_number: u64,
+    /// Channel and number of the last accepted opening, as its record had them.
+    opened: [u64; 2],
+    /// Ids of lanes that were registered, of this opening and of earlier ones.
+    saved: Vec<[u64; 4]>,
 }
 
 impl<W: Write> Stream<W> {
@@ -219,9 +229,46 @@ impl<W: Write> Stream<W> {
         record.write(&mut self.output).expect("output is open");
         self.left = self.left.saturating_sub(1);
         self.here = self.here.saturating_sub(1);
+        let due = matches!(kind, TARGETED | PAUSE | RESUME | CLOSE).then(|| self.due_to_id(&record));
         let answer = self.rules.answer(&record);
         self.hold_to_free(&record, &answer);
+        if let Some(due) = due {
+            let refusal = if let Answer::Refused(number) = answer { Some(number) } else { None };
+            assert_eq!(refusal, due, "{record:?}: the refusal due to its id");
+        }
+        match answer {
+            Answer::Done if kind == OPEN => self.opened = [fields[2], fields[5]],
+            Answer::Lane(slot, generation) if self.numbered => self.save([self.opened[0], slot, generation, self.opened[1]]),
+            _ => {}
+        }
         answer
+    }
+
+    /// The refusal that is due to a call by an id, if one is: 13 exactly if no registered lane has this channel, number, slot and generation, after 5 and 6.
+    /// Channel and number are those of the opening's record, not of the rules' state.
+    fn due_to_id(&self, record: &Record) -> Option<u64> {
+        let [channel, slot, generation, number, ..] = record.fields;
+        let Some(state) = &self.rules.state else { return Some(5) };
+        let has = |slot: &Slot| slot.registered && slot.generation == generation;
+        let known = [channel, number] == self.opened && state.slots.get(slot as usize).is_some_and(has);
+        if state.open { (!known).then_some(13) } else { Some(6) }
+    }
+
+    fn save(&mut self, id: [u64; 4]) {
+        if self.saved.len() == 200 {
+            let at = self.random.below(200) as usize;
+            self.saved.remove(at);
+        }
+        self.saved.push(id);
+    }
+
+    /// One of the saved ids; the newest ones of other openings are taken more often.
+    fn any_saved(&mut self) -> [u64; 4] {
+        let of_another = |id: &[u64; 4]| [id[0], id[3]] != self.opened;
+        match self.saved.iter().rposition(of_another) {
+            Some(last) if self.random.one_in(2) => self.saved[last.saturating_sub(self.random.below(4) as usize)],
+            _ => self.random.pick(&self.saved),
+        }
     }
 
     /// What free places mean, by sends themselves: of those to one lane with no other call between, each leaves one place less, and they are refused 11
@@ -271,9 +318,13 @@ impl<W: Write> Stream<W> {
         }
     }
 
-    fn id(&mut self, fits: impl Fn(&Slot) -> bool) -> [u64; 3] {
-        let [slot, generation] = self.key(fits);
-        [self.state().channel, slot, generation]
+    fn id(&mut self, fits: impl Fn(&Slot) -> bool) -> [u64; 4] {
+        let key = self.key(fits);
+        self.id_of(key)
+    }
+
+    fn id_of(&self, [slot, generation]: [u64; 2]) -> [u64; 4] {
+        [self.state().channel, slot, generation, self.state().number]
     }
 
     /// How often a single call is made.
@@ -375,7 +426,7 @@ impl<W: Write> Stream<W> {
     }
 
     fn stale(&mut self) {
-        let [mut channel, mut slot, mut generation] = self.id(|_| true);
+        let [mut channel, mut slot, mut generation, number] = self.id(|_| true);
         match self.random.below(6) {
             0 => channel = channel.wrapping_add(1 + self.random.below(3)),
             1 => generation = generation.wrapping_sub(1),
@@ -389,8 +440,46 @@ impl<W: Write> Stream<W> {
             SEND | UNSIGNALLED => self.emit(kind, &[slot, generation, 5]),
             DROP if self.random.one_in(2) => self.emit(kind, &[slot, generation]),
             DROP => self.emit(HELD, &[]),
-            _ => self.emit(kind, &[channel, slot, generation]),
+            _ => self.emit(kind, &[channel, slot, generation, number]),
         };
+    }
+
+    /// A call by an id or a key that was saved, or by an id with another number, channel or generation than its lane's, or with one other bit.
+    fn of_another_opening(&mut self) {
+        let mut id = self.id(|slot| slot.registered);
+        let [channel, slot, generation, number] = id;
+        let [channel, slot, generation, number] = match self.random.below(11) {
+            0..=3 if !self.saved.is_empty() => self.any_saved(),
+            4 => [channel, slot, generation, self.next_number],
+            5 | 6 => [channel, slot, generation, number.wrapping_add(self.random.pick(&[1, u64::MAX, 1 << 32, 1 << 63]))],
+            7 => [channel, slot, generation, self.random.next()],
+            8 => [channel.wrapping_add(1), slot, generation, number],
+            9 => {
+                id[self.random.below(4) as usize] ^= 1 << self.random.below(64);
+                id
+            }
+            _ => [channel, slot, generation.wrapping_sub(1), number],
+        };
+        let kind = self.random.pick(&[SEND, UNSIGNALLED, DROP, TARGETED, TARGETED, PAUSE, PAUSE, RESUME, RESUME, CLOSE]);
+        match kind {
+            SEND | UNSIGNALLED => {
+                let item = self.next_item();
+                self.emit(kind, &[slot, generation, item])
+            }
+            DROP => self.emit(kind, &[slot, generation]),
+            _ => self.emit(kind, &[channel, slot, generation, number]),
+        };
+    }
+
+    /// The number of an opening after one with this number: mostly one more, at times the same or another one again.
+    fn number_after(&mut self, number: u64) -> u64 {
+        match self.random.below(10) {
+            0..=4 => number.wrapping_add(1),
+            5 => number,
+            6 => self.random.pick(&[0, 1, 1 << 32, 1 << 63, u64::MAX - 1, u64::MAX]),
+            7 if !self.saved.is_empty() => self.random.pick(&self.saved)[3],
+            _ => self.random.next(),
+        }
     }
 
     /// Whether the front lane's next item meets a limit, or the budget is used up.
@@ -482,8 +571,7 @@ impl<W: Write> Stream<W> {
     fn empty_queue(&mut self) {
         for _ in 0..self.state().queue.len() {
             let Some(&x) = self.state().queue.front() else { break };
-            let state = self.state();
-            let id = [state.channel, x as u64, state.slots[x].generation];
+            let id = self.id_of([x as u64, self.state().slots[x].generation]);
             let kind = if self.random.one_in(12) { CLOSE } else { PAUSE };
             self.emit(kind, &id);
         }
@@ -552,14 +640,14 @@ impl<W: Write> Stream<W> {
             return self.drain();
         }
         for x in 0..self.state().slots.len() {
-            let state = self.state();
-            let slot = &state.slots[x];
-            let (living, generation, channel) = (slot.living, slot.generation, state.channel);
+            let slot = &self.state().slots[x];
+            let (living, generation) = (slot.living, slot.generation);
             if self.over() {
                 return;
             }
             if self.random.one_in(4) {
-                self.emit(PAUSE, &[channel, x as u64, generation]);
+                let id = self.id_of([x as u64, generation]);
+                self.emit(PAUSE, &id);
             }
             if living && !self.random.one_in(30) {
                 self.emit(DROP, &[x as u64, generation]);
@@ -593,8 +681,8 @@ impl<W: Write> Stream<W> {
         self.send(SEND, times);
         let [slot, generation] = self.key(|slot| slot.living);
         if self.random.one_in(3) {
-            let channel = self.state().channel;
-            self.emit(CLOSE, &[channel, slot, generation]);
+            let id = self.id_of([slot, generation]);
+            self.emit(CLOSE, &id);
         }
         self.emit(DROP, &[slot, generation]);
         if self.random.one_in(2) {
@@ -692,28 +780,33 @@ impl<W: Write> Stream<W> {
     }
 
     fn refused_opening(&mut self) {
-        let fields = self.random.pick(&[
-            [0, 1, 7, 0, 0],
-            [65_537, 1, 7, 0, 0],
-            [0, 0, 7, 0, 0],
-            [1, 0, 7, 0, 0],
-            [1, 8_193, 7, 0, 0],
-            [u64::MAX, u64::MAX, 7, 0, 0],
-            [65_536, 8_192, 7, 0, 0],
+        let mut fields = self.random.pick(&[
+            [0, 1, 7, 0, 0, 0],
+            [65_537, 1, 7, 0, 0, 0],
+            [0, 0, 7, 0, 0, 0],
+            [1, 0, 7, 0, 0, 0],
+            [1, 8_193, 7, 0, 0, 0],
+            [u64::MAX, u64::MAX, 7, 0, 0, 0],
+            [65_536, 8_192, 7, 0, 0, 0],
         ]);
+        // One slot more than the table holds.
+        if self.numbered && self.random.one_in(4) {
+            fields[..2].copy_from_slice(&[1, (self.rules.lent.table - 512) / 24 + 1]);
+        }
+        fields[5] = self.next_number;
         let answer = self.emit(OPEN, &fields);
         assert!(self.rules.lent.rings > 1 << 28 || matches!(answer, Answer::Refused(_)));
     }
 
     /// Calls before the first registration; the original has an answer to these.
     fn unregistered(&mut self) {
-        let channel = self.state().channel;
+        let id = self.id_of([0, 0]);
         for _ in 0..self.random.below(6) {
             match self.random.below(9) {
                 0 => self.emit(SEND, &[0, 0, 1]),
                 1 => self.emit(DROP, &[0, 0]),
-                2 => self.emit(TARGETED, &[channel, 0, 0]),
-                3 => self.emit(PAUSE, &[channel, 0, 0]),
+                2 => self.emit(TARGETED, &id),
+                3 => self.emit(PAUSE, &id),
                 4 => self.emit(BATCH, &[0]),
                 5 => self.emit(RELEASE, &[]),
                 6 => self.emit(POLL_ALL, &[]),
@@ -744,9 +837,17 @@ impl<W: Write> Stream<W> {
         let slots = slots.min(lent.rings / capacity.next_power_of_two());
         self.here = match self.random.below(8) {
             0 => 40 + self.random.below(200),
+            _ if self.numbered => 60 + self.random.below(400),
             _ => 300 + self.random.below(2_500),
         } + 6 * self.most_slots.unwrap_or(0) + if self.deep { 3 * capacity } else { 0 };
-        let channel = self.random.pick(&[7, 0, u64::MAX, 1 << 40]);
+        let mut channel = self.random.pick(&[7, 0, u64::MAX, 1 << 40]);
+        let number = self.next_number;
+        if self.numbered {
+            self.next_number = self.number_after(number);
+            if self.rules.state.is_some() && !self.random.one_in(4) {
+                channel = self.opened[0];
+            }
+        }
         let (cursor, generation) = if self.shifted {
             let below_top = [0, 1, 3, 70, 1_000].map(|n| u64::MAX - n);
             (self.random.pick(&below_top), self.random.pick(&below_top))
@@ -758,7 +859,7 @@ impl<W: Write> Stream<W> {
         } else {
             (0, 0)
         };
-        let answer = self.emit(OPEN, &[capacity, slots, channel, cursor, generation]);
+        let answer = self.emit(OPEN, &[capacity, slots, channel, cursor, generation, number]);
         assert_eq!(answer, Answer::Done);
         if self.random.one_in(6) {
             self.unregistered();
@@ -787,6 +888,9 @@ impl<W: Write> Stream<W> {
                     break;
                 }
                 at -= weight;
+            }
+            if self.numbered && self.random.one_in(2) {
+                self.of_another_opening();
             }
             if self.random.one_in(400) {
                 self.refused_opening();
@@ -825,11 +929,11 @@ fn main() -> io::Result<()> {
         ["text"] => return text::records(io::stdin().lock(), output),
         ["expected"] => return text::expected(io::stdin().lock(), output),
         [seed, left, ref options @ ..] => (number(seed), number(left), options),
-        _ => panic!("streams SEED RECORDS [--slots N] [--deep] [--style NAME] [--shifted], or streams text, or streams expected"),
+        _ => panic!("streams SEED RECORDS [--slots N] [--deep] [--style NAME] [--shifted] [--numbered], or streams text, or streams expected"),
     };
     let mut most_slots = None;
     let mut only = None;
-    let (mut deep, mut shifted) = (false, false);
+    let (mut deep, mut shifted, mut numbered) = (false, false, false);
     let mut options = options.iter();
     while let Some(&option) = options.next() {
         let mut value = || options.next().unwrap_or_else(|| panic!("{option} needs a value"));
@@ -841,6 +945,7 @@ fn main() -> io::Result<()> {
             }
             "--deep" => deep = true,
             "--shifted" => shifted = true,
+            "--numbered" => numbered = true,
             _ => panic!("no such option: {option}"),
         }
     }
@@ -855,7 +960,14 @@ fn main() -> io::Result<()> {
         deep,
         shifted,
         free: None,
+        numbered,
+        next_number: 0,
+        opened: [0; 2],
+        saved: Vec::new(),
     };
+    if numbered {
+        stream.next_number = stream.number_after(0);
+    }
     if stream.random.one_in(10) {
         stream.emit(PLAIN, &[]);
         stream.refused_opening();

@@ -22,18 +22,18 @@ pub const HELD: u16 = 15;
 
 /// The names of the kinds in the text form, and the number of fields of each.
 pub const KINDS: [(&str, usize); 16] = [
-    ("open", 5),
+    ("open", 6),
     ("register", 1),
     ("send", 3),
     ("unsignalled", 3),
     ("drop", 2),
     ("plain", 0),
     ("fair", 0),
-    ("targeted", 3),
+    ("targeted", 4),
     ("batch", 1),
-    ("pause", 3),
-    ("resume", 3),
-    ("close", 3),
+    ("pause", 4),
+    ("resume", 4),
+    ("close", 4),
     ("release", 0),
     ("poll-all", 0),
     ("close-receiver", 0),
@@ -44,13 +44,13 @@ pub const KINDS: [(&str, usize); 16] = [
 #[derive(Clone, Copy, Debug, PartialEq, Eq)]
 pub struct Record {
     pub kind: u16,
-    pub fields: [u64; 5],
+    pub fields: [u64; 6],
 }
 
 impl Record {
     pub fn new(kind: u16, fields: &[u64]) -> Self {
         assert_eq!(fields.len(), KINDS[kind as usize].1);
-        let mut all = [0; 5];
+        let mut all = [0; 6];
         all[..fields.len()].copy_from_slice(fields);
         Self { kind, fields: all }
     }
@@ -97,11 +97,11 @@ pub fn next(input: &mut impl Read) -> io::Result<Next> {
     let Some(&(_, count)) = KINDS.get(kind as usize) else {
         return Ok(Next::Malformed);
     };
-    let mut body = [0; 40];
+    let mut body = [0; 48];
     if length != 2 + 8 * count || fill(input, &mut body[..8 * count])? != 8 * count {
         return Ok(Next::Malformed);
     }
-    let mut fields = [0; 5];
+    let mut fields = [0; 6];
     for (field, bytes) in fields.iter_mut().zip(body[..8 * count].chunks_exact(8)) {
         *field = u64::from_le_bytes(bytes.try_into().expect("eight bytes"));
     }

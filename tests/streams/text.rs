@@ -1,6 +1,6 @@
 //! The text form of stored streams: one record a line, with the line it expects.
 //!
-//!     open 4 2 7 0 0 => done
+//!     open 4 2 7 0 0 0 => done
 //!     3 * send 0 0 11 => refused 11      three times, the same answer to each
 //!     3 * send 0 0 11 => taken 0 2..0    three times, and the answers' last number counts down: taken 0 2, taken 0 1, taken 0 0
 //!     bytes 02 00 => refused 15          bytes as they are, in hex
