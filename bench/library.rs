@@ -13,15 +13,23 @@ const EMPTY: u64 = 5;
 const FULL: u64 = 11;
 
 const CHANNEL: u64 = 7;
+/// The opening number.
+const OPENING: u64 = 3;
 /// The most items of a batch.
 const OUTPUT: usize = 4096;
+
+/// The other sides' ids have no opening number; here it is read with the channel. Doubled, so that the two exchanged are told.
+const fn both(channel: u64, opening: u64) -> u64 {
+    channel + 2 * opening
+}
 
 /// Declares a checked call, its inner call, and a method that makes the one or the other.
 macro_rules! calls {
     ($($method:ident = $checked:ident, $inner:ident ($($name:ident: $kind:ty),*);)*) => {
         unsafe extern "C" {
             fn fanring_open(
-                t: *mut u64, tl: usize, r: *const u64, rl: usize, capacity: u64, slots: u64, channel: u64, cursor: u64, generation: u64, words: *mut Words,
+                t: *mut u64, tl: usize, r: *const u64, rl: usize, capacity: u64, slots: u64, channel: u64, cursor: u64, generation: u64, number: u64,
+                words: *mut Words,
             ) -> u64;
             $(
                 fn $checked(t: *mut u64, tl: usize, r: *mut u64, rl: usize, $($name: $kind,)* words: *mut Words) -> u64;
@@ -55,11 +63,11 @@ calls! {
     unsignaled = fanring_try_send_unsignaled, fanring_inner_try_send_unsignaled(slot: u64, generation: u64, item: u64);
     recv = fanring_try_recv, fanring_inner_try_recv();
     recv_fair = fanring_try_recv_fair, fanring_inner_try_recv_fair();
-    recv_from = fanring_try_recv_from, fanring_inner_try_recv_from(channel: u64, slot: u64, generation: u64);
+    recv_from = fanring_try_recv_from, fanring_inner_try_recv_from(channel: u64, slot: u64, generation: u64, opening: u64);
     batch = fanring_try_recv_batch_into, fanring_inner_try_recv_batch_into(out: *mut u64, out_len: usize, limit: u64);
-    pause_by_id = fanring_pause, fanring_inner_pause(channel: u64, slot: u64, generation: u64);
-    resume_by_id = fanring_resume, fanring_inner_resume(channel: u64, slot: u64, generation: u64);
-    close_by_id = fanring_close_lane, fanring_inner_close_lane(channel: u64, slot: u64, generation: u64);
+    pause_by_id = fanring_pause, fanring_inner_pause(channel: u64, slot: u64, generation: u64, opening: u64);
+    resume_by_id = fanring_resume, fanring_inner_resume(channel: u64, slot: u64, generation: u64, opening: u64);
+    close_by_id = fanring_close_lane, fanring_inner_close_lane(channel: u64, slot: u64, generation: u64, opening: u64);
     release = fanring_release_consumed, fanring_inner_release_consumed();
     poll_all = fanring_poll_all_lanes, fanring_inner_poll_all_lanes();
 }
@@ -88,8 +96,8 @@ impl<const CHECKED: bool> Library<CHECKED> {
     fn received(&self, tag: u64) -> Received {
         match tag {
             ITEM => {
-                let [item, channel, slot, generation, ..] = self.words;
-                Received::Item(item, LaneId { channel, key: Key { slot, generation } })
+                let [item, channel, slot, generation, opening, ..] = self.words;
+                Received::Item(item, LaneId { channel: both(channel, opening), key: Key { slot, generation } })
             }
             EMPTY => Received::Empty,
             _ => Received::Disconnected,
@@ -118,7 +126,7 @@ impl<const CHECKED: bool> Side for Library<CHECKED> {
     }
 
     fn channel(&self) -> u64 {
-        CHANNEL
+        both(CHANNEL, OPENING)
     }
 
     #[inline(never)]
@@ -126,7 +134,7 @@ impl<const CHECKED: bool> Side for Library<CHECKED> {
         let (t, tl, r, rl) = (self.table.as_mut_ptr(), self.table.len(), self.rings.as_ptr(), self.rings.len());
         let (capacity, slots) = (self.capacity as u64, self.slots as u64);
         // SAFETY: pointers and lengths are of vectors of this value.
-        let tag = unsafe { fanring_open(t, tl, r, rl, capacity, slots, CHANNEL, 0, 0, &mut self.words) };
+        let tag = unsafe { fanring_open(t, tl, r, rl, capacity, slots, CHANNEL, 0, 0, OPENING, &mut self.words) };
         assert_eq!((tag, self.register(1)), (DONE, REGISTERED));
     }
 
@@ -161,7 +169,7 @@ impl<const CHECKED: bool> Side for Library<CHECKED> {
 
     #[inline(always)]
     fn try_recv_from(&mut self, key: Key) -> Received {
-        let tag = self.recv_from(CHANNEL, key.slot, key.generation);
+        let tag = self.recv_from(CHANNEL, key.slot, key.generation, OPENING);
         self.received(tag)
     }
 
@@ -187,15 +195,15 @@ impl<const CHECKED: bool> Side for Library<CHECKED> {
     }
 
     fn pause(&mut self, key: Key) -> bool {
-        self.pause_by_id(CHANNEL, key.slot, key.generation) == DONE
+        self.pause_by_id(CHANNEL, key.slot, key.generation, OPENING) == DONE
     }
 
     fn resume(&mut self, key: Key) -> bool {
-        self.resume_by_id(CHANNEL, key.slot, key.generation) == DONE
+        self.resume_by_id(CHANNEL, key.slot, key.generation, OPENING) == DONE
     }
 
     fn close_lane(&mut self, key: Key) -> bool {
-        self.close_by_id(CHANNEL, key.slot, key.generation) == DONE
+        self.close_by_id(CHANNEL, key.slot, key.generation, OPENING) == DONE
     }
 
     fn release_consumed(&mut self) {
