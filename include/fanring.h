@@ -4,6 +4,7 @@
    at least FANRING_RING_WORDS(S, C), with C the capacity rounded up to a power of two; table_len and rings_len are their lengths in words. Their words
    belong to the library from the opening on. There is no heap and no other state. The words are numbers and no pointers: between calls both stores may be
    copied whole, saved and read back, mapped at another place or by another process, and shared behind a lock; calls on them then do and answer the same.
+   Another version of the library may read the words otherwise: it is to open the stores anew.
 
    ANSWERS. Each call returns a tag (enum fanring_tag) and puts the answer's numbers into words[0] and on; `words` has room for FANRING_WORDS. Words that
    the answer does not use are as they were. A refusal leaves every word of both stores and of the output as it was.
@@ -49,7 +50,8 @@
 
    WHAT EVERY CALL RELIES ON. Each pointer is to as many words as its length says, `words` to FANRING_WORDS, aligned as uint64_t is; it is not NULL, also
    where the length is 0. `table`, `rings`, `out` and `words` do not overlap. Nothing else uses them during the call: one call at a time on a pair of
-   stores. (Calls of fanring_held and fanring_inner_held, which only read the stores, may run at one time.)
+   stores. (Calls of fanring_held and fanring_inner_held, which only read the stores, may run at one time.) The caller is compiled with the header that
+   came with the archive: in another version a call of the same name may have other parameters, and a linker does not tell.
 
    CHECKED CALLS (fanring_..) rely on nothing else: they take any stores and any numbers. All but fanring_open test both stores first, which goes over
    every issued slot, and answer refused 5 if they are not in order.

@@ -27,11 +27,12 @@ pub struct LaneKey {
 /// A lane of one opening of a channel: the channel's number, the opening's and the lane's key.
 ///
 /// Single receives answer with it, and the lane controls take it. Two ids are equal exactly if all of their numbers are,
-/// and an id with another `channel_id` or `opening` than the channel's own is refused as
-/// [`NoSuchLane`](crate::LaneControlError::NoSuchLane). Each [`Opening::new`](crate::Opening::new) takes numbers of its
-/// own, and an opening opens one channel. So an id selects no lane of another channel, unless an
-/// [`opening_number`](crate::Opening::opening_number) was set by hand; nor does one saved by an earlier process
-/// select a lane, unless the system's clock was set back since: `Opening::new` has more.
+/// and an id with another `channel_id` or `opening` than the channel's own is refused, as
+/// [`NoSuchLane`](crate::LaneControlError::NoSuchLane) while the receiver is open. Each
+/// [`Opening::new`](crate::Opening::new) takes numbers of its own, and an opening opens one channel. So an id selects no
+/// lane of another channel, unless an [`opening_number`](crate::Opening::opening_number) was set by hand or taken over
+/// from another opening by `..`; nor does one saved by an earlier process select a lane, as long as the system's clock
+/// went on: `Opening::new` has more.
 ///
 /// ```
 /// use proved_fanring::{channel, LaneControlError};

@@ -103,10 +103,11 @@ impl Opening {
     /// The opening number is what the system's clock says, in nanoseconds since 1970: 0 before that, and modulo 2^64.
     /// Where this is not more than the last number given out in this process, or not more than 0, it is one more. So
     /// openings of one process differ in their numbers, whatever the clock says. They differ from those of another
-    /// process, a fork or an earlier one too, unless the clock was set back, or says the same to both. Who saves lane ids
-    /// and cannot rely on the clock sets [`opening_number`](Self::opening_number), to a count that is raised and saved
-    /// before the opening for instance, as examples/restart.rs does. Lane ids of openings as they are made here differ
-    /// from run to run: set it for runs that repeat.
+    /// process, a fork or an earlier one too, unless the clock was set back, starts afresh when power comes on, or both
+    /// open within nanoseconds of each other. Who saves lane ids and cannot rely on the clock sets
+    /// [`opening_number`](Self::opening_number), to a count that is raised and saved before the opening for instance, as
+    /// examples/restart.rs does. Lane ids of openings as they are made here differ from run to run: set it for runs that
+    /// repeat.
     ///
     /// ```
     /// use proved_fanring::Opening;
@@ -120,7 +121,7 @@ impl Opening {
     ///
     /// # Panics
     ///
-    /// Panics when channel ids or opening numbers, which both end at 2^64 - 1, have run out.
+    /// Panics when 2^64 - 1 channel ids, or opening number 2^64 - 1, have been given out.
     #[must_use]
     pub fn new(capacity_per_sender: usize, slots: usize) -> Self {
         Self {

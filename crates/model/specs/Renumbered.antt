@@ -1,6 +1,6 @@
 -- Document 02, N7: "For runs against the Rust it is always 0." An opening number does nothing but tell ids: no queue, send, held count, output or other refusal
--- depends on it. So what a run shows whose opening and ids all have number 0 holds with any other: take for f the exchange of the two. (Ids with another number
--- than the opening's are in no run against the Rust; LaneIds.antt speaks of them.) A claim about any rules; it is proved of document 01's.
+-- depends on it. So what a run shows whose opening and ids all have number 0 holds with any other: take for f the exchange of the two. (No generated
+-- stream against the Rust has an id with another number than the opening's; LaneIds.antt speaks of them.) A claim about any rules; it is proved of document 01's.
 -- Assumes nothing.
 use mathlib.Core.Path.{_≡_}
 use mathlib.Core.List.{List, map}

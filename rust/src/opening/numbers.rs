@@ -12,7 +12,7 @@ pub(super) fn channel_id() -> u64 {
 }
 
 /// By the clock, since a count would start afresh in every process, and two forks of one process would go on with the
-/// same count; as they do here, too, where the clock was set back, or says the same to both.
+/// same count; as they do here, too, where the clock was set back.
 pub(super) fn opening_number() -> u64 {
     allocate_opening_number(&LAST_OPENING_NUMBER, nanoseconds(SystemTime::now()))
 }
