@@ -24,7 +24,7 @@ use Rattle.model.specs.Budget.{BudgetCountsItems, isTargeted, EventsTell}
 use Rattle.model.specs.OneTurn.{AtMost64InOneTurn}
 use Rattle.model.specs.Collections.{AtMost64BetweenCollections, TakesOneGroup, TakesAllGroups, StandsAfterLast, NothingToCollect, Collecting}
 use Rattle.model.specs.Disconnected.{NoSenderLives, NoLaneRegistered, EmptyOnesRetired, SameLane, PausedWithItems, Looks, Drained, DisconnectedExactly, RetiresEmptyPaused, EmptyWithPausedItems, OnlyPausedItemsLeft, TargetedDisconnectedExactly}
-use Rattle.model.specs.LaneIds.{ThirteenExactly}
+use Rattle.model.specs.LaneIds.{ThirteenExactly, SixOrAccepted, ElseSixOrAccepted}
 use Rattle.model.specs.Signals.{dropsSender, FoundEmptyBy, IdleOnlyWhenEmpty, ClosedAfter, ClosedSignalKept, OlderSenderRefused}
 use Rattle.model.specs.PollLoop.{NothingLeft}
 use Rattle.model.specs.ReceivesEnd.{itemsAsked, EndsWithNothingLeft}
@@ -33,7 +33,7 @@ use Rattle.demands.proofs.Budget.{budget-counts-items, events-tell}
 use Rattle.demands.proofs.OneTurn.{at-most-64-in-one-turn}
 use Rattle.demands.proofs.Collections.{at-most-64-between-collections, takes-one-group, takes-all-groups, stands-after-last, one-of-none, all-of-none}
 use Rattle.demands.proofs.Disconnected.{disconnected-exactly, retires-empty-paused, empty-with-paused-items, only-paused-items-left, targeted-disconnected-exactly}
-use Rattle.demands.proofs.LaneIds.{thirteen-exactly}
+use Rattle.demands.proofs.LaneIds.{thirteen-exactly, else-six-or-accepted}
 use Rattle.demands.proofs.IdleWhenEmpty.{idle-only-when-empty}
 use Rattle.demands.proofs.ClosedSignal.{closed-signal-kept, older-sender-refused}
 use Rattle.demands.proofs.ReceivesEnd.{ends-with-nothing-left}
@@ -138,6 +138,11 @@ module _ (W : Viewed) (sim : Simulation W) where
       let d = thirteen-exactly (W .view s) tt c in
       let a = sim .answers-alike s c o in
       (λ e. d .0 (sym a ∙ e), λ n. a ∙ d .1 n)
+
+  pub words-else-six-or-accepted : ElseSixOrAccepted W
+  unfolding ElseSixOrAccepted
+  words-else-six-or-accepted s o i c b =
+      subst (SixOrAccepted (W .view s) i) (sym (sim .answers-alike s c o)) (else-six-or-accepted (W .view s) tt i c b)
 
   pub words-ends-with-nothing-left : EndsWithNothingLeft W
   unfolding EndsWithNothingLeft

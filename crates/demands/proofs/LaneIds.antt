@@ -10,6 +10,7 @@ use borrow.Author.Tests.{eqb-true}
 use Rattle.model.specs.declared.LaneKey.{LaneKey}
 use Rattle.model.specs.declared.OpenedChannel.{OpenedChannel}
 use Rattle.model.specs.declared.LaneId.{LaneId}
+use Rattle.model.specs.declared.Opening.{Opening}
 use Rattle.model.specs.declared.SenderCall.{SenderCall}
 use Rattle.model.specs.declared.SenderCall.the-variants.{RegisterSender, TrySend, TrySendUnsignaled, DropSender}
 use Rattle.model.specs.declared.ReceiveCall.the-variants.{TryRecv, TryRecvFair, TryRecvFrom, TryRecvBatchInto}
@@ -25,14 +26,14 @@ use Rattle.model.specs.Lists.{if, both, from}
 use Rattle.model.specs.State.{State, registeredLanes, livingSenders, keyOf, hasLane, sameOpening, hasLaneId}
 use Rattle.model.specs.Turn.{Took, takeOne, takeFair}
 use Rattle.model.specs.Outcome.{Outcome, says, unless}
-use Rattle.model.specs.Runs.{Rules, RunsOf, afterList}
+use Rattle.model.specs.Runs.{Rules, RunsOf, accepted, afterList}
 use Rattle.model.specs.Sender.{issueSlot, registerSender, trySend, trySendUnsignaled, dropSender, senderOutcome}
 use Rattle.model.specs.Receive.{retireEmptyPausedLanes, emptyOrDrained, nothingTaken, answerOne, takeFrom, answerItems, tryRecv, tryRecvFair, tryRecvFrom, tryRecvBatchInto, receiveOutcome}
 use Rattle.model.specs.Control.{pause, resume, closeLane, releaseConsumed, pollAllLanes, closeReceiver, countHeld, controlOutcome}
-use Rattle.model.specs.Opening.{openingOutcome}
+use Rattle.model.specs.Opening.{channelOf, openingOutcome}
 use Rattle.model.specs.Rules.{outcome, theRules}
 use Rattle.model.specs.Viewed.{rulesOnAnyState}
-use Rattle.model.specs.LaneIds.{EqualExactly, KnownExactly, ByLaneId, targets, pauses, resumes, closes, NamesNoLane, ThirteenExactly, RefusedById, receiver-closed, no-such-lane, OpeningsToldApartIn, OpeningsToldApart, SavedIdsRefusedIn}
+use Rattle.model.specs.LaneIds.{EqualExactly, KnownExactly, ByLaneId, targets, pauses, resumes, closes, NamesLane, NamesNoLane, ThirteenExactly, SixOrAccepted, ElseSixOrAccepted, RefusedById, receiver-closed, no-such-lane, ToldApart, OpeningsToldApartIn, OpeningsToldApart, SavedOf, of-item, of-lane, SavedIdsRefusedIn}
 use Rattle.demands.proofs.Counting.{no, both-true, self}
 use Rattle.demands.proofs.Quiet.{poll, poll-quiet}
 use Rattle.demands.proofs.Moves.{TakeResult, took-none, took-one, take-one-taken, take-fair-taken}
@@ -154,31 +155,31 @@ module _ (s : State) where
   data First (i : LaneId) : Answer → Type 0 where
     closed : s .isOpen ≡ false → First i (Refused ReceiverClosed)
     unknown : s .isOpen ≡ true → hasLaneId s i ≡ false → First i (Refused NoSuchLane)
-    known : (a : Answer) → hasLaneId s i ≡ true → Proper h a → First i a
+    known : (a : Answer) → s .isOpen ≡ true → hasLaneId s i ≡ true → accepted a ≡ true → Proper h a → First i a
 
-  first : (i : LaneId) (r : Outcome) → ProperOf h r → First i ((unless ((not (s .isOpen), ReceiverClosed) ∷ (not (hasLaneId s i), NoSuchLane) ∷ []) s r) .1 .0)
+  first : (i : LaneId) (r : Outcome) → accepted (r .1 .0) ≡ true → ProperOf h r → First i ((unless ((not (s .isOpen), ReceiverClosed) ∷ (not (hasLaneId s i), NoSuchLane) ∷ []) s r) .1 .0)
   unfolding unless
-  first i r p = go (s .isOpen) (hasLaneId s i) refl refl
+  first i r y p = go (s .isOpen) (hasLaneId s i) refl refl
     where
       go : (a b : Bool) → s .isOpen ≡ a → hasLaneId s i ≡ b → First i ((unless ((not a, ReceiverClosed) ∷ (not b, NoSuchLane) ∷ []) s r) .1 .0)
       go false b e f = closed e
       go true false e f = unknown e f
-      go true true e f = known _ f p
+      go true true e f = known _ e f y p
 
   by-id : (i : LaneId) {c : Call} → ByLaneId i c → First i ((outcome s c) .1 .0)
-  unfolding outcome receiveOutcome controlOutcome tryRecvFrom pause resume closeLane takeFrom Proper
-  by-id i targets = first i _ (go (s .slotOf (i .key .slot) .ring))
+  unfolding outcome receiveOutcome controlOutcome tryRecvFrom pause resume closeLane takeFrom Proper accepted
+  by-id i targets = let p = go (s .slotOf (i .key .slot) .ring) in first i _ (p .0) (p .1)
     where
-      nothing : (b : Bool) → Proper h (if b Empty Disconnected)
-      nothing true = tt
-      nothing false = tt
+      nothing : (b : Bool) → (accepted (if b Empty Disconnected) ≡ true) × Proper h (if b Empty Disconnected)
+      nothing true = (refl, tt)
+      nothing false = (refl, tt)
 
-      go : (l : List ℕ) → ProperOf h (takeFrom l (i .key .slot) s)
+      go : (l : List ℕ) → (accepted ((takeFrom l (i .key .slot) s) .1 .0) ≡ true) × ProperOf h (takeFrom l (i .key .slot) s)
       go [] = nothing (s .slotOf (i .key .slot) .living)
-      go (v ∷ vs) = refl
-  by-id i pauses = first i _ tt
-  by-id i resumes = first i _ tt
-  by-id i closes = first i _ tt
+      go (v ∷ vs) = (refl, refl)
+  by-id i pauses = first i _ refl tt
+  by-id i resumes = first i _ refl tt
+  by-id i closes = first i _ refl tt
 
   -- ---- all calls
 
@@ -216,7 +217,7 @@ module _ (s : State) where
       of : {a : Answer} (i : LaneId) → ByLaneId i c → First i a → a ≡ Refused NoSuchLane → NamesNoLane s c
       of i b (closed e) z = absurd (not-thirteen {a = Refused ReceiverClosed} refl z)
       of i b (unknown e f) z = record { id = i; by-id = b; is-open = e; no-lane = λ n. no (known-exactly s i .1 n) f }
-      of i b (known a f p) z = absurd (not-thirteen p z)
+      of i b (known a e f y p) z = absurd (not-thirteen p z)
 
       go : Kind c → (outcome s c) .1 .0 ≡ Refused NoSuchLane → NamesNoLane s c
       go (of-id i b) z = of i b (by-id i b) z
@@ -228,7 +229,20 @@ module _ (s : State) where
       go : {a : Answer} → First (n .id) a → a ≡ Refused NoSuchLane
       go (closed e) = absurd (no (n .is-open) e)
       go (unknown e f) = refl
-      go (known a f p) = absurd (n .no-lane (known-exactly s (n .id) .0 f))
+      go (known a e f y p) = absurd (n .no-lane (known-exactly s (n .id) .0 f))
+
+  six-or-accepted : (i : LaneId) {c : Call} → ByLaneId i c → SixOrAccepted s i ((outcome s c) .1 .0)
+  six-or-accepted i b = record { six = six (by-id i b); accepts = accepts (by-id i b) }
+    where
+      six : {a : Answer} → First i a → s .isOpen ≡ false → a ≡ Refused ReceiverClosed
+      six (closed e) z = refl
+      six (unknown e f) z = absurd (no e z)
+      six (known a e f y p) z = absurd (no e z)
+
+      accepts : {a : Answer} → First i a → s .isOpen ≡ true → NamesLane s i → accepted a ≡ true
+      accepts (closed e) z n = absurd (no z e)
+      accepts (unknown e f) z n = absurd (no (known-exactly s i .1 n) f)
+      accepts (known a e f y p) z n = y
 
   other-refused : (i : LaneId) {c : Call} → ByLaneId i c → (i .channel ≡ h → ⊥) → RefusedById ((outcome s c) .1 .0)
   other-refused i b n = go (by-id i b)
@@ -236,7 +250,7 @@ module _ (s : State) where
       go : {a : Answer} → First i a → RefusedById a
       go (closed e) = receiver-closed
       go (unknown e f) = no-such-lane
-      go (known a f p) = absurd (n (channel-of-id s i f))
+      go (known a e f y p) = absurd (n (channel-of-id s i f))
 
   item-carries : (c : Call) (v : ℕ) (j : LaneId) → (outcome s c) .1 .0 ≡ Item v j → j .channel ≡ h
   unfolding Proper number
@@ -245,7 +259,7 @@ module _ (s : State) where
       of : {a : Answer} (i : LaneId) → First i a → a ≡ Item v j → j .channel ≡ h
       of i (closed e) z = subst (Proper h) z refl
       of i (unknown e f) z = let x : _≡_ {A = ℕ} 0 1 = cc in absurd (omega arith)
-      of i (known a f p) z = subst (Proper h) z p
+      of i (known a e f y p) z = subst (Proper h) z p
 
       go : Kind c → (outcome s c) .1 .0 ≡ Item v j → j .channel ≡ h
       go (of-id i b) z = of i (by-id i b) z
@@ -254,6 +268,10 @@ module _ (s : State) where
 pub thirteen-exactly : ThirteenExactly rulesOnAnyState
 unfolding ThirteenExactly
 thirteen-exactly s any c = (thirteen-then s c, thirteen-only-then s c)
+
+pub else-six-or-accepted : ElseSixOrAccepted rulesOnAnyState
+unfolding ElseSixOrAccepted
+else-six-or-accepted s any i c b = six-or-accepted s i b
 
 -- ---- runs
 
@@ -269,8 +287,12 @@ openings-told-apart o lent d calls all before rest c a e =
       items-carry = λ v i q. item-carries s c v i (sym (p .answered) ∙ q) ∙ same;
     }
 
+saved-channel : {o : Opening} {c : Call} {a : Answer} {i : LaneId} → SavedOf o a i → ToldApart o c a → i .channel ≡ channelOf o
+saved-channel (of-item v i) t = t .items-carry v i refl
+saved-channel (of-lane k) t = refl
+
 pub saved-ids-refused : (R : Rules) (runs : RunsOf R) → OpeningsToldApartIn R runs → SavedIdsRefusedIn R runs
 unfolding OpeningsToldApartIn SavedIdsRefusedIn
-saved-ids-refused R runs h earlier next lent relent d m other calls later f g before rest c v i e since rest' b a z by =
-    let saved = (h earlier lent d calls f before rest c (Item v i) e) .items-carry v i refl in
-    (h next relent m later g since rest' b a z) .others-refused i by (λ q. other (ap (λ (x : OpenedChannel). x .opening) (sym saved ∙ q)))
+saved-ids-refused R runs h earlier next lent relent d m other calls later f g before rest c a i e s since rest' b w z by =
+    let saved = saved-channel s (h earlier lent d calls f before rest c a e) in
+    (h next relent m later g since rest' b w z) .others-refused i by (λ q. other (ap (λ (x : OpenedChannel). x .opening) (sym saved ∙ q)))

@@ -3,7 +3,7 @@
 -- Assumes nothing.
 use mathlib.Core.Path.{_≡_, refl, ap, sym, _∙_, subst}
 use mathlib.Core.List.{List, [], _∷_, _++_, map}
-use Prim.Native.Nat.{ℕ}
+use Prim.Native.Nat.{ℕ, _<_, _^_}
 use native.Mathlib.Omega.{arith}
 use Rattle.model.specs.declared.LaneKey.{LaneKey}
 use Rattle.model.specs.declared.Opening.{Opening}
@@ -190,32 +190,29 @@ rules-simulate = record {
 
 -- ---- which numbers fit
 
-openingWith : (channel cursor generation number : ℕ) → Opening
-openingWith channel cursor generation number = record { capacity = 4; slots = 2; channel = channel; cursor = cursor; generation = generation; number = number }
-
 openingAt : ℕ → Opening
-openingAt cursor = openingWith 7 cursor 0 0
+openingAt cursor = record { capacity = 4; slots = 2; channel = 7; cursor = cursor; generation = 0; number = 0 }
 
 replayed : List Call
 replayed = Sender (RegisterSender 2) ∷ Sender (TrySend record { slot = 0; generation = 0 } 11) ∷ Receive TryRecv ∷ Receive TryRecv ∷ Sender (DropSender record { slot = 0; generation = 0 }) ∷ Receive TryRecv ∷ []
 
 -- The run of "Input [..]; 1 (2); 2 (0, 0, 11); 5; 5; 4 (0, 0); 5", which "begins with 0 (4, 2, 7, 0, 0, 0)", fits, and with the last first cursor, 2^64 - 1, too; with 2^64 it does not.
 replayed-run-fits : runsThatFit theRules (openingAt 0) record { rings = 2048; table = 4096 } replayed
-unfolding runsThatFit openingWith openingAt
+unfolding runsThatFit openingAt
 replayed-run-fits = omega arith
 
 last-cursor-fits : runsThatFit theRules (openingAt 18446744073709551615) record { rings = 2048; table = 4096 } replayed
-unfolding runsThatFit openingWith openingAt
+unfolding runsThatFit openingAt
 last-cursor-fits = omega arith
 
 past-last-cursor-not : runsThatFit theRules (openingAt 18446744073709551616) record { rings = 2048; table = 4096 } replayed → ⊥
-unfolding runsThatFit openingWith openingAt
+unfolding runsThatFit openingAt
 past-last-cursor-not h = omega (arith, h)
 
--- Of the opening's other numbers nothing is asked: no channel, generation or opening number is left out.
-any-numbers-fit : (channel generation number : ℕ) → runsThatFit theRules (openingWith channel 18446744073709551615 generation number) record { rings = 2048; table = 4096 } replayed
-unfolding runsThatFit openingWith
-any-numbers-fit channel generation number = omega arith
+-- Of nothing else anything is asked: no opening is left out for another of its numbers, and no list of calls, whatever ids are in it.
+any-numbers-fit : (R : Rules) (o : Opening) (lent : R .Stores) (calls : List Call) → o .cursor < 2 ^ 64 → runsThatFit R o lent calls
+unfolding runsThatFit
+any-numbers-fit R o lent calls h = h
 
 -- numbers of a call to 2^64 - 1 fit, and 2^64 does not
 top-fits : CallFits (Sender (RegisterSender 18446744073709551615))

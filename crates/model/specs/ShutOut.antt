@@ -20,7 +20,7 @@ use Rattle.model.specs.declared.Refusal.the-variants.{StoreNotInOrder, R
 use Rattle.model.specs.declared.Answer.{Answer}
 use Rattle.model.specs.declared.Answer.the-variants.{Done, Registered, Taken, Item, Items, Empty, Disconnected, Held, Refused}
 use Rattle.model.specs.Lists.{if, both}
-use Rattle.model.specs.State.{State, keyOf, freePlaces}
+use Rattle.model.specs.State.{State, keyOf, hasLaneId, freePlaces}
 use Rattle.model.specs.Changes.{withQueue, withFree, withIssued, withBudget, put, withRing, newLane}
 use Rattle.model.specs.Ready.{collectReady}
 use Rattle.model.specs.Turn.{runDown, giveFront, polled}
@@ -294,6 +294,37 @@ controlTaking f g h s CountHeld = controlOutcome s CountHeld
 
 abbrev pub takesIds : (targeted paused resumed closed : TakenFor) → Rules
 takesIds targeted paused resumed closed = rulesBy senderOutcome (receiveTaking targeted) (controlTaking paused resumed closed)
+
+-- Calls by lane id with another outcome than o: 6 to a lane's own id, though the receiver is open; accepted, though it is closed.
+abbrev pub Instead : Type 0
+Instead = State → LaneId → Outcome → Outcome
+
+unfoldable pub asItComes : Instead
+asItComes s i o = o
+
+unfoldable pub ownRefused : Instead
+ownRefused s i o = if (both (s .isOpen) (hasLaneId s i)) (says (Refused ReceiverClosed) s) o
+
+unfoldable pub closedAccepted : Instead
+closedAccepted s i o = if (s .isOpen) o (says Done s)
+
+unfoldable pub receiveInstead : Instead → State → ReceiveCall → Outcome
+receiveInstead f s (TryRecvFrom i) = f s i (receiveOutcome s (TryRecvFrom i))
+receiveInstead f s TryRecv = receiveOutcome s TryRecv
+receiveInstead f s TryRecvFair = receiveOutcome s TryRecvFair
+receiveInstead f s (TryRecvBatchInto limit room) = receiveOutcome s (TryRecvBatchInto limit room)
+
+unfoldable pub controlInstead : Instead → Instead → Instead → State → ControlCall → Outcome
+controlInstead f g h s (Pause i) = f s i (controlOutcome s (Pause i))
+controlInstead f g h s (Resume i) = g s i (controlOutcome s (Resume i))
+controlInstead f g h s (CloseLane i) = h s i (controlOutcome s (CloseLane i))
+controlInstead f g h s ReleaseConsumed = controlOutcome s ReleaseConsumed
+controlInstead f g h s PollAllLanes = controlOutcome s PollAllLanes
+controlInstead f g h s CloseReceiver = controlOutcome s CloseReceiver
+controlInstead f g h s CountHeld = controlOutcome s CountHeld
+
+abbrev pub answersInstead : (targeted paused resumed closed : Instead) → Rules
+answersInstead targeted paused resumed closed = rulesBy senderOutcome (receiveInstead targeted) (controlInstead paused resumed closed)
 
 -- Items with another id.
 unfoldable pub itemNamed : (LaneId → LaneId) → Answer → Answer

@@ -2,7 +2,7 @@
 ghost use mathlib.Core.Path.{_≡_};
 ghost use Rattle.model.specs.Answers.{number};
 
-// Names one lane of a channel: its slot, and which of that slot's lanes, one after the other.
+// Names one lane of one opening: its slot, and which of that slot's lanes, one after the other.
 pub struct LaneKey {
     pub slot: u64,
     pub generation: u64,

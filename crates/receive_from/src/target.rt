@@ -59,7 +59,8 @@ fn keep_target(t: &mut [u64], l: Lane)
     queue_target(t, l);
 }
 
-// Any lane: not queued, with no item known, with an open window, or with credit due with the item.
+// Of any lane. Called where it is not queued, has no item known or an open window, or where credit is
+// due with the item.
 fn take_refilled(t: &mut [u64], r: &[u64], slot: u64) -> Answer
     requires { ⌜ StoreInOrder (now t) (now r) × (slot < issued (now t)) × (laneAt (now t) slot .registered ≡ 1) ⌝ }
     ensures { λ a. ⌜ (a, now (t .exit)) ≡ takeFrom (now (t .entry)) (now (r .entry)) slot ⌝ }

@@ -1,7 +1,7 @@
 -- What specs/RulesOnWords.antt says, of the inner calls and of all that on stores in order are the inner calls: they simulate the rules.
 -- Assumes nothing.
 use mathlib.Core.Bool.{true, false}
-use Rattle.demands.proofs.Carried.{words-events-tell, words-budget-counts-items, words-at-most-64-in-one-turn, words-at-most-64-between-collections, words-ends-with-nothing-left, words-disconnected-exactly, words-retires-empty-paused, words-empty-with-paused-items, words-only-paused-items-left, words-targeted-disconnected-exactly, words-thirteen-exactly, words-idle-only-when-empty, words-closed-signal-kept, words-older-sender-refused, words-collecting}
+use Rattle.demands.proofs.Carried.{words-events-tell, words-budget-counts-items, words-at-most-64-in-one-turn, words-at-most-64-between-collections, words-ends-with-nothing-left, words-disconnected-exactly, words-retires-empty-paused, words-empty-with-paused-items, words-only-paused-items-left, words-targeted-disconnected-exactly, words-thirteen-exactly, words-else-six-or-accepted, words-idle-only-when-empty, words-closed-signal-kept, words-older-sender-refused, words-collecting}
 use Rattle.demands.proofs.WhileMarked.{words-at-most-64-while-marked, words-at-most-64-while-marked-in-batch}
 use Rattle.demands.proofs.BudgetAfterNothing.{words-budget-after-nothing, words-budget-as-events-set}
 use Rattle.store.proofs.CollectedView.{view-collect-all, view-collect-group}
@@ -32,6 +32,7 @@ keeps-rules M i =
       only-paused-items-left = words-only-paused-items-left W sim;
       targeted-disconnected-exactly = words-targeted-disconnected-exactly W sim;
       thirteen-exactly = words-thirteen-exactly W sim;
+      else-six-or-accepted = words-else-six-or-accepted W sim;
       idle-only-when-empty = words-idle-only-when-empty W sim;
       closed-signal-kept = words-closed-signal-kept W sim;
       older-sender-refused = words-older-sender-refused W sim;

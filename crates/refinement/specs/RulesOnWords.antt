@@ -18,7 +18,7 @@ use Rattle.model.specs.Collections.{AtMost64BetweenCollections, Collecting}
 use Rattle.model.specs.WhileMarked.{AtMost64WhileMarked, AtMost64WhileMarkedInBatch}
 use Rattle.model.specs.BudgetAfterNothing.{BudgetAfterNothing, BudgetAsEventsSet}
 use Rattle.model.specs.Disconnected.{DisconnectedExactly, RetiresEmptyPaused, EmptyWithPausedItems, OnlyPausedItemsLeft, TargetedDisconnectedExactly}
-use Rattle.model.specs.LaneIds.{ThirteenExactly}
+use Rattle.model.specs.LaneIds.{ThirteenExactly, ElseSixOrAccepted}
 use Rattle.model.specs.ReceivesEnd.{EndsWithNothingLeft}
 use Rattle.model.specs.Signals.{IdleOnlyWhenEmpty, ClosedSignalKept, OlderSenderRefused}
 use Rattle.lane.specs.Table.{laneAt}
@@ -65,6 +65,7 @@ pub record KeepsRules (M : StoreCalls) : Type 0 where
   pub only-paused-items-left : OnlyPausedItemsLeft (viewedOf M)
   pub targeted-disconnected-exactly : TargetedDisconnectedExactly (viewedOf M)
   pub thirteen-exactly : ThirteenExactly (viewedOf M)
+  pub else-six-or-accepted : ElseSixOrAccepted (viewedOf M)
   pub idle-only-when-empty : IdleOnlyWhenEmpty (viewedOf M)
   pub closed-signal-kept : ClosedSignalKept (viewedOf M)
   pub older-sender-refused : OlderSenderRefused (viewedOf M)

@@ -24,7 +24,7 @@ use Rattle.model.specs.Opening.{openedState, openingOutcome}
 use Rattle.model.specs.Rules.{theRules}
 use Rattle.model.specs.Runs.{accepted, answers}
 use Rattle.model.specs.Simulation.{numbersOfId, numbersOfCall}
-use Rattle.model.specs.LaneIds.{AllAgree, NamesLane, NamesNoLane, ByLaneId, targets, pauses, resumes, closes, RefusedById, receiver-closed, no-such-lane}
+use Rattle.model.specs.LaneIds.{AllAgree, EqualExactly, NamesLane, NamesNoLane, ByLaneId, targets, pauses, resumes, closes, RefusedById, receiver-closed, no-such-lane}
 use Rattle.model.specs.Examples.Pairs.{Reads}
 use Rattle.model.specs.Examples.Example.{computeExamples, repeat, idOn, registers, sends, plain, fair, lane}
 use Rattle.model.specs.Examples.Calls.{compute}
@@ -83,6 +83,14 @@ closed-lane n = omega (arith, ap bit (n .registered), ap (λ (i : LaneId). bit (
 exchanged : AllAgree (idOn 7 2 1 3) (idOn 2 7 1 3) → ⊥
 unfolding computeLanes
 exchanged a = omega (arith, a .opening)
+
+-- so the two ids are not equal; and two ids with the same numbers are
+exchanged-differ : EqualExactly → idOn 7 2 1 3 ≡ idOn 2 7 1 3 → ⊥
+exchanged-differ t e = exchanged (t _ _ .0 e)
+
+same-numbers : EqualExactly → {i j : LaneId} → numbersOfId i ≡ numbersOfId j → i ≡ j
+unfolding numbersOfId
+same-numbers t e = t _ _ .1 (record { channel = cc; opening = cc; slot = cc; generation = cc })
 
 -- ---- refusal 13
 

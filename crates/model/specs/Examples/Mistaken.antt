@@ -12,17 +12,17 @@ use Rattle.model.specs.declared.SenderCall.the-variants.{TrySend, TrySen
 use Rattle.model.specs.declared.ReceiveCall.{ReceiveCall}
 use Rattle.model.specs.declared.ReceiveCall.the-variants.{TryRecvFrom}
 use Rattle.model.specs.declared.ControlCall.{ControlCall}
-use Rattle.model.specs.declared.ControlCall.the-variants.{Pause, Resume, CloseLane, ReleaseConsumed}
+use Rattle.model.specs.declared.ControlCall.the-variants.{Pause, Resume, CloseLane, ReleaseConsumed, CloseReceiver}
 use Rattle.model.specs.declared.Call.{Call}
 use Rattle.model.specs.declared.Call.the-variants.{Sender, Receive, Control}
 use Rattle.model.specs.declared.Answer.{Answer}
-use Rattle.model.specs.declared.Answer.the-variants.{Done, Item}
+use Rattle.model.specs.declared.Answer.the-variants.{Done, Registered, Item, Refused}
 use Rattle.model.specs.State.{State}
 use Rattle.model.specs.Outcome.{Outcome}
 use Rattle.model.specs.Runs.{Lent, Rules, allRuns, accepted, Tick, ends, handed, ticks, trace, afterList}
 use Rattle.model.specs.Rules.{theRules}
-use Rattle.model.specs.LaneIds.{NamesLane, ByLaneId, targets, pauses, resumes, closes, NamesNoLane, ThirteenExactly, RefusedById, ToldApart, OpeningsToldApartIn, OpeningsToldApart, OtherNumber, SavedIdsRefusedIn}
-use Rattle.model.specs.ShutOut.{callBy, rulesBy, TakenFor, asItIs, numberIgnored, upperHalfIgnored, channelIgnored, forNoLane, receiveTaking, controlTaking, takesIds, itemNamed, receiveNaming, namesItems, numberLost, senderCallsLoseNumber, receivesLoseNumber, controlsLoseNumber}
+use Rattle.model.specs.LaneIds.{NamesLane, ByLaneId, targets, pauses, resumes, closes, NamesNoLane, ThirteenExactly, ElseSixOrAccepted, RefusedById, ToldApart, OpeningsToldApartIn, OpeningsToldApart, OtherNumber, SavedOf, of-item, of-lane, SavedIdsRefusedIn}
+use Rattle.model.specs.ShutOut.{callBy, rulesBy, TakenFor, asItIs, Instead, asItComes, ownRefused, closedAccepted, receiveInstead, controlInstead, answersInstead, numberIgnored, upperHalfIgnored, channelIgnored, forNoLane, receiveTaking, controlTaking, takesIds, itemNamed, receiveNaming, namesItems, numberLost, senderCallsLoseNumber, receivesLoseNumber, controlsLoseNumber}
 use Rattle.model.specs.Examples.Example.{computeExamples, keyAt, idOn, registers, plain, fair, batch, pollsAll, held}
 use Rattle.model.specs.Examples.Calls.{compute}
 use Rattle.model.specs.Examples.FreePlaces.{untrue}
@@ -59,16 +59,16 @@ told R o lent d calls c after h =
 again : Opening → Opening
 again o = record { capacity = o .capacity; slots = o .slots; channel = o .channel; cursor = o .cursor; generation = o .generation; number = suc (o .number) }
 
--- an item's id, saved from one opening, in a call after the next
+-- an id, saved from one opening, in a call after the next
 saved : (R : Rules) (o next : Opening) (lent relent : R .Stores) → OtherNumber o next → (R .opens o lent) .0 ≡ Done → (R .opens next relent) .0 ≡ Done
-    → (calls : List Call) (c : Call) (v : ℕ) (i : LaneId) → answerAfter R o lent calls c ≡ Item v i
+    → (calls : List Call) (c : Call) (a : Answer) (i : LaneId) → answerAfter R o lent calls c ≡ a → SavedOf o a i
     → (later : List Call) (d : Call) (after : List Call) → ByLaneId i d → SavedIdsRefusedIn R (allRuns R) → RefusedById (answerAfter R next relent later d)
 unfolding SavedIdsRefusedIn
-saved R o next lent relent other p q calls c v i e later d after b h =
+saved R o next lent relent other p q calls c a i e s later d after b h =
     let first = subst (EndsIn R ((R .opens o lent) .1) (calls ++ (c ∷ [])) c) e (ends-in R ((R .opens o lent) .1) calls c []) in
     let second = ends-in R ((R .opens next relent) .1) later d after in
     h o next lent relent p q other (calls ++ (c ∷ [])) (later ++ (d ∷ after)) tt tt
-    (first .before) (first .rest) c v i (first .run) (second .before) (second .rest) d _ (second .run) b
+    (first .before) (first .rest) c a i (first .run) s (second .before) (second .rest) d _ (second .run) b
 
 -- ---- two runs
 
@@ -79,11 +79,18 @@ tiny = record { capacity = 1; slots = 1; channel = 0; cursor = 0; generation = 0
 unfoldable pub tinyLent : Lent
 tinyLent = record { rings = 1; table = 536 }
 
-moreLent : Lent
-moreLent = record { rings = 2; table = 600 }
+-- with other numbers but the channel, on other stores
+abbrev T : ℕ
+T = 9223372036854775808
 
--- with much in it: cursors that pass 2^64, generations from 4 on, the last number but two; one of each call, other lanes' sends, refused calls, a closed lane
--- and a slot that is issued again. Lane (1, 5) is then paused, and holds two items; lane (0, 4) holds one
+other : Opening
+other = record { capacity = 2; slots = 2; channel = 0; cursor = 5; generation = 1; number = T }
+
+moreLent : Lent
+moreLent = record { rings = 4; table = 600 }
+
+-- with much in it: cursors that pass 2^64, generations from 4 on, the last number but two; each call but the receiver's closing, other lanes' sends, refused calls,
+-- a closed lane and a slot that is issued again. Lane (1, 5) is then paused, and holds two items; lane (0, 4) holds one
 abbrev pub N : ℕ
 N = 18446744073709551613
 
@@ -137,7 +144,7 @@ unfoldable pub after : List Call
 after = sends 0 4 7 ∷ plain ∷ Sender (DropSender (keyAt 0 4)) ∷ held ∷ []
 
 computeMistaken : Unit {0}
-unfolding compute computeExamples again tiny tinyLent moreLent opening lent id paused sends calls after accepted handed ticks afterList callBy asItIs numberIgnored channelIgnored forNoLane receiveTaking controlTaking itemNamed receiveNaming numberLost
+unfolding compute computeExamples again tiny tinyLent other moreLent opening lent id paused sends calls after accepted handed ticks afterList callBy asItIs asItComes ownRefused closedAccepted receiveInstead controlInstead numberIgnored channelIgnored forNoLane receiveTaking controlTaking itemNamed receiveNaming numberLost
 computeMistaken = tt
 
 -- one call of each run, of any rules with document 01's opening
@@ -158,20 +165,20 @@ module _ (sending : State → SenderCall → Outcome) (receiving : State → Rec
       → answerAfter R tiny tinyLent (registers ∷ sends 0 0 0 ∷ []) plain ≡ Item 0 (idOn 0 0 0 0)
       → RefusedById (answerAfter R (again tiny) tinyLent (registers ∷ []) d)
   unfolding computeMistaken
-  saved-tiny d b t e = saved R tiny (again tiny) tinyLent tinyLent (λ z. omega (arith, z)) refl refl (registers ∷ sends 0 0 0 ∷ []) plain 0 (idOn 0 0 0 0) e (registers ∷ []) d [] b t
+  saved-tiny d b t e = saved R tiny (again tiny) tinyLent tinyLent (λ z. omega (arith, z)) refl refl (registers ∷ sends 0 0 0 ∷ []) plain _ _ e (of-item 0 (idOn 0 0 0 0)) (registers ∷ []) d [] b t
 
   saved-much : (d : Call) → ByLaneId (paused N) d → SavedIdsRefusedIn R (allRuns R)
       → answerAfter R opening lent (calls N) (Receive (TryRecvFrom (paused N))) ≡ Item 5 (paused N)
       → RefusedById (answerAfter R (again opening) lent (calls (suc N)) d)
   unfolding computeMistaken
-  saved-much d b t e = saved R opening (again opening) lent lent (λ z. omega (arith, z)) refl refl (calls N) (Receive (TryRecvFrom (paused N))) 5 (paused N) e (calls (suc N)) d after b t
+  saved-much d b t e = saved R opening (again opening) lent lent (λ z. omega (arith, z)) refl refl (calls N) (Receive (TryRecvFrom (paused N))) _ _ e (of-item 5 (paused N)) (calls (suc N)) d after b t
 
-  -- and in an opening with a lower number, on other stores
-  saved-back : (d : Call) → ByLaneId (idOn 0 1 0 0) d → SavedIdsRefusedIn R (allRuns R)
-      → answerAfter R (again tiny) tinyLent (registers ∷ sends 0 0 0 ∷ []) plain ≡ Item 0 (idOn 0 1 0 0)
-      → RefusedById (answerAfter R tiny moreLent (registers ∷ []) d)
+  -- of a lane just registered, and in an opening with another number that differs in its top bit alone, all else different too
+  saved-back : (d : Call) → ByLaneId (idOn 0 T 0 1) d → SavedIdsRefusedIn R (allRuns R)
+      → answerAfter R other moreLent [] registers ≡ Registered (keyAt 0 1)
+      → RefusedById (answerAfter R tiny tinyLent (registers ∷ Sender (DropSender (keyAt 0 0)) ∷ plain ∷ registers ∷ []) d)
   unfolding computeMistaken
-  saved-back d b t e = saved R (again tiny) tiny tinyLent moreLent (λ z. omega (arith, z)) refl refl (registers ∷ sends 0 0 0 ∷ []) plain 0 (idOn 0 1 0 0) e (registers ∷ []) d [] b t
+  saved-back d b t e = saved R other tiny moreLent tinyLent (λ z. omega (arith, z)) refl refl [] registers _ _ e (of-lane (keyAt 0 1)) (registers ∷ Sender (DropSender (keyAt 0 0)) ∷ plain ∷ registers ∷ []) d [] b t
 
 -- ---- ids taken for others, in one of the four calls by lane id
 
@@ -188,16 +195,16 @@ SavedRefusedBy f g h k = SavedIdsRefusedIn (takesIds f g h k) (allRuns (takesIds
 abbrev ThirteenBy : Claim
 ThirteenBy f g h k = ThirteenExactly record { rules = takesIds f g h k; runs = allRuns (takesIds f g h k); view = λ s. s; Ok = λ s. Unit {0} }
 
-abbrev EachShutOut : Claim → TakenFor → Type 0
-EachShutOut claim f =
-    (claim f asItIs asItIs asItIs → ⊥) × (claim asItIs f asItIs asItIs → ⊥) × (claim asItIs asItIs f asItIs → ⊥) × (claim asItIs asItIs asItIs f → ⊥)
+-- wrong in one call, as f has it, and right in the other three
+abbrev EachShutOut : {A : Type 0} → A → (A → A → A → A → Type 0) → A → Type 0
+EachShutOut r claim f = (claim f r r r → ⊥) × (claim r f r r → ⊥) × (claim r r f r → ⊥) × (claim r r r f → ⊥)
 
 -- the number of the next opening
 tiny-next : {c : Call} {a : Answer} → ByLaneId (idOn 0 1 0 0) c → ToldApart tiny c a → RefusedById a
 unfolding computeMistaken
 tiny-next b t = t .others-refused (idOn 0 1 0 0) b (λ q. omega (arith, ap (λ (x : OpenedChannel). x .opening) q))
 
-number-ignored-tiny : EachShutOut ToldApartBy numberIgnored
+number-ignored-tiny : EachShutOut asItIs ToldApartBy numberIgnored
 unfolding computeMistaken
 number-ignored-tiny = (
   λ t. untrue (not-accepted (tiny-next targets (in-tiny _ _ _ [] _ t))),
@@ -206,12 +213,12 @@ number-ignored-tiny = (
   λ t. untrue (not-accepted (tiny-next closes (in-tiny _ _ _ [] _ t))),
 )
 
--- a number that differs in its upper half alone
-tiny-upper : {c : Call} {a : Answer} → ByLaneId (idOn 0 4294967296 0 0) c → ToldApart tiny c a → RefusedById a
+-- a number that differs in its top bit alone
+tiny-upper : {c : Call} {a : Answer} → ByLaneId (idOn 0 T 0 0) c → ToldApart tiny c a → RefusedById a
 unfolding computeMistaken
-tiny-upper b t = t .others-refused (idOn 0 4294967296 0 0) b (λ q. omega (arith, ap (λ (x : OpenedChannel). x .opening) q))
+tiny-upper b t = t .others-refused (idOn 0 T 0 0) b (λ q. omega (arith, ap (λ (x : OpenedChannel). x .opening) q))
 
-upper-half-ignored-tiny : EachShutOut ToldApartBy upperHalfIgnored
+upper-half-ignored-tiny : EachShutOut asItIs ToldApartBy upperHalfIgnored
 unfolding computeMistaken upperHalfIgnored
 upper-half-ignored-tiny = (
   λ t. untrue (not-accepted (tiny-upper targets (in-tiny _ _ _ [] _ t))),
@@ -225,7 +232,7 @@ much-last : {c : Call} {a : Answer} → ByLaneId (paused 18446744073709551612) c
 unfolding computeMistaken
 much-last b t = t .others-refused (paused 18446744073709551612) b (λ q. omega (arith, ap (λ (x : OpenedChannel). x .opening) q))
 
-number-ignored : EachShutOut ToldApartBy numberIgnored
+number-ignored : EachShutOut asItIs ToldApartBy numberIgnored
 unfolding computeMistaken
 number-ignored = (
   λ t. untrue (not-accepted (much-last targets (in-much _ _ _ _ t))),
@@ -234,7 +241,7 @@ number-ignored = (
   λ t. untrue (not-accepted (much-last closes (in-much _ _ _ _ t))),
 )
 
-saved-id-taken-tiny : EachShutOut SavedRefusedBy numberIgnored
+saved-id-taken-tiny : EachShutOut asItIs SavedRefusedBy numberIgnored
 unfolding computeMistaken
 saved-id-taken-tiny = (
   λ t. untrue (not-accepted (saved-tiny _ _ _ _ targets t refl)),
@@ -243,7 +250,7 @@ saved-id-taken-tiny = (
   λ t. untrue (not-accepted (saved-tiny _ _ _ _ closes t refl)),
 )
 
-saved-id-taken : EachShutOut SavedRefusedBy numberIgnored
+saved-id-taken : EachShutOut asItIs SavedRefusedBy numberIgnored
 unfolding computeMistaken
 saved-id-taken = (
   λ t. untrue (not-accepted (saved-much _ _ _ _ targets t refl)),
@@ -252,7 +259,7 @@ saved-id-taken = (
   λ t. untrue (not-accepted (saved-much _ _ _ _ closes t refl)),
 )
 
-saved-id-taken-back : EachShutOut SavedRefusedBy numberIgnored
+saved-id-taken-back : EachShutOut asItIs SavedRefusedBy numberIgnored
 unfolding computeMistaken
 saved-id-taken-back = (
   λ t. untrue (not-accepted (saved-back _ _ _ _ targets t refl)),
@@ -262,7 +269,7 @@ saved-id-taken-back = (
 )
 
 -- another channel, with this number
-channel-ignored-tiny : EachShutOut ToldApartBy channelIgnored
+channel-ignored-tiny : EachShutOut asItIs ToldApartBy channelIgnored
 unfolding computeMistaken
 channel-ignored-tiny = (
   λ t. untrue (not-accepted (other targets (in-tiny _ _ _ [] _ t))),
@@ -274,7 +281,7 @@ channel-ignored-tiny = (
     other : {c : Call} {a : Answer} → ByLaneId (idOn 1 0 0 0) c → ToldApart tiny c a → RefusedById a
     other b t = t .others-refused (idOn 1 0 0 0) b (λ q. omega (arith, ap (λ (x : OpenedChannel). x .id) q))
 
-channel-ignored : EachShutOut ToldApartBy channelIgnored
+channel-ignored : EachShutOut asItIs ToldApartBy channelIgnored
 unfolding computeMistaken
 channel-ignored = (
   λ t. untrue (not-accepted (other targets (in-much _ _ _ _ t))),
@@ -290,7 +297,7 @@ channel-ignored = (
 tinyLane : State
 tinyLane = afterList theRules ((theRules .opens tiny tinyLent) .1) (registers ∷ [])
 
-none-known-tiny : EachShutOut ThirteenBy forNoLane
+none-known-tiny : EachShutOut asItIs ThirteenBy forNoLane
 unfolding computeMistaken ThirteenExactly tinyLane
 none-known-tiny = (
   λ t. not-of-a-lane there targets ((t tinyLane tt _) .0 refl),
@@ -302,7 +309,7 @@ none-known-tiny = (
     there : NamesLane tinyLane (idOn 0 0 0 0)
     there = record { slot = 0; registered = refl; same = refl }
 
-none-known : EachShutOut ThirteenBy forNoLane
+none-known : EachShutOut asItIs ThirteenBy forNoLane
 unfolding computeMistaken ThirteenExactly
 none-known = (
   λ t. not-of-a-lane there targets ((t at tt _) .0 refl),
@@ -318,7 +325,7 @@ none-known = (
     there = record { slot = 1; registered = refl; same = refl }
 
 -- and the other way round: an id known, though no lane has it
-too-many-known : EachShutOut ThirteenBy numberIgnored
+too-many-known : EachShutOut asItIs ThirteenBy numberIgnored
 unfolding computeMistaken ThirteenExactly tinyLane
 too-many-known = (
   λ t. untrue (ap accepted ((t tinyLane tt _) .1 (none targets))),
@@ -329,6 +336,35 @@ too-many-known = (
   where
     none : {c : Call} → ByLaneId (idOn 0 1 0 0) c → NamesNoLane tinyLane c
     none b = record { id = idOn 0 1 0 0; by-id = b; is-open = refl; no-lane = λ n. omega (arith, ap (λ (i : LaneId). i .channel .opening) (n .same)) }
+
+-- ---- a lane's own id refused, and a call accepted though the receiver is closed, in one of the four
+
+abbrev AcceptedBy : (targeted paused resumed closed : Instead) → Type 0
+AcceptedBy f g h k = ElseSixOrAccepted record { rules = answersInstead f g h k; runs = allRuns (answersInstead f g h k); view = λ s. s; Ok = λ s. Unit {0} }
+
+own-refused : EachShutOut asItComes AcceptedBy ownRefused
+unfolding computeMistaken ElseSixOrAccepted tinyLane
+own-refused = (
+  λ t. untrue (sym ((t tinyLane tt _ _ targets) .accepts refl there)),
+  λ t. untrue (sym ((t tinyLane tt _ _ pauses) .accepts refl there)),
+  λ t. untrue (sym ((t tinyLane tt _ _ resumes) .accepts refl there)),
+  λ t. untrue (sym ((t tinyLane tt _ _ closes) .accepts refl there)),
+)
+  where
+    there : NamesLane tinyLane (idOn 0 0 0 0)
+    there = record { slot = 0; registered = refl; same = refl }
+
+closed-accepted : EachShutOut asItComes AcceptedBy closedAccepted
+unfolding computeMistaken ElseSixOrAccepted tinyLane
+closed-accepted = (
+  λ t. untrue (ap accepted ((t shut tt (idOn 0 0 0 0) _ targets) .six refl)),
+  λ t. untrue (ap accepted ((t shut tt (idOn 0 0 0 0) _ pauses) .six refl)),
+  λ t. untrue (ap accepted ((t shut tt (idOn 0 0 0 0) _ resumes) .six refl)),
+  λ t. untrue (ap accepted ((t shut tt (idOn 0 0 0 0) _ closes) .six refl)),
+)
+  where
+    shut : State
+    shut = afterList theRules tinyLane (Control CloseReceiver ∷ [])
 
 -- ---- items whose ids have another number
 
@@ -346,13 +382,21 @@ unfolding computeMistaken itself numbered onChannel
 computeItems = tt
 
 -- the next number, by a plain, a fair and a targeted receive
-tiny-carries : {c : Call} → ToldApart tiny c (Item 0 (idOn 0 1 0 0)) → ⊥
+tiny-carries-of : (n : ℕ) {c : Call} → 1 ≤ n → ToldApart tiny c (Item 0 (idOn 0 n 0 0)) → ⊥
 unfolding computeItems
-tiny-carries t = omega (arith, ap (λ (x : OpenedChannel). x .opening) (t .items-carry 0 (idOn 0 1 0 0) refl))
+tiny-carries-of n some t = omega (arith, ap (λ (x : OpenedChannel). x .opening) (t .items-carry 0 (idOn 0 n 0 0) refl))
+
+tiny-carries : {c : Call} → ToldApart tiny c (Item 0 (idOn 0 1 0 0)) → ⊥
+tiny-carries = tiny-carries-of 1 (omega arith)
 
 plain-misnames-tiny : OpeningsToldApart (namesItems (numbered 1) itself itself) → ⊥
 unfolding computeItems
 plain-misnames-tiny t = tiny-carries (in-tiny _ _ _ (sends 0 0 0 ∷ []) plain t)
+
+-- one with another top bit
+plain-misnames-upper-tiny : OpeningsToldApart (namesItems (numbered T) itself itself) → ⊥
+unfolding computeItems
+plain-misnames-upper-tiny t = tiny-carries-of T (omega arith) (in-tiny _ _ _ (sends 0 0 0 ∷ []) plain t)
 
 fair-misnames-tiny : OpeningsToldApart (namesItems itself (numbered 1) itself) → ⊥
 unfolding computeItems
