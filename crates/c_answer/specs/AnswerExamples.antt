@@ -19,7 +19,7 @@ key = record { slot = 3; generation = 8 }
 id : LaneId
 id = record { channel = record { id = 7; opening = 6 }; key = record { slot = 3; generation = 8 } }
 
--- words[1] to words[4] of an item are an id's four numbers in this order; that the exported calls take them in it is run (tests/port, rust/src/calls.rs)
+-- words[1] to words[4] of an item are an id's four numbers in this order; that the exported calls take them in it is run (tests/port/calls.rs, rust/src/calls/tests.rs)
 id-of-numbers : laneId 7 3 8 6 ≡ id
 unfolding id
 id-of-numbers = refl

@@ -277,54 +277,40 @@ channelIgnored s i = record { channel = record { id = s .channel .id; opening = 
 unfoldable pub forNoLane : TakenFor
 forNoLane s i = record { channel = i .channel; key = record { slot = s .slots; generation = i .key .generation } }
 
-unfoldable pub receiveTaking : TakenFor → State → ReceiveCall → Outcome
-receiveTaking f s (TryRecvFrom i) = receiveOutcome s (TryRecvFrom (f s i))
-receiveTaking f s TryRecv = receiveOutcome s TryRecv
-receiveTaking f s TryRecvFair = receiveOutcome s TryRecvFair
-receiveTaking f s (TryRecvBatchInto limit room) = receiveOutcome s (TryRecvBatchInto limit room)
+-- What a call by id i does otherwise: `run j` is the call by id j.
+abbrev pub Otherwise : Type 0
+Otherwise = State → LaneId → (LaneId → Outcome) → Outcome
 
-unfoldable pub controlTaking : TakenFor → TakenFor → TakenFor → State → ControlCall → Outcome
-controlTaking f g h s (Pause i) = controlOutcome s (Pause (f s i))
-controlTaking f g h s (Resume i) = controlOutcome s (Resume (g s i))
-controlTaking f g h s (CloseLane i) = controlOutcome s (CloseLane (h s i))
-controlTaking f g h s ReleaseConsumed = controlOutcome s ReleaseConsumed
-controlTaking f g h s PollAllLanes = controlOutcome s PollAllLanes
-controlTaking f g h s CloseReceiver = controlOutcome s CloseReceiver
-controlTaking f g h s CountHeld = controlOutcome s CountHeld
+unfoldable pub taking : TakenFor → Otherwise
+taking f s i run = run (f s i)
+
+-- 6 to a lane's own id, though the receiver is open; accepted, though it is closed.
+unfoldable pub ownRefused : Otherwise
+ownRefused s i run = if (both (s .isOpen) (hasLaneId s i)) (says (Refused ReceiverClosed) s) (run i)
+
+unfoldable pub closedAccepted : Otherwise
+closedAccepted s i run = if (s .isOpen) (run i) (says Done s)
+
+unfoldable pub receiveOtherwise : Otherwise → State → ReceiveCall → Outcome
+receiveOtherwise f s (TryRecvFrom i) = f s i (λ j. receiveOutcome s (TryRecvFrom j))
+receiveOtherwise f s TryRecv = receiveOutcome s TryRecv
+receiveOtherwise f s TryRecvFair = receiveOutcome s TryRecvFair
+receiveOtherwise f s (TryRecvBatchInto limit room) = receiveOutcome s (TryRecvBatchInto limit room)
+
+unfoldable pub controlOtherwise : Otherwise → Otherwise → Otherwise → State → ControlCall → Outcome
+controlOtherwise f g h s (Pause i) = f s i (λ j. controlOutcome s (Pause j))
+controlOtherwise f g h s (Resume i) = g s i (λ j. controlOutcome s (Resume j))
+controlOtherwise f g h s (CloseLane i) = h s i (λ j. controlOutcome s (CloseLane j))
+controlOtherwise f g h s ReleaseConsumed = controlOutcome s ReleaseConsumed
+controlOtherwise f g h s PollAllLanes = controlOutcome s PollAllLanes
+controlOtherwise f g h s CloseReceiver = controlOutcome s CloseReceiver
+controlOtherwise f g h s CountHeld = controlOutcome s CountHeld
+
+abbrev pub doOtherwise : (targeted paused resumed closed : Otherwise) → Rules
+doOtherwise targeted paused resumed closed = rulesBy senderOutcome (receiveOtherwise targeted) (controlOtherwise paused resumed closed)
 
 abbrev pub takesIds : (targeted paused resumed closed : TakenFor) → Rules
-takesIds targeted paused resumed closed = rulesBy senderOutcome (receiveTaking targeted) (controlTaking paused resumed closed)
-
--- Calls by lane id with another outcome than o: 6 to a lane's own id, though the receiver is open; accepted, though it is closed.
-abbrev pub Instead : Type 0
-Instead = State → LaneId → Outcome → Outcome
-
-unfoldable pub asItComes : Instead
-asItComes s i o = o
-
-unfoldable pub ownRefused : Instead
-ownRefused s i o = if (both (s .isOpen) (hasLaneId s i)) (says (Refused ReceiverClosed) s) o
-
-unfoldable pub closedAccepted : Instead
-closedAccepted s i o = if (s .isOpen) o (says Done s)
-
-unfoldable pub receiveInstead : Instead → State → ReceiveCall → Outcome
-receiveInstead f s (TryRecvFrom i) = f s i (receiveOutcome s (TryRecvFrom i))
-receiveInstead f s TryRecv = receiveOutcome s TryRecv
-receiveInstead f s TryRecvFair = receiveOutcome s TryRecvFair
-receiveInstead f s (TryRecvBatchInto limit room) = receiveOutcome s (TryRecvBatchInto limit room)
-
-unfoldable pub controlInstead : Instead → Instead → Instead → State → ControlCall → Outcome
-controlInstead f g h s (Pause i) = f s i (controlOutcome s (Pause i))
-controlInstead f g h s (Resume i) = g s i (controlOutcome s (Resume i))
-controlInstead f g h s (CloseLane i) = h s i (controlOutcome s (CloseLane i))
-controlInstead f g h s ReleaseConsumed = controlOutcome s ReleaseConsumed
-controlInstead f g h s PollAllLanes = controlOutcome s PollAllLanes
-controlInstead f g h s CloseReceiver = controlOutcome s CloseReceiver
-controlInstead f g h s CountHeld = controlOutcome s CountHeld
-
-abbrev pub answersInstead : (targeted paused resumed closed : Instead) → Rules
-answersInstead targeted paused resumed closed = rulesBy senderOutcome (receiveInstead targeted) (controlInstead paused resumed closed)
+takesIds targeted paused resumed closed = doOtherwise (taking targeted) (taking paused) (taking resumed) (taking closed)
 
 -- Items with another id.
 unfoldable pub itemNamed : (LaneId → LaneId) → Answer → Answer

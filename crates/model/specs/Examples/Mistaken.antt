@@ -22,7 +22,7 @@ use Rattle.model.specs.Outcome.{Outcome}
 use Rattle.model.specs.Runs.{Lent, Rules, allRuns, accepted, Tick, ends, handed, ticks, trace, afterList}
 use Rattle.model.specs.Rules.{theRules}
 use Rattle.model.specs.LaneIds.{NamesLane, ByLaneId, targets, pauses, resumes, closes, NamesNoLane, ThirteenExactly, ElseSixOrAccepted, RefusedById, ToldApart, OpeningsToldApartIn, OpeningsToldApart, OtherNumber, SavedOf, of-item, of-lane, SavedIdsRefusedIn}
-use Rattle.model.specs.ShutOut.{callBy, rulesBy, TakenFor, asItIs, Instead, asItComes, ownRefused, closedAccepted, receiveInstead, controlInstead, answersInstead, numberIgnored, upperHalfIgnored, channelIgnored, forNoLane, receiveTaking, controlTaking, takesIds, itemNamed, receiveNaming, namesItems, numberLost, senderCallsLoseNumber, receivesLoseNumber, controlsLoseNumber}
+use Rattle.model.specs.ShutOut.{callBy, rulesBy, TakenFor, asItIs, Otherwise, taking, ownRefused, closedAccepted, receiveOtherwise, controlOtherwise, doOtherwise, numberIgnored, upperHalfIgnored, channelIgnored, forNoLane, takesIds, itemNamed, receiveNaming, namesItems, numberLost, senderCallsLoseNumber, receivesLoseNumber, controlsLoseNumber}
 use Rattle.model.specs.Examples.Example.{computeExamples, keyAt, idOn, registers, plain, fair, batch, pollsAll, held}
 use Rattle.model.specs.Examples.Calls.{compute}
 use Rattle.model.specs.Examples.FreePlaces.{untrue}
@@ -79,12 +79,13 @@ tiny = record { capacity = 1; slots = 1; channel = 0; cursor = 0; generation = 0
 unfoldable pub tinyLent : Lent
 tinyLent = record { rings = 1; table = 536 }
 
--- with other numbers but the channel, on other stores
-abbrev T : ℕ
-T = 9223372036854775808
+-- 2 ^ 63
+abbrev topBit : ℕ
+topBit = 9223372036854775808
 
-other : Opening
-other = record { capacity = 2; slots = 2; channel = 0; cursor = 5; generation = 1; number = T }
+-- unlike tiny in all but the channel, on other stores
+unlike : Opening
+unlike = record { capacity = 2; slots = 2; channel = 0; cursor = 5; generation = 1; number = topBit }
 
 moreLent : Lent
 moreLent = record { rings = 4; table = 600 }
@@ -144,7 +145,7 @@ unfoldable pub after : List Call
 after = sends 0 4 7 ∷ plain ∷ Sender (DropSender (keyAt 0 4)) ∷ held ∷ []
 
 computeMistaken : Unit {0}
-unfolding compute computeExamples again tiny tinyLent other moreLent opening lent id paused sends calls after accepted handed ticks afterList callBy asItIs asItComes ownRefused closedAccepted receiveInstead controlInstead numberIgnored channelIgnored forNoLane receiveTaking controlTaking itemNamed receiveNaming numberLost
+unfolding compute computeExamples again tiny tinyLent unlike moreLent opening lent id paused sends calls after accepted handed ticks afterList callBy asItIs taking ownRefused closedAccepted receiveOtherwise controlOtherwise numberIgnored channelIgnored forNoLane itemNamed receiveNaming numberLost
 computeMistaken = tt
 
 -- one call of each run, of any rules with document 01's opening
@@ -174,11 +175,11 @@ module _ (sending : State → SenderCall → Outcome) (receiving : State → Rec
   saved-much d b t e = saved R opening (again opening) lent lent (λ z. omega (arith, z)) refl refl (calls N) (Receive (TryRecvFrom (paused N))) _ _ e (of-item 5 (paused N)) (calls (suc N)) d after b t
 
   -- of a lane just registered, and in an opening with another number that differs in its top bit alone, all else different too
-  saved-back : (d : Call) → ByLaneId (idOn 0 T 0 1) d → SavedIdsRefusedIn R (allRuns R)
-      → answerAfter R other moreLent [] registers ≡ Registered (keyAt 0 1)
+  saved-back : (d : Call) → ByLaneId (idOn 0 topBit 0 1) d → SavedIdsRefusedIn R (allRuns R)
+      → answerAfter R unlike moreLent [] registers ≡ Registered (keyAt 0 1)
       → RefusedById (answerAfter R tiny tinyLent (registers ∷ Sender (DropSender (keyAt 0 0)) ∷ plain ∷ registers ∷ []) d)
   unfolding computeMistaken
-  saved-back d b t e = saved R other tiny moreLent tinyLent (λ z. omega (arith, z)) refl refl [] registers _ _ e (of-lane (keyAt 0 1)) (registers ∷ Sender (DropSender (keyAt 0 0)) ∷ plain ∷ registers ∷ []) d [] b t
+  saved-back d b t e = saved R unlike tiny moreLent tinyLent (λ z. omega (arith, z)) refl refl [] registers _ _ e (of-lane (keyAt 0 1)) (registers ∷ Sender (DropSender (keyAt 0 0)) ∷ plain ∷ registers ∷ []) d [] b t
 
 -- ---- ids taken for others, in one of the four calls by lane id
 
@@ -214,9 +215,9 @@ number-ignored-tiny = (
 )
 
 -- a number that differs in its top bit alone
-tiny-upper : {c : Call} {a : Answer} → ByLaneId (idOn 0 T 0 0) c → ToldApart tiny c a → RefusedById a
+tiny-upper : {c : Call} {a : Answer} → ByLaneId (idOn 0 topBit 0 0) c → ToldApart tiny c a → RefusedById a
 unfolding computeMistaken
-tiny-upper b t = t .others-refused (idOn 0 T 0 0) b (λ q. omega (arith, ap (λ (x : OpenedChannel). x .opening) q))
+tiny-upper b t = t .others-refused (idOn 0 topBit 0 0) b (λ q. omega (arith, ap (λ (x : OpenedChannel). x .opening) q))
 
 upper-half-ignored-tiny : EachShutOut asItIs ToldApartBy upperHalfIgnored
 unfolding computeMistaken upperHalfIgnored
@@ -339,10 +340,10 @@ too-many-known = (
 
 -- ---- a lane's own id refused, and a call accepted though the receiver is closed, in one of the four
 
-abbrev AcceptedBy : (targeted paused resumed closed : Instead) → Type 0
-AcceptedBy f g h k = ElseSixOrAccepted record { rules = answersInstead f g h k; runs = allRuns (answersInstead f g h k); view = λ s. s; Ok = λ s. Unit {0} }
+abbrev AcceptedBy : (targeted paused resumed closed : Otherwise) → Type 0
+AcceptedBy f g h k = ElseSixOrAccepted record { rules = doOtherwise f g h k; runs = allRuns (doOtherwise f g h k); view = λ s. s; Ok = λ s. Unit {0} }
 
-own-refused : EachShutOut asItComes AcceptedBy ownRefused
+own-refused : EachShutOut (taking asItIs) AcceptedBy ownRefused
 unfolding computeMistaken ElseSixOrAccepted tinyLane
 own-refused = (
   λ t. untrue (sym ((t tinyLane tt _ _ targets) .accepts refl there)),
@@ -354,7 +355,7 @@ own-refused = (
     there : NamesLane tinyLane (idOn 0 0 0 0)
     there = record { slot = 0; registered = refl; same = refl }
 
-closed-accepted : EachShutOut asItComes AcceptedBy closedAccepted
+closed-accepted : EachShutOut (taking asItIs) AcceptedBy closedAccepted
 unfolding computeMistaken ElseSixOrAccepted tinyLane
 closed-accepted = (
   λ t. untrue (ap accepted ((t shut tt (idOn 0 0 0 0) _ targets) .six refl)),
@@ -394,9 +395,9 @@ unfolding computeItems
 plain-misnames-tiny t = tiny-carries (in-tiny _ _ _ (sends 0 0 0 ∷ []) plain t)
 
 -- one with another top bit
-plain-misnames-upper-tiny : OpeningsToldApart (namesItems (numbered T) itself itself) → ⊥
+plain-misnames-upper-tiny : OpeningsToldApart (namesItems (numbered topBit) itself itself) → ⊥
 unfolding computeItems
-plain-misnames-upper-tiny t = tiny-carries-of T (omega arith) (in-tiny _ _ _ (sends 0 0 0 ∷ []) plain t)
+plain-misnames-upper-tiny t = tiny-carries-of topBit (omega arith) (in-tiny _ _ _ (sends 0 0 0 ∷ []) plain t)
 
 fair-misnames-tiny : OpeningsToldApart (namesItems itself (numbered 1) itself) → ⊥
 unfolding computeItems

@@ -23,7 +23,7 @@ use Rattle.model.specs.Receive.{writtenTo}
 use Rattle.model.specs.Rules.{theRules}
 use Rattle.model.specs.Demand2.{HasRoom}
 use Rattle.model.specs.Renumbered.{renumberedOpening, renumberedId, renumberedReceive, renumberedControl, renumberedCall, renumberedAnswer, renumberedTick, NumberOnlyTellsIdsIn, NumberOnlyTellsIds}
-use Rattle.model.specs.ShutOut.{callBy, sendRefused, receiveOfFront, countsNone, asItIs, numberIgnored, receiveTaking, controlTaking, takesIds, ifNumbered, numberedSendFull, numberedFairFront, numberedHeldZero, issuedNumbered, registerNumbered, generationsNumbered, laterForThis, numberedWritesNothing, outputBy, opensUnnumbered}
+use Rattle.model.specs.ShutOut.{callBy, sendRefused, receiveOfFront, countsNone, asItIs, numberIgnored, taking, receiveOtherwise, controlOtherwise, takesIds, ifNumbered, numberedSendFull, numberedFairFront, numberedHeldZero, issuedNumbered, registerNumbered, generationsNumbered, laterForThis, numberedWritesNothing, outputBy, opensUnnumbered}
 use Rattle.model.specs.Examples.Pairs.{Reads}
 use Rattle.model.specs.Examples.Example.{computeExamples, keyAt, idOn, registers, plain, fair, batch, held, pollsAll}
 use Rattle.model.specs.Examples.Calls.{compute}
@@ -31,7 +31,7 @@ use Rattle.model.specs.Examples.FreePlaces.{untrue}
 use Rattle.model.specs.Examples.Mistaken.{tiny, tinyLent, N, opening, lent, id, paused, sends, calls, after}
 
 computeRenumbered : Unit {0}
-unfolding compute computeExamples number line tiny tinyLent opening lent id paused sends calls after accepted handed ticks trace renumberedReceive renumberedControl renumberedCall renumberedAnswer renumberedTick callBy sendRefused receiveOfFront countsNone asItIs numberIgnored receiveTaking controlTaking ifNumbered issuedNumbered registerNumbered laterForThis
+unfolding compute computeExamples number line tiny tinyLent opening lent id paused sends calls after accepted handed ticks trace renumberedReceive renumberedControl renumberedCall renumberedAnswer renumberedTick callBy sendRefused receiveOfFront countsNone asItIs numberIgnored taking receiveOtherwise controlOtherwise ifNumbered issuedNumbered registerNumbered laterForThis
 computeRenumbered = tt
 
 -- ---- the words
