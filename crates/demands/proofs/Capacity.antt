@@ -96,8 +96,8 @@ give-item-capacity p y q vs back = refl
 pub move-rings-fit : {s u : State} {t : Tick} → RingsFit s → Moves s t u → RingsFit u
 move-rings-fit r (stays-put s c a h) = r
 move-rings-fit r (credits s c a h) = rings-fit-quiet s _ (release-all-quiet s) r
-move-rings-fit r (registers-new s m e lt) = rings-fit-put s _ (s .issued) _ (λ y. refl) refl (λ h. new-lane-fits (s .capacity) (s .firstGeneration) (s .slotOf (s .issued)) (r .positive)) r
-move-rings-fit r (registers-old s m x f e) = rings-fit-put s _ x _ (λ y. refl) refl (λ h. new-lane-fits (s .capacity) (s .slotOf x .generation + 1) (s .slotOf x) (r .positive)) r
+move-rings-fit r (registers-new s m lt) = rings-fit-put s _ (s .issued) _ (λ y. refl) refl (λ h. new-lane-fits (s .capacity) (s .firstGeneration) (s .slotOf (s .issued)) (r .positive)) r
+move-rings-fit r (registers-old s m x i l) = rings-fit-put s _ x _ (λ y. refl) refl (λ h. new-lane-fits (s .capacity) (s .slotOf x .generation + 1) (s .slotOf x) (r .positive)) r
 move-rings-fit r (sends s k v w free a g nf) = rings-fit-put s _ (k .slot) _ (λ y. refl) refl (λ h. fits-push s (k .slot) v (signalled (pushed v (s .slotOf (k .slot)))) nf refl refl (r .each-fits (k .slot) h)) r
 move-rings-fit r (posts s k v w free a g nf) = rings-fit-put s _ (k .slot) _ (λ y. refl) refl (λ h. fits-push s (k .slot) v (pushed v (s .slotOf (k .slot))) nf refl refl (r .each-fits (k .slot) h)) r
 move-rings-fit r (drops-it s k a) = rings-fit-put s _ (k .slot) _ (λ y. refl) refl (λ h. fits-same (s .capacity) (s .slotOf (k .slot)) (signalled (senderDropped (s .slotOf (k .slot)))) refl (omega arith) (r .each-fits (k .slot) h)) r

@@ -13,6 +13,7 @@ use Rattle.model.specs.declared.ReceiveCall.the-variants.{TryRecvFrom}
 use Rattle.model.specs.declared.SenderCall.the-variants.{RegisterSender}
 use Rattle.model.specs.declared.Call.{Call}
 use Rattle.model.specs.declared.Call.the-variants.{Sender, Receive}
+use Rattle.model.specs.declared.Answer.{Answer}
 use Rattle.model.specs.Lists.{if}
 use Rattle.model.specs.State.{State, keyOf}
 use Rattle.model.specs.Ready.{collectReadyGroup, collectReady}
@@ -25,7 +26,8 @@ use Rattle.model.specs.OneTurn.{AtMost64InOneTurn}
 use Rattle.model.specs.Collections.{AtMost64BetweenCollections, TakesOneGroup, TakesAllGroups, StandsAfterLast, NothingToCollect, Collecting}
 use Rattle.model.specs.Disconnected.{NoSenderLives, NoLaneRegistered, EmptyOnesRetired, SameLane, PausedWithItems, Looks, Drained, DisconnectedExactly, RetiresEmptyPaused, EmptyWithPausedItems, OnlyPausedItemsLeft, TargetedDisconnectedExactly}
 use Rattle.model.specs.LaneIds.{ThirteenExactly, SixOrAccepted, ElseSixOrAccepted}
-use Rattle.model.specs.Signals.{dropsSender, FoundEmptyBy, IdleOnlyWhenEmpty, ClosedAfter, ClosedSignalKept, OlderSenderRefused}
+use Rattle.model.specs.Signals.{dropsSender, FoundEmptyBy, IdleOnlyWhenEmpty, ClosedAfter, ClosedSignalKept}
+use Rattle.model.specs.Registration.{TakesFirstClear, TakesNextUnused, EightExactly, NineExactly, RefusedOnlyInVain}
 use Rattle.model.specs.PollLoop.{NothingLeft}
 use Rattle.model.specs.ReceivesEnd.{itemsAsked, EndsWithNothingLeft}
 use Rattle.model.specs.Simulation.{Simulation}
@@ -35,7 +37,8 @@ use Rattle.demands.proofs.Collections.{at-most-64-between-collections, 
 use Rattle.demands.proofs.Disconnected.{disconnected-exactly, retires-empty-paused, empty-with-paused-items, only-paused-items-left, targeted-disconnected-exactly}
 use Rattle.demands.proofs.LaneIds.{thirteen-exactly, else-six-or-accepted}
 use Rattle.demands.proofs.IdleWhenEmpty.{idle-only-when-empty}
-use Rattle.demands.proofs.ClosedSignal.{closed-signal-kept, older-sender-refused}
+use Rattle.demands.proofs.ClosedSignal.{closed-signal-kept}
+use Rattle.demands.proofs.Registration.{takes-first-clear, takes-next-unused, eight-exactly, nine-exactly, refused-only-in-vain}
 use Rattle.demands.proofs.ReceivesEnd.{ends-with-nothing-left}
 use Rattle.demands.proofs.Simulation.{accepted-too, opened-after, opened-events}
 
@@ -175,12 +178,37 @@ module _ (W : Viewed) (sim : Simulation W) where
         same-key = ap (λ (u : State). keyOf u x) back ∙ k .same-key;
       }
 
-  pub words-older-sender-refused : OlderSenderRefused W
-  unfolding OlderSenderRefused
-  words-older-sender-refused s o x f most e l p n =
-      let c = Sender (RegisterSender most) in
-      let k = older-sender-refused (W .view s) tt x f most e l p n in
-      (sim .answers-alike s c o ∙ k .0, sim .leaves-alike s c o ∙ k .1)
+  -- ---- registrations
+
+  -- two equations of the rules, of calls that answer and leave as they do
+  module _ (s : W .rules .State) (o : W .Ok s) (c : Call) (a : Answer) (u : State) where
+    as-rules : ((theRules .step (W .view s) c) .0 ≡ a) × ((theRules .step (W .view s) c) .1 ≡ u) → (answerOf W s c ≡ a) × (viewAfter W s c ≡ u)
+    as-rules k = (sim .answers-alike s c o ∙ k .0, sim .leaves-alike s c o ∙ k .1)
+
+  pub words-takes-first-clear : TakesFirstClear W
+  unfolding TakesFirstClear
+  words-takes-first-clear s o most x p q l c = as-rules s o _ _ _ (takes-first-clear (W .view s) (sim .shows-in-order s o) most x p q l c)
+
+  pub words-takes-next-unused : TakesNextUnused W
+  unfolding TakesNextUnused
+  words-takes-next-unused s o most l e h = as-rules s o _ _ _ (takes-next-unused (W .view s) tt most l e h)
+
+  pub words-eight-exactly : EightExactly W
+  unfolding EightExactly
+  words-eight-exactly s o c =
+      let k = eight-exactly (W .view s) tt c in
+      (λ e. k .0 (sym (sim .answers-alike s c o) ∙ e), λ v e. sim .answers-alike s c o ∙ k .1 v e)
+
+  pub words-nine-exactly : NineExactly W
+  unfolding NineExactly
+  words-nine-exactly s o c =
+      let k = nine-exactly (W .view s) tt c in
+      (λ e. k .0 (sym (sim .answers-alike s c o) ∙ e), λ v e. sim .answers-alike s c o ∙ k .1 v e)
+
+  pub words-refused-only-in-vain : RefusedOnlyInVain W
+  unfolding RefusedOnlyInVain
+  words-refused-only-in-vain s o most why l e =
+      refused-only-in-vain (W .view s) tt most why l (sym (sim .answers-alike s (Sender (RegisterSender most)) o) ∙ e)
 
   -- ---- collections, by steps that do what the rules' do
 

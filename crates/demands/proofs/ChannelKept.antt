@@ -30,8 +30,8 @@ move-channel : {s u : State} {t : Tick} → Moves s t u → u .channel ≡ s .ch
 unfolding retireLane
 move-channel (stays-put s c a h) = refl
 move-channel (credits s c a h) = release-all-quiet s .channels
-move-channel (registers-new s m e lt) = refl
-move-channel (registers-old s m x f e) = refl
+move-channel (registers-new s m lt) = refl
+move-channel (registers-old s m x i l) = refl
 move-channel (sends s j v w free a r nf) = refl
 move-channel (posts s j v w free a r nf) = refl
 move-channel (drops-it s j a) = refl

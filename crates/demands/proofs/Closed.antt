@@ -59,8 +59,8 @@ move-silent : (k : LaneKey) {s u : State} {t : Tick} → Ordered s → Gone k s 
 unfolding ofLane
 move-silent k o g (stays-put s c a h) = refl
 move-silent k o g (credits s c a h) = refl
-move-silent k o g (registers-new s m e lt) = refl
-move-silent k o g (registers-old s m x f e) = refl
+move-silent k o g (registers-new s m lt) = refl
+move-silent k o g (registers-old s m x i l) = refl
 move-silent k o g (sends s j v w free a r nf) = refl
 move-silent k o g (posts s j v w free a r nf) = refl
 move-silent k o g (drops-it s j a) = refl

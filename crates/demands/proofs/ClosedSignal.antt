@@ -7,7 +7,7 @@ use mathlib.Core.List.{List, [], _∷_, _++_}
 use Prim.Native.Nat.{ℕ, zero, suc}
 use native.Mathlib.Omega.{arith}
 use lib.Dec.{eqb, leb}
-use borrow.Author.Tests.{eqb-true, ne-eqb, leb-true}
+use borrow.Author.Tests.{eqb-true, ne-eqb}
 use Rattle.model.specs.declared.LaneKey.{LaneKey}
 use Rattle.model.specs.declared.LaneId.{LaneId}
 use Rattle.model.specs.declared.SenderCall.the-variants.{RegisterSender, TrySend, TrySendUnsignaled, DropSender}
@@ -17,7 +17,7 @@ use Rattle.model.specs.declared.ControlCall.{ControlCall}
 use Rattle.model.specs.declared.ControlCall.the-variants.{Pause, Resume, CloseLane, ReleaseConsumed, PollAllLanes, CloseReceiver, CountHeld}
 use Rattle.model.specs.declared.Call.{Call}
 use Rattle.model.specs.declared.Call.the-variants.{Sender, Receive, Control}
-use Rattle.model.specs.declared.Refusal.the-variants.{ReceiverClosed, AtCapacity, NoFreeSlot, OlderSenderLives, NoSuchSender}
+use Rattle.model.specs.declared.Refusal.the-variants.{NoSuchSender}
 use Rattle.model.specs.declared.Answer.the-variants.{Done, Empty, Refused}
 use Rattle.model.specs.Lists.{if, both, either, nonEmpty, count, keep, from, without}
 use Rattle.model.specs.State.{Slot, State, mayQueue, registeredLanes, livingSenders, keyOf, senderLives, hasLane, sameOpening, hasLaneId}
@@ -26,15 +26,16 @@ use Rattle.model.specs.Ready.{groupOf, marks, isReady, collectMarks, collectGro
 use Rattle.model.specs.Turn.{retireLane, retireLaneIf, settleEmpty, beforeNextTurn, runDownFrom, runDown, giveItem, giveOldest, giveFront, collectIfDue, collectIfNoneQueued, polled, takeOne, takeFair}
 use Rattle.model.specs.Outcome.{Outcome, says, unless}
 use Rattle.model.specs.Runs.{sameKey}
-use Rattle.model.specs.Sender.{issueSlot, olderLives, registerSender, trySend, trySendUnsignaled, dropSender, senderOutcome}
+use Rattle.model.specs.Sender.{clearSlots, issueSlot, registerSender, trySend, trySendUnsignaled, dropSender, senderOutcome}
 use Rattle.model.specs.Receive.{retireEmptyPausedLanes, emptyOrDrained, nothingTaken, answerOne, queueLaneIf, takeFrom, andMore, takeUpTo, releaseAll, answerItems, receiveOutcome, tryRecv, tryRecvFair, tryRecvFrom, tryRecvBatchInto}
 use Rattle.model.specs.Control.{pause, resumeIf, resume, closeLane, releaseConsumed, pollAllLanes, closeReceiver, countHeld, controlOutcome}
 use Rattle.model.specs.Rules.{outcome}
 use Rattle.model.specs.Order.{InOrder}
-use Rattle.model.specs.Viewed.{rulesViewed, rulesOnAnyState}
-use Rattle.model.specs.Signals.{dropsSender, ClosedAfter, ClosedSignalKept, OlderSenderRefused}
+use Rattle.model.specs.Viewed.{rulesViewed}
+use Rattle.model.specs.Signals.{dropsSender, ClosedAfter, ClosedSignalKept}
 use Rattle.demands.proofs.Counting.{equal, other, same?, self, no, both-true, not-false, count-append, keep-out}
 use Rattle.demands.proofs.LedgerLaws.{alike, unlike, keys?}
+use Rattle.demands.proofs.ClearSlots.{clear-slot}
 use Rattle.demands.proofs.Moves.{unless-law}
 
 module _ (x : ℕ) where
@@ -338,12 +339,12 @@ kept-after s c x l e k = record {
 }
 
 register-keeps : (s : State) (x m : ℕ) → InOrder s → s .slotOf x .living ≡ true → Away x s → Leaves x s (registerSender s m)
-unfolding registerSender issueSlot olderLives
-register-keeps s x m i l a = unless-law (Leaves x s) _ s _ (λ n. unchanged x s a) (λ p. go (s .free) (p .1 .1 .1 .0))
+unfolding registerSender issueSlot
+register-keeps s x m i l a = unless-law (Leaves x s) _ s _ (λ n. unchanged x s a) (λ p. go (clearSlots s) refl)
   where
-    go : (f : List ℕ) → olderLives f s ≡ false → Leaves x s (issueSlot f s)
+    go : (f : List ℕ) → clearSlots s ≡ f → Leaves x s (issueSlot f s)
     go [] e = keeps-slot x (put-other x s (s .issued) _ (λ e. omega (arith, i .ordered .each-slot x .living-issued l))) (a .unqueued) a
-    go (y ∷ f) e = keeps-slot x (put-other x s y _ (λ q. no l (ap (λ (z : ℕ). s .slotOf z .living) (sym q) ∙ e))) (a .unqueued) a
+    go (y ∷ f) e = keeps-slot x (put-other x s y _ (λ q. no l (ap (λ (z : ℕ). s .slotOf z .living) (sym q) ∙ clear-slot s y f e .clear))) (a .unqueued) a
 
 -- a send is to a registered lane
 send-keeps : (s : State) (x : ℕ) (k : LaneKey) (v : ℕ) → Away x s → Leaves x s (trySend s k v)
@@ -413,22 +414,3 @@ closed-signal-kept s c x i r l = go c
     go (Sender (DropSender k)) = drop-after s x k l a
     go (Receive c) = kept-after s (Receive c) x l refl (receive-keeps x s c a)
     go (Control c) = kept-after s (Control c) x l refl (control-keeps x s c a)
-
--- the last of four refusals
-only-fourth : (a b c d : Bool) (s : State) (r : Outcome) → a ≡ false → b ≡ false → c ≡ false → d ≡ true
-    → unless ((a, ReceiverClosed) ∷ (b, AtCapacity) ∷ (c, NoFreeSlot) ∷ (d, OlderSenderLives) ∷ []) s r ≡ says (Refused OlderSenderLives) s
-unfolding unless
-only-fourth a b c d s r e f g h = rw (e, f, g, h)
-
-pub older-sender-refused : OlderSenderRefused rulesOnAnyState
-unfolding OlderSenderRefused outcome senderOutcome registerSender olderLives
-older-sender-refused s any x f m e l o n =
-    both-parts (only-fourth (not (s .isOpen)) (leb m (registeredLanes s)) (both (not (nonEmpty (s .free))) (leb (s .slots) (s .issued))) (olderLives (s .free) s) s (issueSlot (s .free) s)
-    (ap not o) (few (leb m (registeredLanes s)) refl) (ap (λ (q : List ℕ). both (not (nonEmpty q)) (leb (s .slots) (s .issued))) e) (ap (λ (q : List ℕ). olderLives q s) e ∙ l))
-  where
-    few : (b : Bool) → leb m (registeredLanes s) ≡ b → b ≡ false
-    few true q = absurd (omega (arith, leb-true m (registeredLanes s) q))
-    few false q = refl
-
-    both-parts : {w : Outcome} → w ≡ says (Refused OlderSenderLives) s → (w .1 .0 ≡ Refused OlderSenderLives) × (w .1 .1 ≡ s)
-    both-parts q = (ap (λ (w : Outcome). w .1 .0) q, ap (λ (w : Outcome). w .1 .1) q)

@@ -48,18 +48,18 @@ nothing-taken-accepted s = go (leb 1 (livingSenders s)) (leb 1 (registeredLanes 
     go false true = refl
     go false false = refl
 
-answer-one-accepted : (l : List (LaneKey × ℕ)) (s : State) → accepted ((answerOne l s) .1 .0) ≡ true
+pub answer-one-accepted : (l : List (LaneKey × ℕ)) (s : State) → accepted ((answerOne l s) .1 .0) ≡ true
 unfolding answerOne accepted
 answer-one-accepted [] s = nothing-taken-accepted s
 answer-one-accepted (g ∷ l) s = refl
 
-answer-items-accepted : (m : ℕ) (l : List (LaneKey × ℕ)) (s : State) → accepted ((answerItems m l s) .1 .0) ≡ true
+pub answer-items-accepted : (m : ℕ) (l : List (LaneKey × ℕ)) (s : State) → accepted ((answerItems m l s) .1 .0) ≡ true
 unfolding answerItems accepted
 answer-items-accepted zero l s = refl
 answer-items-accepted (suc m) [] s = nothing-taken-accepted s
 answer-items-accepted (suc m) (g ∷ l) s = refl
 
-take-from-accepted : (l : List ℕ) (x : ℕ) (s : State) → accepted ((takeFrom l x s) .1 .0) ≡ true
+pub take-from-accepted : (l : List ℕ) (x : ℕ) (s : State) → accepted ((takeFrom l x s) .1 .0) ≡ true
 unfolding takeFrom accepted
 take-from-accepted [] x s = go (s .slotOf x .living)
   where

@@ -166,9 +166,9 @@ pub move-kept : (k : LaneKey) {s u : State} {t : Tick} → Ordered s → shuts k
 unfolding Kept outOf into shuts accepted
 move-kept k o z (stays-put s c a h) = kept-quiet k s s c a (h .sends-none k) refl
 move-kept k o z (credits s c a h) = kept-quiet k s _ c a (h .sends-none k) (ring-quiet s _ k (release-all-quiet s))
-move-kept k o z (registers-new s m e lt) = rw append-nil (ring-put s _ (s .issued) (newLane (s .firstGeneration) (s .slotOf (s .issued))) k (λ y. refl) (λ g. empty-ring (newLane (s .firstGeneration) (s .slotOf (s .issued))) g refl ∙ sym (ring-none (s .slotOf (s .issued)) g (unissued s o))))
-move-kept k o z (registers-old s m x f e) = rw append-nil (ring-put s _ x (newLane (s .slotOf x .generation + 1) (s .slotOf x)) k (λ y. refl)
-    (λ g. empty-ring (newLane (s .slotOf x .generation + 1) (s .slotOf x)) g refl ∙ sym (ring-none (s .slotOf x) g (o .each-slot x .free-unregistered (omega (arith, ap (count x) e, first-own x f))))))
+move-kept k o z (registers-new s m lt) = rw append-nil (ring-put s _ (s .issued) (newLane (s .firstGeneration) (s .slotOf (s .issued))) k (λ y. refl) (λ g. empty-ring (newLane (s .firstGeneration) (s .slotOf (s .issued))) g refl ∙ sym (ring-none (s .slotOf (s .issued)) g (unissued s o))))
+move-kept k o z (registers-old s m x i l) = rw append-nil (ring-put s _ x (newLane (s .slotOf x .generation + 1) (s .slotOf x)) k (λ y. refl)
+    (λ g. empty-ring (newLane (s .slotOf x .generation + 1) (s .slotOf x)) g refl ∙ sym (ring-none (s .slotOf x) g (o .each-slot x .free-unregistered i))))
 move-kept k o z (sends s j v w free a r nf) =
     let g = sender-parts s j a in
     kept-send k j s _ (j .slot) v (signalled (pushed v (s .slotOf (j .slot)))) refl (rings s _ (j .slot) _ j k (λ y. refl) refl r (g .1) r (g .1))

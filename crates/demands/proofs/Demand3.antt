@@ -100,8 +100,8 @@ move-sees : {E R : ℕ} {K : LaneKey} {k : ℕ} {s u : State} {t : Tick} → On 
 unfolding looksInVain looks
 move-sees w (stays-put s c a h) = h .sees
 move-sees w (credits s c a h) = h .sees
-move-sees w (registers-new s m e lt) = refl
-move-sees w (registers-old s m x f e) = refl
+move-sees w (registers-new s m lt) = refl
+move-sees w (registers-old s m x i l) = refl
 move-sees w (sends s k v i free a r nf) = refl
 move-sees w (posts s k v i free a r nf) = refl
 move-sees w (drops-it s k a) = refl

@@ -97,8 +97,8 @@ freed-lane-counted k T s x f c = elim (same? x (k .slot)) [
 sender-counted : (k : LaneKey) (T : Tally) {s u : State} {c : SenderCall} {a : Answer} → Moves s (ends (Sender c) a) u → Counted k T s → Counted k T u
 sender-counted k T (stays-put s c a h) d = d
 sender-counted k T (credits s c a h) d = counted-alike (release-all-alike s) d
-sender-counted k T (registers-new s m e lt) d = new-lane-counted k T s d
-sender-counted k T (registers-old s m x f e) d = freed-lane-counted k T s x f d
+sender-counted k T (registers-new s m lt) d = new-lane-counted k T s d
+sender-counted k T (registers-old s m x i l) d = freed-lane-counted k T s x _ d
 sender-counted k T (sends s j v w free a r nf) d = counted-alike (put-alike s (j .slot) (signalled (pushed v (s .slotOf (j .slot)))) refl refl) d
 sender-counted k T (posts s j v w free a r nf) d = counted-alike (put-alike s (j .slot) (pushed v (s .slotOf (j .slot))) refl refl) d
 sender-counted k T (drops-it s j a) d = counted-alike (put-alike s (j .slot) (signalled (senderDropped (s .slotOf (j .slot)))) refl refl) d

@@ -135,8 +135,8 @@ module _ (E R : ℕ) (K j : LaneKey) where
   unfolding endsStretch accepted endsWait outOfTurn ofLane releaseAll
   move-once n k w (stays-put s c a h) f b o = calmly s s (shrinks-same _ _) o
   move-once n k w (credits s c a h) f b o = calmly s _ (shrinks-same _ _) o
-  move-once n k w (registers-new s m e lt) f b o = calmly s _ (shrinks-same _ _) o
-  move-once n k w (registers-old s m y r e) f b o = calmly s _ (shrinks-same _ _) o
+  move-once n k w (registers-new s m lt) f b o = calmly s _ (shrinks-same _ _) o
+  move-once n k w (registers-old s m y i l) f b o = calmly s _ (shrinks-same _ _) o
   move-once n k w (sends s i v a free c r nf) f b o = calmly s _ (shrinks-same _ _) o
   move-once n k w (posts s i v a free c r nf) f b o = calmly s _ (shrinks-same _ _) o
   move-once n k w (drops-it s i a) f b o = calmly s _ (shrinks-same _ _) o

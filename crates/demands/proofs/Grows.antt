@@ -68,8 +68,8 @@ grows-put s u x m at i o = record { issues = i; slots = λ y h. subst (λ (l : S
 pub move-grows : {s u : State} {t : Tick} → Moves s t u → Grows s u
 move-grows (stays-put s c a h) = grows-none s
 move-grows (credits s c a h) = grows-quiet s _ (release-all-quiet s)
-move-grows (registers-new s m e lt) = grows-put s _ (s .issued) (newLane (s .firstGeneration) (s .slotOf (s .issued))) (λ y. refl) (omega arith) (λ p. absurd (omega arith))
-move-grows (registers-old s m x f e) =
+move-grows (registers-new s m lt) = grows-put s _ (s .issued) (newLane (s .firstGeneration) (s .slotOf (s .issued))) (λ y. refl) (omega arith) (λ p. absurd (omega arith))
+move-grows (registers-old s m x i l) =
     grows-put s _ x (newLane (s .slotOf x .generation + 1) (s .slotOf x)) (λ y. refl) (omega arith) (λ p. record { gens = omega arith; regs = λ q. inr (omega arith) })
 move-grows (sends s j v w free a r nf) = grows-put s _ (j .slot) _ (λ y. refl) (omega arith) (λ p. older-same (s .slotOf (j .slot)) _ refl refl)
 move-grows (posts s j v w free a r nf) = grows-put s _ (j .slot) _ (λ y. refl) (omega arith) (λ p. older-same (s .slotOf (j .slot)) _ refl refl)

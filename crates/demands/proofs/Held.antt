@@ -216,14 +216,14 @@ pub move-keys : (L : Ledger) {s u : State} {t : Tick} → Ordered s → KeysOnce
 unfolding note accepted applyCall addRegistered
 move-keys L o h (stays-put s c a n) = keys-same L _ (n .noted L) (move-grows (stays-put s c a n)) h
 move-keys L o h (credits s c a n) = keys-same L _ (n .noted L) (move-grows (credits s c a n)) h
-move-keys L o h (registers-new s m e lt) =
+move-keys L o h (registers-new s m lt) =
     let k : LaneKey = record { slot = s .issued; generation = s .firstGeneration } in
     keys-new L _ s _ record { key = k; holds = []; paused = false; closed = false; dropped = false } refl
-    (none-yet (times k (L .lanes)) (λ n. omega (arith, h .known k n .0))) (omega arith) (rw (self (s .issued)) (omega arith)) (move-grows (registers-new s m e lt)) h
-move-keys L o h (registers-old s m x f e) =
+    (none-yet (times k (L .lanes)) (λ n. omega (arith, h .known k n .0))) (omega arith) (rw (self (s .issued)) (omega arith)) (move-grows (registers-new s m lt)) h
+move-keys L o h (registers-old s m x i l) =
     let k : LaneKey = record { slot = x; generation = s .slotOf x .generation + 1 } in
     keys-new L _ s _ record { key = k; holds = []; paused = false; closed = false; dropped = false } refl
-    (none-yet (times k (L .lanes)) (λ n. omega (arith, h .known k n .1))) (o .each-slot x .free-issued (omega (arith, ap (count x) e, first-own x f))) (rw (self x) (omega arith)) (move-grows (registers-old s m x f e)) h
+    (none-yet (times k (L .lanes)) (λ n. omega (arith, h .known k n .1))) (o .each-slot x .free-issued i) (rw (self x) (omega arith)) (move-grows (registers-old s m x i l)) h
 move-keys L o h (sends s k v w free a r nf) = keys-changed L k _ (add-item-key record { value = v; ordinary = true }) (move-grows (sends s k v w free a r nf)) h
 move-keys L o h (posts s k v w free a r nf) = keys-changed L k _ (add-item-key record { value = v; ordinary = false }) (move-grows (posts s k v w free a r nf)) h
 move-keys L o h (drops-it s k a) = keys-changed L k _ set-dropped-key (move-grows (drops-it s k a)) h
@@ -245,15 +245,15 @@ move-sum : (L : Ledger) {s u : State} {t : Tick} → Tallied L s → Moves s t u
 unfolding note accepted applyCall addRegistered
 move-sum L h (stays-put s c a n) = noted-sum L _ s s (n .noted L) refl (h .sum)
 move-sum L h (credits s c a n) = noted-sum L _ s _ (n .noted L) (held-quiet s _ (release-all-quiet s)) (h .sum)
-move-sum L h (registers-new s m e lt) =
+move-sum L h (registers-new s m lt) =
     let z = count-unregistered (s .slotOf (s .issued)) (unissued s (h .ord)) in
     new-sum (L .lanes) _ ∙ h .sum ∙ sym (held-one-more s _ refl (λ y. count-at s (put (s .issued) (newLane (s .firstGeneration) (s .slotOf (s .issued))) s) (s .issued) _ (λ y. refl) refl y ∙ go y (same? (s .issued) y) z) z)
   where
     go : (y : ℕ) → Same (s .issued) y → ringCount (s .slotOf (s .issued)) ≡ 0 → if (eqb (s .issued) y) (ringCount (newLane (s .firstGeneration) (s .slotOf (s .issued)))) (ringCount (s .slotOf y)) ≡ ringCount (s .slotOf y)
     go y (equal p b j) z = rw b (new-count _ (s .slotOf (s .issued)) ∙ sym z ∙ ap (λ (x : ℕ). ringCount (s .slotOf x)) p)
     go y (other d b j) z = rw b
-move-sum L h (registers-old s m x f e) =
-    let z = count-unregistered (s .slotOf x) (h .ord .each-slot x .free-unregistered (omega (arith, ap (count x) e, first-own x f))) in
+move-sum L h (registers-old s m x i l) =
+    let z = count-unregistered (s .slotOf x) (h .ord .each-slot x .free-unregistered i) in
     new-sum (L .lanes) _ ∙ h .sum ∙ sym (held-put-alike s _ x (newLane (s .slotOf x .generation + 1) (s .slotOf x)) (λ y. refl) refl (new-count _ (s .slotOf x) ∙ sym z))
 move-sum L h (sends s k v w free a r nf) =
     let g = sender-parts s k a in

@@ -74,8 +74,8 @@ move-kept : {s u : State} {t : Tick} → Received t → Moves s t u → Kept s u
 unfolding Received giveItem
 move-kept g (stays-put s c a h) y k = k
 move-kept g (credits s c a h) y k = quietly-kept (release-all-quiet s) y k
-move-kept g (registers-new s m e lt) y k = absurd g
-move-kept g (registers-old s m x f e) y k = absurd g
+move-kept g (registers-new s m lt) y k = absurd g
+move-kept g (registers-old s m x i l) y k = absurd g
 move-kept g (sends s j v w free a r nf) y k = absurd g
 move-kept g (posts s j v w free a r nf) y k = absurd g
 move-kept g (drops-it s j a) y k = absurd g
@@ -122,8 +122,8 @@ released-pending s y r p = p
 sender-pending : {s u : State} {c : SenderCall} {a : Answer} → Ordered s → Moves s (ends (Sender c) a) u → (y : ℕ) → StaysPending s u y
 sender-pending o (stays-put s c a h) y r p = p
 sender-pending o (credits s c a h) y r p = released-pending s y r p
-sender-pending o (registers-new s m e lt) y r p = put-pending s (s .issued) (newLane (s .firstGeneration) (s .slotOf (s .issued))) y (λ r p. absurd (omega (arith, o .each-slot (s .issued) .registered-issued r))) r p
-sender-pending o (registers-old s m x f e) y r p = put-pending s x (newLane (s .slotOf x .generation + 1) (s .slotOf x)) y (λ r p. absurd (no r (o .each-slot x .free-unregistered (omega (arith, ap (count x) e, first-own x f))))) r p
+sender-pending o (registers-new s m lt) y r p = put-pending s (s .issued) (newLane (s .firstGeneration) (s .slotOf (s .issued))) y (λ r p. absurd (omega (arith, o .each-slot (s .issued) .registered-issued r))) r p
+sender-pending o (registers-old s m x i l) y r p = put-pending s x (newLane (s .slotOf x .generation + 1) (s .slotOf x)) y (λ r p. absurd (no r (o .each-slot x .free-unregistered i))) r p
 sender-pending o (sends s j v w free a n nf) y r p = put-pending s (j .slot) (signalled (pushed v (s .slotOf (j .slot)))) y (λ r p. refl) r p
 sender-pending o (posts s j v w free a n nf) y r p = put-pending s (j .slot) (pushed v (s .slotOf (j .slot))) y (λ r p. p) r p
 sender-pending o (drops-it s j a) y r p = put-pending s (j .slot) (signalled (senderDropped (s .slotOf (j .slot)))) y (λ r p. refl) r p

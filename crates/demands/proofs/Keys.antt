@@ -154,8 +154,8 @@ move-slots : (L : Ledger) {s u : State} {t : Tick} → Ordered s → Agrees L s 
 unfolding note changeLane accepted applyCall addRegistered answersKeyThat registersAs
 move-slots L o a h (stays-put s c b n) = slots-same L _ (n .noted L) h
 move-slots L o a h (credits s c b n) = slots-same L _ (n .noted L) h
-move-slots L o a h (registers-new s m e lt) = slots-more L m _ (omega (arith, a .issued-same)) h
-move-slots L o a h (registers-old s m x f e) = slots-more L m _ (omega (arith, a .issued-same, o .each-slot x .free-issued (omega (arith, ap (count x) e, first-own x f)))) h
+move-slots L o a h (registers-new s m lt) = slots-more L m _ (omega (arith, a .issued-same)) h
+move-slots L o a h (registers-old s m x i l) = slots-more L m _ (omega (arith, a .issued-same, o .each-slot x .free-issued i)) h
 move-slots L o a h (sends s k v w free l r nf) = slots-given L (sends s k v w free l r nf) (λ x. refl) refl h
 move-slots L o a h (posts s k v w free l r nf) = slots-given L (posts s k v w free l r nf) (λ x. refl) refl h
 move-slots L o a h (drops-it s k l) = slots-given L (drops-it s k l) (λ x. refl) refl h

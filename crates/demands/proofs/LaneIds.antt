@@ -22,12 +22,12 @@ use Rattle.model.specs.declared.Refusal.the-variants.{ReceiverClosed, NoSuchLan
 use Rattle.model.specs.declared.Answer.{Answer}
 use Rattle.model.specs.declared.Answer.the-variants.{Done, Registered, Taken, Item, Items, Empty, Disconnected, Held, Refused}
 use Rattle.model.specs.Answers.{number}
-use Rattle.model.specs.Lists.{if, both, from}
+use Rattle.model.specs.Lists.{if, both, Each, from}
 use Rattle.model.specs.State.{State, registeredLanes, livingSenders, keyOf, hasLane, sameOpening, hasLaneId}
 use Rattle.model.specs.Turn.{Took, takeOne, takeFair}
 use Rattle.model.specs.Outcome.{Outcome, says, unless}
 use Rattle.model.specs.Runs.{Rules, RunsOf, accepted, afterList}
-use Rattle.model.specs.Sender.{issueSlot, registerSender, trySend, trySendUnsignaled, dropSender, senderOutcome}
+use Rattle.model.specs.Sender.{clearSlots, issueSlot, registerSender, trySend, trySendUnsignaled, dropSender, senderOutcome}
 use Rattle.model.specs.Receive.{retireEmptyPausedLanes, emptyOrDrained, nothingTaken, answerOne, takeFrom, answerItems, tryRecv, tryRecvFair, tryRecvFrom, tryRecvBatchInto, receiveOutcome}
 use Rattle.model.specs.Control.{pause, resume, closeLane, releaseConsumed, pollAllLanes, closeReceiver, countHeld, controlOutcome}
 use Rattle.model.specs.Opening.{channelOf, openingOutcome}
@@ -36,7 +36,7 @@ use Rattle.model.specs.Viewed.{rulesOnAnyState}
 use Rattle.model.specs.LaneIds.{EqualExactly, KnownExactly, ByLaneId, targets, pauses, resumes, closes, NamesLane, NamesNoLane, ThirteenExactly, SixOrAccepted, ElseSixOrAccepted, RefusedById, receiver-closed, no-such-lane, ToldApart, OpeningsToldApartIn, OpeningsToldApart, SavedOf, of-item, of-lane, SavedIdsRefusedIn}
 use Rattle.demands.proofs.Counting.{no, both-true, self}
 use Rattle.demands.proofs.Quiet.{poll, poll-quiet}
-use Rattle.demands.proofs.Moves.{TakeResult, took-none, took-one, take-one-taken, take-fair-taken}
+use Rattle.demands.proofs.Moves.{unless-each, TakeResult, took-none, took-one, take-one-taken, take-fair-taken}
 use Rattle.demands.proofs.MovesKeepOrder.{has-lane-parts, has-lane-intro}
 use Rattle.demands.proofs.Points.{ends-at}
 use Rattle.demands.proofs.LedgerAgrees.{key-path}
@@ -94,24 +94,9 @@ Proper h Empty = Unit {0}
 Proper h Disconnected = Unit {0}
 Proper h (Held n) = Unit {0}
 
-noneThirteen : List (Bool × Refusal) → Bool
-noneThirteen [] = true
-noneThirteen (c ∷ cs) = both (not (eqb (number (c .1)) 13)) (noneThirteen cs)
-
 module _ (h : OpenedChannel) where
   abbrev ProperOf : Outcome → Type 0
   ProperOf o = Proper h (o .1 .0)
-
-  unless-proper : (cs : List (Bool × Refusal)) (s : State) (r : Outcome) → noneThirteen cs ≡ true → ProperOf r → ProperOf (unless cs s r)
-  unfolding unless noneThirteen Proper
-  unless-proper [] s r e p = p
-  unless-proper (c ∷ cs) s r e p = go (c .0) (eqb (number (c .1)) 13) refl e (λ f. unless-proper cs s r f p)
-    where
-      go : (b d : Bool) → eqb (number (c .1)) 13 ≡ d → both (not d) (noneThirteen cs) ≡ true
-          → (noneThirteen cs ≡ true → ProperOf (unless cs s r)) → ProperOf (if b ([], (Refused (c .1), s)) (unless cs s r))
-      go b true z f ih = absurd (no f refl)
-      go true false z f ih = z
-      go false false z f ih = ih f
 
   nothing-taken-proper : (s : State) → ProperOf (nothingTaken s)
   unfolding nothingTaken emptyOrDrained Proper
@@ -141,15 +126,15 @@ module _ (s : State) where
   h = s .channel
 
   sender-proper : (c : SenderCall) → ProperOf h (senderOutcome s c)
-  unfolding senderOutcome registerSender issueSlot trySend trySendUnsignaled dropSender noneThirteen Proper number
-  sender-proper (RegisterSender most) = unless-proper h _ s _ refl (go (s .free))
+  unfolding senderOutcome registerSender issueSlot trySend trySendUnsignaled dropSender Proper number Each
+  sender-proper (RegisterSender most) = unless-each (ProperOf h) _ s _ (refl, (refl, (refl, (refl, tt)))) (go (clearSlots s))
     where
       go : (f : List ℕ) → ProperOf h (issueSlot f s)
       go [] = tt
       go (x ∷ f) = tt
-  sender-proper (TrySend k v) = unless-proper h _ s _ refl tt
-  sender-proper (TrySendUnsignaled k v) = unless-proper h _ s _ refl tt
-  sender-proper (DropSender k) = unless-proper h _ s _ refl tt
+  sender-proper (TrySend k v) = unless-each (ProperOf h) _ s _ (refl, (refl, (refl, tt))) tt
+  sender-proper (TrySendUnsignaled k v) = unless-each (ProperOf h) _ s _ (refl, (refl, (refl, tt))) tt
+  sender-proper (DropSender k) = unless-each (ProperOf h) _ s _ (refl, tt) tt
 
   -- the answer of a call by id: "The first that applies is given."
   data First (i : LaneId) : Answer → Type 0 where
@@ -192,18 +177,18 @@ module _ (s : State) where
     of-none : ProperOf h (outcome s c) → Kind c
 
   kind : (c : Call) → Kind c
-  unfolding outcome receiveOutcome controlOutcome tryRecv tryRecvFair tryRecvBatchInto releaseConsumed pollAllLanes closeReceiver countHeld noneThirteen Proper number
+  unfolding outcome receiveOutcome controlOutcome tryRecv tryRecvFair tryRecvBatchInto releaseConsumed pollAllLanes closeReceiver countHeld Proper number Each
   kind (Sender c) = of-none (sender-proper c)
-  kind (Receive TryRecv) = of-none (unless-proper h _ s _ refl (answer-one-proper h (takeOne s) (take-one-taken s) (taken-channel (take-one-taken s))))
-  kind (Receive TryRecvFair) = of-none (unless-proper h _ s _ refl (answer-one-proper h (takeFair s) (take-fair-taken s) (taken-channel (take-fair-taken s))))
+  kind (Receive TryRecv) = of-none (unless-each (ProperOf h) _ s _ (refl, tt) (answer-one-proper h (takeOne s) (take-one-taken s) (taken-channel (take-one-taken s))))
+  kind (Receive TryRecvFair) = of-none (unless-each (ProperOf h) _ s _ (refl, tt) (answer-one-proper h (takeFair s) (take-fair-taken s) (taken-channel (take-fair-taken s))))
   kind (Receive (TryRecvFrom i)) = of-id i targets
-  kind (Receive (TryRecvBatchInto limit room)) = of-none (unless-proper h _ s _ refl (answer-items-proper h limit _ _))
+  kind (Receive (TryRecvBatchInto limit room)) = of-none (unless-each (ProperOf h) _ s _ (refl, (refl, tt)) (answer-items-proper h limit _ _))
   kind (Control (Pause i)) = of-id i pauses
   kind (Control (Resume i)) = of-id i resumes
   kind (Control (CloseLane i)) = of-id i closes
-  kind (Control ReleaseConsumed) = of-none (unless-proper h _ s _ refl tt)
-  kind (Control PollAllLanes) = of-none (unless-proper h _ s _ refl tt)
-  kind (Control CloseReceiver) = of-none (unless-proper h _ s _ refl tt)
+  kind (Control ReleaseConsumed) = of-none (unless-each (ProperOf h) _ s _ (refl, tt) tt)
+  kind (Control PollAllLanes) = of-none (unless-each (ProperOf h) _ s _ (refl, tt) tt)
+  kind (Control CloseReceiver) = of-none (unless-each (ProperOf h) _ s _ (refl, tt) tt)
   kind (Control CountHeld) = of-none tt
 
   not-thirteen : {a : Answer} → Proper h a → a ≡ Refused NoSuchLane → ⊥

@@ -429,17 +429,16 @@ pub move-agrees : (L : Ledger) {s u : State} {t : Tick} → Ordered s → Agrees
 unfolding note accepted applyCall addRegistered
 move-agrees L o h (stays-put s c a n) = subst (λ (M : Ledger). Agrees M s) (sym (n .noted L)) h
 move-agrees L o h (credits s c a n) = subst (λ (M : Ledger). Agrees M (releaseAll s)) (sym (n .noted L)) (agrees-quiet L s _ (release-all-quiet s) h)
-move-agrees L o h (registers-new s m e lt) =
+move-agrees L o h (registers-new s m lt) =
     agrees-new L _ s _ record { slot = s .issued; generation = s .firstGeneration } (newLane (s .firstGeneration) (s .slotOf (s .issued))) (λ y. refl) (unissued s o) refl refl
     record { key = record { slot = s .issued; generation = s .firstGeneration }; holds = []; paused = false; closed = false; dropped = false } refl
     record { values-same = refl; signal = λ a. absurd (no a (none-held [] refl)); pauses-same = refl; unclosed = refl; senders = refl } refl
     (omega (arith, h .issued-same)) (h .shut-same) h
-move-agrees L o h (registers-old s m x f e) =
-    let n : 1 ≤ count x (s .free) = omega (arith, ap (count x) e, first-own x f) in
-    agrees-new L _ s _ record { slot = x; generation = s .slotOf x .generation + 1 } (newLane (s .slotOf x .generation + 1) (s .slotOf x)) (λ y. refl) (o .each-slot x .free-unregistered n) refl refl
+move-agrees L o h (registers-old s m x i l) =
+    agrees-new L _ s _ record { slot = x; generation = s .slotOf x .generation + 1 } (newLane (s .slotOf x .generation + 1) (s .slotOf x)) (λ y. refl) (o .each-slot x .free-unregistered i) refl refl
     record { key = record { slot = x; generation = s .slotOf x .generation + 1 }; holds = []; paused = false; closed = false; dropped = false } refl
     record { values-same = refl; signal = λ a. absurd (no a (none-held [] refl)); pauses-same = refl; unclosed = refl; senders = refl } refl
-    (omega (arith, h .issued-same, o .each-slot x .free-issued n)) (h .shut-same) h
+    (omega (arith, h .issued-same, o .each-slot x .free-issued i)) (h .shut-same) h
 move-agrees L o h (sends s k v w free a r nf) =
     let g = sender-parts s k a in
     agrees-change L s _ k (addItem record { value = v; ordinary = true }) (add-item-key record { value = v; ordinary = true }) (signalled (pushed v (s .slotOf (k .slot)))) (λ y. refl) r (g .1) refl refl h r (g .1)

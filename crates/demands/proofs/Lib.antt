@@ -4,6 +4,7 @@ pub mod OrderKept
 pub mod Quiet
 pub mod Ahead
 pub mod WaitInReceive
+pub mod ClearSlots
 pub mod Moves
 pub mod Opened
 pub mod Points
@@ -44,6 +45,7 @@ pub mod PollLoop
 pub mod FoundEmpty
 pub mod IdleWhenEmpty
 pub mod ClosedSignal
+pub mod Registration
 pub mod ReceivesEnd
 pub mod Carried
 pub mod BudgetAfterNothing

@@ -3,7 +3,7 @@
 use mathlib.Core.Path.{_≡_, refl, ap}
 use mathlib.Core.Bool.{Bool, true, false, not}
 use mathlib.Core.List.{List, [], _∷_, _++_, map}
-use Prim.Native.Nat.{ℕ, zero, suc, _+_, _<_}
+use Prim.Native.Nat.{ℕ, zero, suc, _+_, _≤_, _<_}
 use native.Mathlib.Omega.{arith}
 use lib.ListN.{length}
 use borrow.Author.Tests.{leb-false}
@@ -21,14 +21,14 @@ use Rattle.model.specs.declared.Call.the-variants.{Sender, Receive, Control}
 use Rattle.model.specs.declared.Refusal.{Refusal}
 use Rattle.model.specs.declared.Answer.{Answer}
 use Rattle.model.specs.declared.Answer.the-variants.{Done, Registered, Taken, Item, Items, Empty, Disconnected, Refused}
-use Rattle.model.specs.Lists.{nonEmpty, if, both, either, keep, from, without}
+use Rattle.model.specs.Lists.{nonEmpty, if, both, either, Each, count, keep, from, without}
 use Rattle.model.specs.State.{State, mayQueue, registeredLanes, keyOf, senderLives, hasLane, sameOpening, hasLaneId, isFull, livingSenders}
 use Rattle.model.specs.Changes.{withQueue, withFree, withBudget, withIssued, withOpen, put, newLane, signalled, pushed, senderDropped, popped, withPaused, credited}
 use Rattle.model.specs.Ready.{collectReady}
 use Rattle.model.specs.Turn.{retireLane, settleEmpty, unreleasedAfterOne, giveItem, Took, giveOldest, giveFront, runDown, polled, takeOne, takeFair}
 use Rattle.model.specs.Outcome.{Outcome, unless, says}
 use Rattle.model.specs.Runs.{accepted, Tick, gives, ends, handed, ticks, trace, afterList}
-use Rattle.model.specs.Sender.{issueSlot, olderLives, senderOutcome, registerSender, trySend, trySendUnsignaled, dropSender}
+use Rattle.model.specs.Sender.{clearSlots, issueSlot, allIssued, senderOutcome, registerSender, trySend, trySendUnsignaled, dropSender}
 use Rattle.model.specs.Receive.{retireEmptyPausedLanes, emptyOrDrained, nothingTaken, answerOne, andMore, takeUpTo, releaseAll, answerItems, queueLaneIf, takeFrom, receiveOutcome, tryRecv, tryRecvFair, tryRecvFrom, tryRecvBatchInto}
 use Rattle.model.specs.Control.{resumeIf, controlOutcome, pause, resume, closeLane, releaseConsumed, pollAllLanes, closeReceiver, countHeld}
 use Rattle.model.specs.Rules.{outcome, theRules}
@@ -39,6 +39,7 @@ use Rattle.model.specs.Demand2.{into}
 use Rattle.demands.proofs.Counting.{both-true, not-false}
 use Rattle.demands.proofs.OrderKept.{release-all-ordered}
 use Rattle.demands.proofs.Quiet.{Quietly, trans, release-all-quiet, nothing-taken-quiet, nothing-taken-ordered, poll, calm}
+use Rattle.demands.proofs.ClearSlots.{clear-slot}
 use Rattle.demands.proofs.WaitInReceive.{Settled, nothing-queued, front, poll-settled}
 
 pub record Silent (c : Call) (a : Answer) : Type 0 where
@@ -54,10 +55,10 @@ pub data How : Bool → ReceiveCall → Type 0 where
 pub data Moves : State → Tick → State → Type 0 where
   stays-put : (s : State) (c : Call) (a : Answer) → Silent c a → Moves s (ends c a) s
   credits : (s : State) (c : Call) (a : Answer) → Silent c a → Moves s (ends c a) (releaseAll s)
-  registers-new : (s : State) (m : ℕ) → s .free ≡ [] → s .issued < s .slots
+  registers-new : (s : State) (m : ℕ) → s .issued < s .slots
       → Moves s (ends (Sender (RegisterSender m)) (Registered record { slot = s .issued; generation = s .firstGeneration })) (withIssued (suc (s .issued)) (put (s .issued) (newLane (s .firstGeneration) (s .slotOf (s .issued))) s))
-  registers-old : (s : State) (m x : ℕ) (f : List ℕ) → s .free ≡ x ∷ f
-      → Moves s (ends (Sender (RegisterSender m)) (Registered record { slot = x; generation = s .slotOf x .generation + 1 })) (withFree f (put x (newLane (s .slotOf x .generation + 1) (s .slotOf x)) s))
+  registers-old : (s : State) (m x : ℕ) → 1 ≤ count x (s .free) → s .slotOf x .living ≡ false
+      → Moves s (ends (Sender (RegisterSender m)) (Registered record { slot = x; generation = s .slotOf x .generation + 1 })) (withFree (without x (s .free)) (put x (newLane (s .slotOf x .generation + 1) (s .slotOf x)) s))
   sends : (s : State) (k : LaneKey) (v : ℕ) (w : Bool) (free : ℕ) → senderLives s k ≡ true → s .slotOf (k .slot) .registered ≡ true → isFull s (k .slot) ≡ false
       → Moves s (ends (Sender (TrySend k v)) (Taken w free)) (put (k .slot) (signalled (pushed v (s .slotOf (k .slot)))) s)
   posts : (s : State) (k : LaneKey) (v : ℕ) (w : Bool) (free : ℕ) → senderLives s k ≡ true → s .slotOf (k .slot) .registered ≡ true → isFull s (k .slot) ≡ false
@@ -103,6 +104,16 @@ unless-law P (c ∷ cs) s r f g = go (c .0) refl (unless-law P cs s r f)
     go true e ih = f (c .1)
     go false e ih = ih (λ p. g (e, p))
 
+-- what holds of each of a call's refusals and of the call let through
+pub unless-each : (P : Outcome → Type 0) (cs : List (Bool × Refusal)) (s : State) (r : Outcome) → Each (λ c. P ([], (Refused (c .1), s))) cs → P r → P (unless cs s r)
+unfolding unless Each
+unless-each P [] s r e p = p
+unless-each P (c ∷ cs) s r e p = go (c .0) (unless-each P cs s r (e .1) p)
+  where
+    go : (b : Bool) → P (unless cs s r) → P (if b ([], (Refused (c .1), s)) (unless cs s r))
+    go true ih = e .0
+    go false ih = ih
+
 turned-away : (c : Call) (n : Refusal) → Silent c (Refused n)
 unfolding note looksInVain into accepted findsNothing
 turned-away c n = record { noted = λ L. refl; sees = never (looks c); sends-none = λ k. no-send c k }
@@ -125,13 +136,13 @@ has-lane-of-id s i e = both-true (sameOpening (i .channel) (s .channel)) (hasLan
 
 -- calls that are no receives: one move
 pub sender-move : (s : State) (c : SenderCall) → Moves s (ends (Sender c) ((senderOutcome s c) .1 .0)) ((senderOutcome s c) .1 .1)
-unfolding senderOutcome registerSender trySend trySendUnsignaled dropSender issueSlot olderLives
+unfolding senderOutcome registerSender trySend trySendUnsignaled dropSender issueSlot allIssued
 sender-move s (RegisterSender m) =
-    unless-law (λ o. Moves s (ends (Sender (RegisterSender m)) (o .1 .0)) (o .1 .1)) _ s _ (λ n. stays-put s _ _ (turned-away _ n)) (λ p. go (s .free) refl (p .1 .1 .0))
+    unless-law (λ o. Moves s (ends (Sender (RegisterSender m)) (o .1 .0)) (o .1 .1)) _ s _ (λ n. stays-put s _ _ (turned-away _ n)) (λ p. go (clearSlots s) refl (p .1 .1 .1 .0))
   where
-    go : (f : List ℕ) → s .free ≡ f → both (not (nonEmpty f)) (leb (s .slots) (s .issued)) ≡ false → Moves s (ends (Sender (RegisterSender m)) ((issueSlot f s) .1 .0)) ((issueSlot f s) .1 .1)
-    go [] e h = registers-new s m e (omega (arith, leb-false (s .slots) (s .issued) h))
-    go (x ∷ f) e h = registers-old s m x f e
+    go : (f : List ℕ) → clearSlots s ≡ f → both (not (nonEmpty f)) (leb (s .slots) (s .issued)) ≡ false → Moves s (ends (Sender (RegisterSender m)) ((issueSlot f s) .1 .0)) ((issueSlot f s) .1 .1)
+    go [] e h = registers-new s m (omega (arith, leb-false (s .slots) (s .issued) h))
+    go (x ∷ f) e h = let c = clear-slot s x f e in registers-old s m x (c .listed) (c .clear)
 sender-move s (TrySend k v) =
     unless-law (λ o. Moves s (ends (Sender (TrySend k v)) (o .1 .0)) (o .1 .1)) _ s _ (λ n. stays-put s _ _ (turned-away _ n))
     (λ p. sends s k v _ _ (not-false (p .0)) (both-true (s .isOpen) (s .slotOf (k .slot) .registered) (not-false (p .1 .0)) .1) (p .1 .1 .0))

@@ -3,7 +3,7 @@
 use mathlib.Core.Path.{_≡_, refl, ap, sym, _∙_}
 use mathlib.Core.Bool.{Bool, true, false, not}
 use mathlib.Core.List.{List, _∷_, _++_}
-use Prim.Native.Nat.{ℕ, zero, suc, _<_}
+use Prim.Native.Nat.{ℕ, zero, suc, _≤_, _<_}
 use native.Mathlib.Omega.{arith}
 use lib.Dec.{eqb}
 use borrow.Author.Tests.{eqb-true}
@@ -97,24 +97,24 @@ new-slot-ordered s lt o = record {
         })
     go y (other d e i) = rw e (wider y (o .each-slot y))
 
-freed-slot-ordered : (s : State) (x g : ℕ) (f : List ℕ) → s .free ≡ x ∷ f → Ordered s → Ordered (withFree f (put x (newLane g (s .slotOf x)) s))
-freed-slot-ordered s x g f e o = record {
-  each-slot = one-slot s x (newLane g (s .slotOf x)) (s .queue) f (o .each-slot) (λ y d. refl) (λ y d. sym (first-other x y f d) ∙ ap (count y) (sym e))
-      (let n : count x (s .free) ≡ suc (count x f) = ap (count x) e ∙ first-own x f in
+freed-slot-ordered : (s : State) (x g : ℕ) → 1 ≤ count x (s .free) → Ordered s → Ordered (withFree (without x (s .free)) (put x (newLane g (s .slotOf x)) s))
+freed-slot-ordered s x g i o = record {
+  each-slot = one-slot s x (newLane g (s .slotOf x)) (s .queue) (without x (s .free)) (o .each-slot) (λ y d. refl) (λ y d. without-other x y (s .free) d)
+      (let n : count x (without x (s .free)) ≡ 0 = without-own x (s .free) in
       let h = o .each-slot x in
       record {
         queued-once = h .queued-once;
-        free-once = omega (arith, h .free-once);
+        free-once = omega arith;
         queued-registered = λ z. refl;
         queued-unpaused = λ z. refl;
         is-marked = λ z p q r. absurd (no q refl);
-        registered-issued = λ z. h .free-issued (omega arith);
-        free-issued = λ z. h .free-issued (omega arith);
-        free-unregistered = λ z. absurd (omega (arith, h .free-once));
+        registered-issued = λ z. h .free-issued i;
+        free-issued = λ z. h .free-issued i;
+        free-unregistered = λ z. absurd (omega arith);
         burst-most = λ z. omega arith;
-        living-issued = λ z. h .free-issued (omega arith);
-        marked-issued = λ z. h .free-issued (omega arith);
-        free-generation = λ z. absurd (omega (arith, h .free-once));
+        living-issued = λ z. h .free-issued i;
+        marked-issued = λ z. h .free-issued i;
+        free-generation = λ z. absurd (omega arith);
       });
   budget-most = o .budget-most;
   cursor-most = o .cursor-most;
@@ -137,8 +137,8 @@ living-of s k e = both-true (s .slotOf (k .slot) .living) (eqb (s .slotOf (k .sl
 pub move-ordered : {s u : State} {t : Tick} → Ordered s → Moves s t u → Ordered u
 move-ordered o (stays-put s c a h) = o
 move-ordered o (credits s c a h) = release-all-ordered s o
-move-ordered o (registers-new s m e lt) = new-slot-ordered s lt o
-move-ordered o (registers-old s m x f e) = freed-slot-ordered s x _ f e o
+move-ordered o (registers-new s m lt) = new-slot-ordered s lt o
+move-ordered o (registers-old s m x i l) = freed-slot-ordered s x _ i o
 move-ordered o (sends s k v w free a r nf) = put-ordered s (k .slot) _ o (signal-fine _ _ _ _ (s .slotOf (k .slot)) _ (o .each-slot (k .slot)) refl refl refl refl refl refl (o .each-slot (k .slot) .registered-issued r))
 move-ordered o (posts s k v w free a r nf) = let f = o .each-slot (k .slot) in
     put-ordered s (k .slot) _ o record { queued-once = f .queued-once; free-once = f .free-once; queued-registered = f .queued-registered; queued-unpaused = f .queued-unpaused; is-marked = f .is-marked; registered-issued = f .registered-issued; free-issued = f .free-issued; free-unregistered = f .free-unregistered; burst-most = f .burst-most; living-issued = f .living-issued; marked-issued = f .marked-issued; free-generation = f .free-generation }

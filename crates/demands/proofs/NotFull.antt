@@ -22,15 +22,16 @@ use Rattle.model.specs.Changes.{put, newLane, signalled, pushed, senderDropped,
 use Rattle.model.specs.Turn.{unreleasedAfterOne, giveItem}
 use Rattle.model.specs.Outcome.{unless, says}
 use Rattle.model.specs.Runs.{Lent, sameKey, accepted, Tick, ends, handed, trace, afterList}
-use Rattle.model.specs.Sender.{issueSlot, registerSender, senderOutcome, trySend, trySendUnsignaled}
+use Rattle.model.specs.Sender.{clearSlots, issueSlot, registerSender, senderOutcome, trySend, trySendUnsignaled}
 use Rattle.model.specs.Receive.{queueLaneIf}
 use Rattle.model.specs.Opening.{nextPowerOfTwo, openedState, openingOutcome}
 use Rattle.model.specs.Rules.{outcome, theRules}
 use Rattle.model.specs.Order.{Ordered}
 use Rattle.model.specs.Demand2.{into, values}
 use Rattle.model.specs.FreePlaces.{Send, ordinary, unsignalled, sendTo, HasFree, sent, registered, NotFullBeforeIn, NotFullBefore}
-use Rattle.demands.proofs.Counting.{Same, equal, other, same?, same-self, self, not-false}
+use Rattle.demands.proofs.Counting.{Same, equal, other, same?, self, not-false}
 use Rattle.demands.proofs.Quiet.{Quietly, trans, poll, poll-quiet, release-all-quiet, settle-empty-quiet}
+use Rattle.demands.proofs.ClearSlots.{clear-slot}
 use Rattle.demands.proofs.Moves.{Moves, stays-put, credits, registers-new, registers-old, sends, posts, drops-it, pauses-it, resumes, resumes-not, closes-it, polls-all, shuts-it, takes, stops, aims, aims-none, Chain, stay, move, trace-chain, unless-law}
 use Rattle.demands.proofs.Points.{ends-at}
 use Rattle.demands.proofs.LedgerLaws.{alike, unlike, keys?}
@@ -92,8 +93,8 @@ module _ (k : LaneKey) where
   unfolding into accepted
   move-fills g (stays-put s c a h) = fills-none (k .slot) _ s
   move-fills g (credits s c a h) = fills-quiet (k .slot) _ s _ (release-all-quiet s)
-  move-fills g (registers-new s m e lt) = fills-put (k .slot) _ s _ (s .issued) (newLane (s .firstGeneration) (s .slotOf (s .issued))) (λ y. refl) refl (λ p. omega arith)
-  move-fills g (registers-old s m x f e) = fills-put (k .slot) _ s _ x (newLane (s .slotOf x .generation + 1) (s .slotOf x)) (λ y. refl) refl (λ p. omega arith)
+  move-fills g (registers-new s m lt) = fills-put (k .slot) _ s _ (s .issued) (newLane (s .firstGeneration) (s .slotOf (s .issued))) (λ y. refl) refl (λ p. omega arith)
+  move-fills g (registers-old s m x i l) = fills-put (k .slot) _ s _ x (newLane (s .slotOf x .generation + 1) (s .slotOf x)) (λ y. refl) refl (λ p. omega arith)
   move-fills g (sends s j v w free a r nf) = sent-fills s _ j v (signalled (pushed v (s .slotOf (j .slot)))) g a (λ y. refl) refl refl refl
   move-fills g (posts s j v w free a r nf) = sent-fills s _ j v (pushed v (s .slotOf (j .slot))) g a (λ y. refl) refl refl refl
   move-fills g (drops-it s j a) = fills-put (k .slot) _ s _ (j .slot) (signalled (senderDropped (s .slotOf (j .slot)))) (λ y. refl) refl (λ p. omega arith)
@@ -172,12 +173,12 @@ module _ (k : LaneKey) where
       → Room (s .capacity) 0 ((outcome s (Sender (RegisterSender most))) .1 .1)
   unfolding outcome senderOutcome registerSender issueSlot count
   registered-room s most o =
-      unless-law (λ r. r .1 .0 ≡ Registered k → Room (s .capacity) 0 (r .1 .1)) _ s _ (λ n e. let z : _≡_ {A = ℕ} 0 1 = cc in absurd (omega arith)) (λ p. go (s .free) refl)
+      unless-law (λ r. r .1 .0 ≡ Registered k → Room (s .capacity) 0 (r .1 .1)) _ s _ (λ n e. let z : _≡_ {A = ℕ} 0 1 = cc in absurd (omega arith)) (λ p. go (clearSlots s) refl)
     where
-      go : (f : List ℕ) → s .free ≡ f → (issueSlot f s) .1 .0 ≡ Registered k → Room (s .capacity) 0 ((issueSlot f s) .1 .1)
+      go : (f : List ℕ) → clearSlots s ≡ f → (issueSlot f s) .1 .0 ≡ Registered k → Room (s .capacity) 0 ((issueSlot f s) .1 .1)
       go [] q e = new-room ((issueSlot [] s) .1 .1) (s .issued) (s .firstGeneration) (s .slotOf (s .issued)) (cc) (cc) (omega arith) (rw (self (s .issued)))
       go (x ∷ f) q e =
-          let below : x < s .issued = o .each-slot x .free-issued (subst (λ (l : List ℕ). 1 ≤ count x l) (sym q) (omega (arith, same-self x))) in
+          let below : x < s .issued = o .each-slot x .free-issued (clear-slot s x f q .listed) in
           new-room ((issueSlot (x ∷ f) s) .1 .1) x (s .slotOf x .generation + 1) (s .slotOf x) (cc) (cc) below (rw (self x))
 
   sent-room : (s : State) (first : Send) (w : Bool) (F : ℕ) → Ordered s → (outcome s (sendTo k first)) .1 .0 ≡ Taken w F → Room F 0 ((outcome s (sendTo k first)) .1 .1)

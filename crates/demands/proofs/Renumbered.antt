@@ -28,7 +28,7 @@ use Rattle.model.specs.Ready.{marks, isReady, collectMarks, collectGroup, start
 use Rattle.model.specs.Turn.{retireLane, retireLaneIf, settleEmpty, beforeNextTurn, runDownFrom, runDown, unreleasedAfterOne, giveItem, Took, giveOldest, giveFront, collectIfDue, collectIfNoneQueued, polled, takeOne, takeFair}
 use Rattle.model.specs.Outcome.{Outcome, says, unless}
 use Rattle.model.specs.Runs.{Lent, Tick, gives, ends, handed, ticks, trace, afterList}
-use Rattle.model.specs.Sender.{issueSlot, olderLives, registerSender, trySend, trySendUnsignaled, dropSender, senderOutcome}
+use Rattle.model.specs.Sender.{clearSlots, issueSlot, allIssued, registerSender, trySend, trySendUnsignaled, dropSender, senderOutcome}
 use Rattle.model.specs.Receive.{retireEmptyPausedLanes, emptyOrDrained, nothingTaken, answerOne, tryRecv, tryRecvFair, queueLaneIf, takeFrom, tryRecvFrom, andMore, takeUpTo, releaseAll, answerItems, tryRecvBatchInto, writtenTo, receiveOutcome, outputAfter}
 use Rattle.model.specs.Control.{pause, resumeIf, resume, closeLane, releaseConsumed, pollAllLanes, closeReceiver, countHeld, controlOutcome}
 use Rattle.model.specs.Opening.{openedState, openingOutcome}
@@ -197,14 +197,9 @@ module _ (f : ℕ → ℕ) where
   issue-slot [] s = refl
   issue-slot (x ∷ l) s = refl
 
-  older-lives : (l : List ℕ) (s : State) → olderLives l (renumbered s) ≡ olderLives l s
-  unfolding olderLives
-  older-lives [] s = refl
-  older-lives (x ∷ l) s = refl
-
   sender-call : (s : State) (c : SenderCall) → senderOutcome (renumbered s) c ≡ renumberedOutcome (senderOutcome s c)
-  unfolding senderOutcome registerSender registeredLanes trySend trySendUnsignaled dropSender senderLives isFull freePlaces renumberedAnswer
-  sender-call s (RegisterSender most) = rw (older-lives (s .free) s) (passing _ s (issueSlot (s .free) s) (issue-slot (s .free) s))
+  unfolding senderOutcome registerSender clearSlots allIssued registeredLanes trySend trySendUnsignaled dropSender senderLives isFull freePlaces renumberedAnswer
+  sender-call s (RegisterSender most) = passing _ s (issueSlot (clearSlots s) s) (issue-slot (clearSlots s) s)
   sender-call s (TrySend k v) = passing _ s _ refl
   sender-call s (TrySendUnsignaled k v) = passing _ s _ refl
   sender-call s (DropSender k) = passing _ s _ refl

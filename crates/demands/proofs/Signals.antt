@@ -219,8 +219,8 @@ receive-signals s (TryRecvBatchInto m n) =
 sender-signals : {s u : State} {c : SenderCall} {a : Answer} → Moves s (ends (Sender c) a) u → SignalsKept s u
 sender-signals (stays-put s c a h) = λ y g. g
 sender-signals (credits s c a h) = release-all-signals s
-sender-signals (registers-new s m e lt) = put-signals s (s .issued) (newLane (s .firstGeneration) (s .slotOf (s .issued))) (λ h. alive _ refl)
-sender-signals (registers-old s m x f e) = put-signals s x (newLane (s .slotOf x .generation + 1) (s .slotOf x)) (λ h. alive _ refl)
+sender-signals (registers-new s m lt) = put-signals s (s .issued) (newLane (s .firstGeneration) (s .slotOf (s .issued))) (λ h. alive _ refl)
+sender-signals (registers-old s m x i l) = put-signals s x (newLane (s .slotOf x .generation + 1) (s .slotOf x)) (λ h. alive _ refl)
 sender-signals (sends s j v w free a r nf) = put-signals s (j .slot) (signalled (pushed v (s .slotOf (j .slot)))) (λ h. is-pending _ refl)
 sender-signals (posts s j v w free a r nf) = put-signals s (j .slot) (pushed v (s .slotOf (j .slot))) (as-was (s .slotOf (j .slot)) _ refl refl refl)
 sender-signals (drops-it s j a) = put-signals s (j .slot) (signalled (senderDropped (s .slotOf (j .slot)))) (λ h. is-pending _ refl)

@@ -187,13 +187,13 @@ module _ (E R : ℕ) (K : LaneKey) where
       go : Wait E R (K .slot) k s → Wait E R (K .slot) k (releaseAll s)
       go (in-queue i a) = in-queue i (omega (arith, ahead-le (s .slotOf) ((releaseAll s) .slotOf) (s .queue) (K .slot) (λ y d c. omega arith)))
       go (in-marks z m a) = in-marks z m a
-  move-on k w n (registers-new s m e lt) f =
+  move-on k w n (registers-new s m lt) f =
       let o = w .ord in
       off s _ k (s .issued) _ (λ p. omega (arith, o .each-slot (K .slot) .registered-issued (w .hold .is-registered), p)) (λ z. refl) refl refl
       (λ c. absurd (omega (arith, c, unqueued-of (o .each-slot (s .issued)) (unissued s o)))) (shrinks-same (K .slot) (s .queue)) (λ z. z) w
-  move-on k w n (registers-old s m y r e) f =
+  move-on k w n (registers-old s m y i l) f =
       let o = w .ord in
-      let v = o .each-slot y .free-unregistered (omega (arith, ap (count y) e, first-own y r)) in
+      let v = o .each-slot y .free-unregistered i in
       off s _ k y _ (λ p. no (w .hold .is-registered) (ap (λ (z : ℕ). s .slotOf z .registered) p ∙ v)) (λ z. refl) refl refl
       (λ c. absurd (omega (arith, c, unqueued-of (o .each-slot y) v))) (shrinks-same (K .slot) (s .queue)) (λ z. z) w
   move-on k w n (sends s j v i free a r nf) f =

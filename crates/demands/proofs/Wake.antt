@@ -145,8 +145,8 @@ module _ (k : LaneKey) where
   unfolding endsSleep whileAsleep sendsTo accepted releaseAll
   move-asleep (stays-put s c a n) e f h = h
   move-asleep (credits s c a n) e f h = record { idle = h .idle }
-  move-asleep (registers-new s m n lt) e f h = record { idle = put-asleep k s (s .issued) (newLane (s .firstGeneration) (s .slotOf (s .issued))) (λ p r g v. refl) h .idle }
-  move-asleep (registers-old s m x l n) e f h = record { idle = put-asleep k s x (newLane (s .slotOf x .generation + 1) (s .slotOf x)) (λ p r g v. refl) h .idle }
+  move-asleep (registers-new s m lt) e f h = record { idle = put-asleep k s (s .issued) (newLane (s .firstGeneration) (s .slotOf (s .issued))) (λ p r g v. refl) h .idle }
+  move-asleep (registers-old s m x i l) e f h = record { idle = put-asleep k s x (newLane (s .slotOf x .generation + 1) (s .slotOf x)) (λ p r g v. refl) h .idle }
   move-asleep (sends s j v w free a r nf) e f h =
       put-asleep k s (j .slot) (signalled (pushed v (s .slotOf (j .slot))))
       (λ p r g l. elim (keys? j k) [ alike q b ↦ absurd (no b f) | unlike d b ↦ absurd (d (key-path j k p (sym (sender-parts s j a .1) ∙ g))) ]) h

@@ -120,8 +120,8 @@ queue-marked s q = record { issues = omega arith; bits = λ y h. h }
 sender-marked : {s u : State} {c : SenderCall} {a : Answer} → Moves s (ends (Sender c) a) u → Marked s u
 sender-marked (stays-put s c a h) = unchanged s
 sender-marked (credits s c a h) = release-all-marked s
-sender-marked (registers-new s m e lt) = let p = put-marked s (s .issued) (newLane (s .firstGeneration) (s .slotOf (s .issued))) (λ h. h) in record { issues = omega arith; bits = p .bits }
-sender-marked (registers-old s m x f e) = let p = put-marked s x (newLane (s .slotOf x .generation + 1) (s .slotOf x)) (λ h. h) in record { issues = omega arith; bits = p .bits }
+sender-marked (registers-new s m lt) = let p = put-marked s (s .issued) (newLane (s .firstGeneration) (s .slotOf (s .issued))) (λ h. h) in record { issues = omega arith; bits = p .bits }
+sender-marked (registers-old s m x i l) = let p = put-marked s x (newLane (s .slotOf x .generation + 1) (s .slotOf x)) (λ h. h) in record { issues = omega arith; bits = p .bits }
 sender-marked (sends s j v w free a r nf) = put-marked s (j .slot) (signalled (pushed v (s .slotOf (j .slot)))) (signalled-marked (pushed v (s .slotOf (j .slot))))
 sender-marked (posts s j v w free a r nf) = put-marked s (j .slot) (pushed v (s .slotOf (j .slot))) (λ h. h)
 sender-marked (drops-it s j a) = put-marked s (j .slot) (signalled (senderDropped (s .slotOf (j .slot)))) (signalled-marked (senderDropped (s .slotOf (j .slot))))

@@ -18,6 +18,7 @@ pub mod Miscounted
 pub mod LaneIds
 pub mod Mistaken
 pub mod Renumbered
+pub mod Registration
 pub mod ReceivesEnd
 pub mod BudgetAfterNothing
 pub mod WhileMarked

@@ -33,6 +33,7 @@ pub mod Disconnected
 pub mod ShutOut
 pub mod PollLoop
 pub mod Signals
+pub mod Registration
 pub mod ReceivesEnd
 pub mod BudgetAfterNothing
 pub mod WhileMarked

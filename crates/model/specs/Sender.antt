@@ -9,33 +9,38 @@ use Rattle.model.specs.declared.SenderCall.{SenderCall}
 use Rattle.model.specs.declared.SenderCall.the-variants.{RegisterSender, TrySend, TrySendUnsignaled, DropSender}
 use Rattle.model.specs.declared.Refusal.the-variants.{ReceiverClosed, AtCapacity, NoFreeSlot, OlderSenderLives, NoSuchSender, LaneClosed, Full}
 use Rattle.model.specs.declared.Answer.the-variants.{Done, Registered, Taken}
-use Rattle.model.specs.Lists.{both, nonEmpty}
+use Rattle.model.specs.Lists.{both, nonEmpty, keep, without}
 use Rattle.model.specs.State.{State, registeredLanes, senderLives, isFull, freePlaces}
 use Rattle.model.specs.Changes.{withFree, withIssued, put, newLane, signalled, pushed, senderDropped}
 use Rattle.model.specs.Outcome.{Outcome, says, unless}
 
--- "Slots: the one freed last is issued first, with generation + 1; else the next unused."
--- "a slot's first lane has the first generation"
+-- Document 02, N4: registration "goes down the free list, most recently freed first, and takes the first slot without a living older sender".
+-- The free slots without one, in the list's order. Reading: only a slot from the free list can have an older sender.
+unfoldable pub clearSlots : State → List ℕ
+clearSlots s = keep (λ x. not (s .slotOf x .living)) (s .free)
+
+-- The first of these, with generation + 1; "failing that, the next unused slot", and "a slot's first lane has the first generation".
+-- "The slots passed over stay in the list in their order."
 unfoldable pub issueSlot : List ℕ → State → Outcome
 issueSlot [] s =
     says (Registered record { slot = s .issued; generation = s .firstGeneration })
     (withIssued (suc (s .issued)) (put (s .issued) (newLane (s .firstGeneration) (s .slotOf (s .issued))) s))
 issueSlot (x ∷ f) s =
     says (Registered record { slot = x; generation = s .slotOf x .generation + 1 })
-    (withFree f (put x (newLane (s .slotOf x .generation + 1) (s .slotOf x)) s))
+    (withFree (without x (s .free)) (put x (newLane (s .slotOf x .generation + 1) (s .slotOf x)) s))
 
--- "the slot due still has a living older sender". Reading: only a slot from the free list can have one.
-unfoldable pub olderLives : List ℕ → State → Bool
-olderLives [] s = false
-olderLives (x ∷ f) s = s .slotOf x .living
+-- "slot S - 1 has been issued"
+unfoldable pub allIssued : State → Bool
+allIssued s = leb (s .slots) (s .issued)
 
--- "receiver closed"; "registered lanes are as many as the most-lanes number, or more"; "free list empty and slot S - 1 issued"
+-- "receiver closed"; "registered lanes are as many as the most-lanes number, or more". Then, where slot S - 1 has been issued, refusal 8 if the free list is
+-- empty, and refusal 9 if it is not and "all its slots have living older senders".
 unfoldable pub registerSender : State → ℕ → Outcome
 registerSender s most =
     unless
     ((not (s .isOpen), ReceiverClosed) ∷ (leb most (registeredLanes s), AtCapacity)
-    ∷ (both (not (nonEmpty (s .free))) (leb (s .slots) (s .issued)), NoFreeSlot) ∷ (olderLives (s .free) s, OlderSenderLives) ∷ [])
-    s (issueSlot (s .free) s)
+    ∷ (both (not (nonEmpty (s .free))) (allIssued s), NoFreeSlot) ∷ (both (not (nonEmpty (clearSlots s))) (allIssued s), OlderSenderLives) ∷ [])
+    s (issueSlot (clearSlots s) s)
 
 -- What an accepted send comes to, where s has the item in slot x's ring. Document 02, N1: it "answers also how many further sends the ring would take".
 abbrev pub saysTaken : Bool → ℕ → State → Outcome

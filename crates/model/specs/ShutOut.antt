@@ -19,14 +19,14 @@ use Rattle.model.specs.declared.Call.the-variants.{Sender, Receive, Cont
 use Rattle.model.specs.declared.Refusal.the-variants.{StoreNotInOrder, ReceiverClosed, OutputShort, Full}
 use Rattle.model.specs.declared.Answer.{Answer}
 use Rattle.model.specs.declared.Answer.the-variants.{Done, Registered, Taken, Item, Items, Empty, Disconnected, Held, Refused}
-use Rattle.model.specs.Lists.{if, both}
+use Rattle.model.specs.Lists.{if, both, without}
 use Rattle.model.specs.State.{State, keyOf, hasLaneId, freePlaces}
 use Rattle.model.specs.Changes.{withQueue, withFree, withIssued, withBudget, put, withRing, newLane}
 use Rattle.model.specs.Ready.{collectReady}
 use Rattle.model.specs.Turn.{runDown, giveFront, polled}
 use Rattle.model.specs.Outcome.{Outcome, says, unless}
 use Rattle.model.specs.Runs.{Lent, Rules, accepted}
-use Rattle.model.specs.Sender.{issueSlot, registerSender, trySend, trySendUnsignaled, senderOutcome}
+use Rattle.model.specs.Sender.{clearSlots, issueSlot, registerSender, trySend, trySendUnsignaled, senderOutcome}
 use Rattle.model.specs.Receive.{answerOne, takeUpTo, releaseAll, answerItems, writtenTo, receiveOutcome}
 use Rattle.model.specs.Control.{controlOutcome}
 use Rattle.model.specs.Opening.{openedState, openingOutcome}
@@ -154,10 +154,10 @@ heldZero = rulesBy senderOutcome receiveOutcome countsNone
 -- `KeysNeverAgain` shuts out a slot that is issued again under the same key.
 unfoldable pub issuedAgain : List ℕ → State → Outcome
 issuedAgain [] s = issueSlot [] s
-issuedAgain (x ∷ f) s = says (Registered (keyOf s x)) (withFree f (put x (newLane (s .slotOf x .generation) (s .slotOf x)) s))
+issuedAgain (x ∷ f) s = says (Registered (keyOf s x)) (withFree (without x (s .free)) (put x (newLane (s .slotOf x .generation) (s .slotOf x)) s))
 
 unfoldable pub registerSameKey : State → SenderCall → Outcome
-registerSameKey s (RegisterSender most) = let o = registerSender s most in if (accepted (o .1 .0)) (issuedAgain (s .free) s) o
+registerSameKey s (RegisterSender most) = let o = registerSender s most in if (accepted (o .1 .0)) (issuedAgain (clearSlots s) s) o
 registerSameKey s (TrySend k v) = senderOutcome s (TrySend k v)
 registerSameKey s (TrySendUnsignaled k v) = senderOutcome s (TrySendUnsignaled k v)
 registerSameKey s (DropSender k) = senderOutcome s (DropSender k)
@@ -245,10 +245,10 @@ unfoldable pub issuedUnreleased : List ℕ → State → Outcome
 issuedUnreleased [] s = issueSlot [] s
 issuedUnreleased (x ∷ f) s =
     let l = s .slotOf x in
-    says (Registered record { slot = x; generation = l .generation + 1 }) (withFree f (put x (withRing [] (l .unreleased) 0 (newLane (l .generation + 1) l)) s))
+    says (Registered record { slot = x; generation = l .generation + 1 }) (withFree (without x (s .free)) (put x (withRing [] (l .unreleased) 0 (newLane (l .generation + 1) l)) s))
 
 unfoldable pub registerUnreleased : State → SenderCall → Outcome
-registerUnreleased s (RegisterSender most) = let o = registerSender s most in if (accepted (o .1 .0)) (issuedUnreleased (s .free) s) o
+registerUnreleased s (RegisterSender most) = let o = registerSender s most in if (accepted (o .1 .0)) (issuedUnreleased (clearSlots s) s) o
 registerUnreleased s (TrySend k v) = senderOutcome s (TrySend k v)
 registerUnreleased s (TrySendUnsignaled k v) = senderOutcome s (TrySendUnsignaled k v)
 registerUnreleased s (DropSender k) = senderOutcome s (DropSender k)
@@ -386,7 +386,7 @@ issuedNumbered [] s =
 issuedNumbered (x ∷ l) s = issueSlot (x ∷ l) s
 
 unfoldable pub registerNumbered : State → SenderCall → Outcome
-registerNumbered s (RegisterSender most) = let o = registerSender s most in if (accepted (o .1 .0)) (issuedNumbered (s .free) s) o
+registerNumbered s (RegisterSender most) = let o = registerSender s most in if (accepted (o .1 .0)) (issuedNumbered (clearSlots s) s) o
 registerNumbered s (TrySend k v) = senderOutcome s (TrySend k v)
 registerNumbered s (TrySendUnsignaled k v) = senderOutcome s (TrySendUnsignaled k v)
 registerNumbered s (DropSender k) = senderOutcome s (DropSender k)

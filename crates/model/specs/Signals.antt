@@ -3,17 +3,15 @@
 -- Assumes nothing.
 use mathlib.Core.Path.{_≡_}
 use mathlib.Core.Bool.{Bool, true, false}
-use mathlib.Core.List.{List, [], _∷_}
-use Prim.Native.Nat.{ℕ, _≤_, _<_}
+use mathlib.Core.List.{[]}
+use Prim.Native.Nat.{ℕ, _≤_}
 use Rattle.model.specs.declared.LaneKey.{LaneKey}
 use Rattle.model.specs.declared.SenderCall.the-variants.{RegisterSender, TrySend, TrySendUnsignaled, DropSender}
 use Rattle.model.specs.declared.Call.{Call}
 use Rattle.model.specs.declared.Call.the-variants.{Sender, Receive, Control}
-use Rattle.model.specs.declared.Refusal.the-variants.{OlderSenderLives}
-use Rattle.model.specs.declared.Answer.the-variants.{Refused}
-use Rattle.model.specs.State.{registeredLanes, keyOf}
+use Rattle.model.specs.State.{keyOf}
 use Rattle.model.specs.Runs.{sameKey}
-use Rattle.model.specs.Viewed.{Viewed, answerOf, viewAfter}
+use Rattle.model.specs.Viewed.{Viewed, viewAfter}
 use Rattle.model.specs.Events.{findsEmpty, countEvents, callEvents}
 
 -- Whether a call is a drop of the sender with key k.
@@ -56,10 +54,3 @@ module _ (W : Viewed) where
   ClosedSignalKept =
       (s : W .rules .State) (c : Call) (x : ℕ) → W .Ok s → W .view s .slotOf x .registered ≡ false → W .view s .slotOf x .living ≡ true
       → ClosedAfter s c x
-
-  -- "the slot due still has a living older sender": a registration that refusals 6 and 7 let pass is then refused with 9, and changes nothing.
-  unfoldable pub OlderSenderRefused : Type 0
-  OlderSenderRefused =
-      (s : W .rules .State) → W .Ok s → let t = W .view s in
-      (x : ℕ) (f : List ℕ) (most : ℕ) → t .free ≡ x ∷ f → t .slotOf x .living ≡ true → t .isOpen ≡ true → registeredLanes t < most
-      → let c = Sender (RegisterSender most) in (answerOf W s c ≡ Refused OlderSenderLives) × (viewAfter W s c ≡ t)

@@ -17,7 +17,7 @@ use Rattle.model.specs.Ready.{groupOf, groupsIn, marks, isReady, collect
 use Rattle.model.specs.Turn.{retireLane, retireLaneIf, settleEmpty, refill, beforeNextTurn, runDownFrom, runDown, unreleasedAfterOne, giveItem, giveOldest, giveFront, collectIfDue, collectIfNoneQueued, polled, takeOne, takeFair}
 use Rattle.model.specs.Outcome.{unless}
 use Rattle.model.specs.Runs.{answers, afterList}
-use Rattle.model.specs.Sender.{issueSlot, olderLives, registerSender, trySend, trySendUnsignaled, dropSender, senderOutcome}
+use Rattle.model.specs.Sender.{clearSlots, issueSlot, allIssued, registerSender, trySend, trySendUnsignaled, dropSender, senderOutcome}
 use Rattle.model.specs.Receive.{retireEmptyPausedLanes, emptyOrDrained, nothingTaken, answerOne, tryRecv, tryRecvFair, queueLaneIf, takeFrom, tryRecvFrom, andMore, takeUpTo, releaseAll, answerItems, tryRecvBatchInto, writtenTo, receiveOutcome, outputAfter}
 use Rattle.model.specs.Control.{pause, resumeIf, resume, closeLane, releaseConsumed, pollAllLanes, closeReceiver, countHeld, controlOutcome}
 use Rattle.model.specs.Opening.{doubledUntil, openedState, openingOutcome}
@@ -28,7 +28,7 @@ use Rattle.model.specs.Examples.Table.{creditAfter, table}
 
 -- All definitions of the rules, for computing with them.
 unfoldable pub compute : Unit {0}
-unfolding same count keep without from total vacant mayQueue registeredLanes livingSenders senderLives hasLane hasLaneId isFull freePlaces releaseBatch ringOf groupOf groupsIn marks isReady collectMarks collectGroup startGroup groupsRound collectFirst collectEach collectReadyGroup collectReady retireLane retireLaneIf settleEmpty refill beforeNextTurn runDownFrom runDown unreleasedAfterOne giveItem giveOldest giveFront collectIfDue collectIfNoneQueued polled takeOne takeFair unless retireEmptyPausedLanes emptyOrDrained nothingTaken answerOne tryRecv tryRecvFair queueLaneIf takeFrom tryRecvFrom andMore takeUpTo releaseAll answerItems tryRecvBatchInto receiveOutcome pause resumeIf resume closeLane releaseConsumed pollAllLanes closeReceiver countHeld controlOutcome issueSlot olderLives registerSender trySend trySendUnsignaled dropSender senderOutcome doubledUntil openedState openingOutcome outcome
+unfolding same count keep without from total vacant mayQueue registeredLanes livingSenders senderLives hasLane hasLaneId isFull freePlaces releaseBatch ringOf groupOf groupsIn marks isReady collectMarks collectGroup startGroup groupsRound collectFirst collectEach collectReadyGroup collectReady retireLane retireLaneIf settleEmpty refill beforeNextTurn runDownFrom runDown unreleasedAfterOne giveItem giveOldest giveFront collectIfDue collectIfNoneQueued polled takeOne takeFair unless retireEmptyPausedLanes emptyOrDrained nothingTaken answerOne tryRecv tryRecvFair queueLaneIf takeFrom tryRecvFrom andMore takeUpTo releaseAll answerItems tryRecvBatchInto receiveOutcome pause resumeIf resume closeLane releaseConsumed pollAllLanes closeReceiver countHeld controlOutcome clearSlots issueSlot allIssued registerSender trySend trySendUnsignaled dropSender senderOutcome doubledUntil openedState openingOutcome outcome
 compute = tt
 
 -- what does come of an example: its answers, and the poll budget at the end

@@ -224,7 +224,73 @@ table =
           ∷ (1, registers, Refused ReceiverClosed)
           ∷ [];
     }
-    -- "the slot due still has a living older sender"; a closed lane's items are gone
+    -- Document 02, N4: "goes down the free list, most recently freed first, and takes the first slot without a living older sender"; then slot 3 is in use too, so 9;
+    -- "The slots passed over stay in the list in their order."; 8 "only when the list is empty too"
+    ∷ record {
+      capacity = 4;
+      slots = 4;
+      generation = 0;
+      budget = 64;
+      said = (1, registers, lane 0 0)
+          ∷ (1, registers, lane 1 0)
+          ∷ (1, registers, lane 2 0)
+          ∷ (1, registers, lane 3 0)
+          ∷ (1, drops 0, Done)
+          ∷ (1, plain, Empty)
+          ∷ (1, closes 1, Done)
+          ∷ (1, closes 2, Done)
+          ∷ (1, registers, lane 0 1)
+          ∷ (1, registers, Refused OlderSenderLives)
+          ∷ (1, drops 1, Done)
+          ∷ (1, drops 2, Done)
+          ∷ (1, registers, lane 2 1)
+          ∷ (1, registers, lane 1 1)
+          ∷ (1, registers, Refused NoFreeSlot)
+          ∷ [];
+    }
+    -- "failing that, the next unused slot": 9 only once there is none; the slot passed over is taken when its sender is gone
+    ∷ record {
+      capacity = 4;
+      slots = 3;
+      generation = 0;
+      budget = 64;
+      said = (1, registers, lane 0 0)
+          ∷ (1, registers, lane 1 0)
+          ∷ (1, closes 0, Done)
+          ∷ (1, registers, lane 2 0)
+          ∷ (1, registers, Refused OlderSenderLives)
+          ∷ (1, sends 0 3, Refused LaneClosed)
+          ∷ (1, drops 0, Done)
+          ∷ (1, registers, lane 0 1)
+          ∷ [];
+    }
+    -- a clear slot below one that is passed over comes before the unused one
+    ∷ record {
+      capacity = 4;
+      slots = 4;
+      generation = 0;
+      budget = 64;
+      said = (1, registers, lane 0 0)
+          ∷ (1, registers, lane 1 0)
+          ∷ (1, drops 0, Done)
+          ∷ (1, plain, Empty)
+          ∷ (1, closes 1, Done)
+          ∷ (1, registers, lane 0 1)
+          ∷ (1, registers, lane 2 0)
+          ∷ [];
+    }
+    -- a slot retired at the last generation is not in the list: 8, though its sender lives
+    ∷ record {
+      capacity = 4;
+      slots = 1;
+      generation = 18446744073709551615;
+      budget = 64;
+      said = (1, registers, lane 0 18446744073709551615)
+          ∷ (1, Control (CloseLane (idAt 0 18446744073709551615)), Done)
+          ∷ (1, registers, Refused NoFreeSlot)
+          ∷ [];
+    }
+    -- all free slots have living older senders, and slot S - 1 is issued; a closed lane's items are gone
     ∷ record {
       capacity = 4;
       slots = 2;

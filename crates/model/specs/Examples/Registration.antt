@@ -1,0 +1,223 @@
+-- What the claims of specs/Registration.antt force, whatever the rules for senders are: the whole answer and state at small states, and no refusal 8 or 9 elsewhere.
+-- A claim in weaker words would force less.
+-- Assumes nothing.
+use mathlib.Core.Path.{_≡_, refl, ap, subst}
+use mathlib.Core.Logic.{_≢_}
+use mathlib.Core.List.{List, [], _∷_, _++_}
+use Prim.Native.Nat.{ℕ}
+use native.Mathlib.Omega.{arith}
+use lib.ListN.{length}
+use Rattle.model.specs.declared.SenderCall.{SenderCall}
+use Rattle.model.specs.declared.SenderCall.the-variants.{RegisterSender, TrySend, TrySendUnsignaled, DropSender}
+use Rattle.model.specs.declared.ControlCall.the-variants.{CloseReceiver}
+use Rattle.model.specs.declared.Call.{Call}
+use Rattle.model.specs.declared.Call.the-variants.{Sender, Receive, Control}
+use Rattle.model.specs.declared.Refusal.{Refusal}
+use Rattle.model.specs.declared.Refusal.the-variants.{AtCapacity, NoFreeSlot, OlderSenderLives}
+use Rattle.model.specs.declared.Answer.{Answer}
+use Rattle.model.specs.declared.Answer.the-variants.{Refused}
+use Rattle.model.specs.Lists.{Each}
+use Rattle.model.specs.State.{State}
+use Rattle.model.specs.Changes.{withFree, withIssued, put, newLane}
+use Rattle.model.specs.Outcome.{Outcome}
+use Rattle.model.specs.Runs.{allRuns, afterList}
+use Rattle.model.specs.Receive.{receiveOutcome}
+use Rattle.model.specs.Control.{controlOutcome}
+use Rattle.model.specs.Opening.{openedState}
+use Rattle.model.specs.Rules.{theRules}
+use Rattle.model.specs.Viewed.{Viewed}
+use Rattle.model.specs.Registration.{LetPass, FirstClear, NoSlotLeft, RegistersInVain, TakesFirstClear, TakesNextUnused, EightExactly, NineExactly, RefusedOnlyInVain, issueFreedLast, freedLastLives, registerFreedLast, PassesOver}
+use Rattle.model.specs.ShutOut.{callBy, rulesBy}
+use Rattle.model.specs.Examples.Example.{computeExamples, keyAt, registers, drops, closes, plain, lane}
+use Rattle.model.specs.Examples.Calls.{compute}
+
+-- ---- four states
+
+-- after these calls, with S slots and first generation 0
+after : ℕ → List Call → State
+after S calls = afterList theRules (openedState record { capacity = 1; slots = S; channel = 7; cursor = 0; generation = 0; number = 0 }) calls
+
+-- lane 4 is registered and slot 5 unused; the free list is 3, 2, 1, 0, of which 3 and 2 have living older senders
+twoToPass : State
+twoToPass = after 6 (registers ∷ registers ∷ registers ∷ registers ∷ registers ∷ drops 0 ∷ drops 1 ∷ plain ∷ closes 2 ∷ closes 3 ∷ [])
+
+-- lane 2 is registered; the free list is 1, 0, both with living older senders; S slots
+allToPass : ℕ → State
+allToPass S = after S (registers ∷ registers ∷ registers ∷ closes 0 ∷ closes 1 ∷ [])
+
+-- one lane and no free slot; S slots
+noneFree : ℕ → State
+noneFree S = after S (registers ∷ [])
+
+-- the receiver closed
+shut : State → State
+shut s = afterList theRules s (Control CloseReceiver ∷ [])
+
+computeStates : Unit {0}
+unfolding compute computeExamples afterList after twoToPass allToPass noneFree shut callBy Each issueFreedLast freedLastLives registerFreedLast
+computeStates = tt
+
+lists : (twoToPass .free ≡ 3 ∷ 2 ∷ 1 ∷ 0 ∷ []) × (allToPass 3 .free ≡ 1 ∷ 0 ∷ []) × (allToPass 4 .free ≡ 1 ∷ 0 ∷ []) × (noneFree 1 .free ≡ [])
+unfolding computeStates
+lists = (refl, refl, refl, refl)
+
+-- ---- what is forced
+
+abbrev registersFor : ℕ → Call
+registersFor most = Sender (RegisterSender most)
+
+-- 6 and 7 let a registration pass: one lane is registered, and two may be
+passes-two : LetPass twoToPass 2
+unfolding computeStates
+passes-two = record { is-open = refl; below-most = omega arith }
+
+passes-all : LetPass (allToPass 3) 2 × LetPass (allToPass 4) 2
+unfolding computeStates
+passes-all = (record { is-open = refl; below-most = omega arith }, record { is-open = refl; below-most = omega arith })
+
+passes-none : LetPass (noneFree 1) 2 × LetPass (noneFree 2) 2
+unfolding computeStates
+passes-none = (record { is-open = refl; below-most = omega arith }, record { is-open = refl; below-most = omega arith })
+
+-- all free slots have living older senders, and the last slot is issued
+vain : RegistersInVain (allToPass 3) (registersFor 2)
+unfolding computeStates
+vain = record { most = 2; registers = refl; let-pass = passes-all .0; no-slot = record { older-live = (refl, (refl, tt)); all-issued = omega arith } }
+
+vain-none : RegistersInVain (noneFree 1) (registersFor 2)
+unfolding computeStates
+vain-none = record { most = 2; registers = refl; let-pass = passes-none .0; no-slot = record { older-live = tt; all-issued = omega arith } }
+
+-- a clear slot in the list, or an unused one
+not-two : NoSlotLeft twoToPass → ⊥
+unfolding computeStates
+not-two n = omega (arith, n .all-issued)
+
+not-unused : NoSlotLeft (allToPass 4) → ⊥
+unfolding computeStates
+not-unused n = omega (arith, n .all-issued)
+
+-- the most-lanes number of a registration is its own
+let-pass-of : {s : State} {most : ℕ} → RegistersInVain s (registersFor most) → LetPass s most
+let-pass-of {s} {most} v = let e : v .most ≡ most = cc in subst (LetPass s) e (v .let-pass)
+
+-- a drop is no registration
+not-a-drop : {s : State} → RegistersInVain s (Sender (DropSender (keyAt 9 9))) → ⊥
+not-a-drop v = let e = v .registers in let z : _≡_ {A = ℕ} 0 1 = cc in omega arith
+
+-- one lane may be registered, and one is
+one-already : (LetPass (allToPass 3) 1 → ⊥) × (LetPass (noneFree 1) 1 → ⊥)
+unfolding computeStates
+one-already = (λ p. omega (arith, p .below-most), λ p. omega (arith, p .below-most))
+
+not-open : (LetPass (shut (allToPass 3)) 2 → ⊥) × (LetPass (shut (noneFree 1)) 2 → ⊥)
+unfolding computeStates
+not-open = (λ p. let z : _≡_ {A = ℕ} 0 1 = cc in omega arith, λ p. let z : _≡_ {A = ℕ} 0 1 = cc in omega arith)
+
+-- of any rules for senders
+module _ (sending : State → SenderCall → Outcome) where
+  abbrev W : Viewed
+  W = let R = rulesBy sending receiveOutcome controlOutcome in record { rules = R; runs = allRuns R; view = λ s. s; Ok = λ s. Unit {0} }
+
+  abbrev says : State → ℕ → Answer
+  says s most = (sending s (RegisterSender most)) .1 .0
+
+  abbrev leaves : State → ℕ → State
+  leaves s most = (sending s (RegisterSender most)) .1 .1
+
+  -- two slots passed over, the third taken with generation 1, and all others stay in the list in their order
+  first-clear-forced : TakesFirstClear W → (says twoToPass 2 ≡ lane 1 1) × (leaves twoToPass 2 ≡ withFree (3 ∷ 2 ∷ 0 ∷ []) (put 1 (newLane 1 (twoToPass .slotOf 1)) twoToPass))
+  unfolding computeStates TakesFirstClear
+  first-clear-forced claim = claim twoToPass tt 2 1 (3 ∷ 2 ∷ []) (0 ∷ []) passes-two record { list = refl; passed = (refl, (refl, tt)); clear = refl }
+
+  -- the next unused slot, where all in the list are passed over
+  next-unused-forced : TakesNextUnused W → (says (allToPass 4) 2 ≡ lane 3 0) × (leaves (allToPass 4) 2 ≡ withIssued 4 (put 3 (newLane 0 (allToPass 4 .slotOf 3)) (allToPass 4)))
+  unfolding computeStates TakesNextUnused
+  next-unused-forced claim = claim (allToPass 4) tt 2 (passes-all .1) (refl, (refl, tt)) (omega arith)
+
+  -- and where there is none in it
+  next-unused-forced-too : TakesNextUnused W → says (noneFree 2) 2 ≡ lane 1 0
+  unfolding computeStates TakesNextUnused
+  next-unused-forced-too claim = claim (noneFree 2) tt 2 (passes-none .1) tt (omega arith) .0
+
+  nine-forced : NineExactly W → says (allToPass 3) 2 ≡ Refused OlderSenderLives
+  unfolding computeStates NineExactly
+  nine-forced claim = claim (allToPass 3) tt (registersFor 2) .1 vain (λ e. omega (arith, ap length e))
+
+  eight-forced : EightExactly W → says (noneFree 1) 2 ≡ Refused NoFreeSlot
+  unfolding computeStates EightExactly
+  eight-forced claim = claim (noneFree 1) tt (registersFor 2) .1 vain-none refl
+
+  -- no 9 with a clear slot, with an unused slot, with an empty list, ahead of 7 or of 6, or to another call
+  nine-not : NineExactly W → Each (λ (a : Answer). a ≡ Refused OlderSenderLives → ⊥)
+      (says twoToPass 2 ∷ says (allToPass 4) 2 ∷ says (noneFree 1) 2 ∷ says (allToPass 3) 1 ∷ says (shut (allToPass 3)) 2 ∷ (sending (allToPass 3) (DropSender (keyAt 9 9))) .1 .0 ∷ [])
+  unfolding computeStates NineExactly
+  nine-not claim = (
+    λ e. not-two (claim twoToPass tt (registersFor 2) .0 e .0 .no-slot),
+    (
+      λ e. not-unused (claim (allToPass 4) tt (registersFor 2) .0 e .0 .no-slot),
+      (
+        λ e. claim (noneFree 1) tt (registersFor 2) .0 e .1 refl,
+        (
+          λ e. one-already .0 (let-pass-of (claim (allToPass 3) tt (registersFor 1) .0 e .0)),
+          (
+            λ e. not-open .0 (let-pass-of (claim (shut (allToPass 3)) tt (registersFor 2) .0 e .0)),
+            (
+              λ e. not-a-drop (claim (allToPass 3) tt (Sender (DropSender (keyAt 9 9))) .0 e .0),
+              tt,
+            ),
+          ),
+        ),
+      ),
+    ),
+  )
+
+  -- no 8 with a free slot, though its older sender lives, with an unused slot, ahead of 7 or of 6, or to another call
+  eight-not : EightExactly W → Each (λ (a : Answer). a ≡ Refused NoFreeSlot → ⊥)
+      (says (allToPass 3) 2 ∷ says (noneFree 2) 2 ∷ says (noneFree 1) 1 ∷ says (shut (noneFree 1)) 2 ∷ (sending (noneFree 1) (DropSender (keyAt 9 9))) .1 .0 ∷ [])
+  unfolding computeStates EightExactly
+  eight-not claim = (
+    λ e. omega (arith, ap length (claim (allToPass 3) tt (registersFor 2) .0 e .1)),
+    (
+      λ e. omega (arith, claim (noneFree 2) tt (registersFor 2) .0 e .0 .no-slot .all-issued),
+      (
+        λ e. one-already .1 (let-pass-of (claim (noneFree 1) tt (registersFor 1) .0 e .0)),
+        (
+          λ e. not-open .1 (let-pass-of (claim (shut (noneFree 1)) tt (registersFor 2) .0 e .0)),
+          (
+            λ e. not-a-drop (claim (noneFree 1) tt (Sender (DropSender (keyAt 9 9))) .0 e .0),
+            tt,
+          ),
+        ),
+      ),
+    ),
+  )
+
+  -- no refusal where a free slot is clear or one is unused
+  not-refused : RefusedOnlyInVain W → (why : Refusal) → (says twoToPass 2 ≡ Refused why → ⊥) × (says (allToPass 4) 2 ≡ Refused why → ⊥)
+  unfolding computeStates RefusedOnlyInVain
+  not-refused claim why = (λ e. not-two (claim twoToPass tt 2 why passes-two e), λ e. not-unused (claim (allToPass 4) tt 2 why (passes-all .1) e))
+
+-- ---- what is as it was before
+
+-- a slot is passed over at these two states, and at no other of these
+passed-at : PassesOver twoToPass 2 × PassesOver (allToPass 4) 2
+unfolding computeStates
+passed-at = (
+  record { let-pass = passes-two; freed-last = 3; others = 2 ∷ 1 ∷ 0 ∷ []; list = refl; older-lives = refl; some-left = not-two },
+  record { let-pass = passes-all .1; freed-last = 1; others = 0 ∷ []; list = refl; older-lives = refl; some-left = not-unused },
+)
+
+not-passed-at : (PassesOver (allToPass 3) 2 → ⊥) × (PassesOver (allToPass 4) 1 → ⊥) × (PassesOver (noneFree 2) 2 → ⊥)
+unfolding computeStates
+not-passed-at = (
+  λ p. p .some-left (vain .no-slot),
+  λ p. omega (arith, p .let-pass .below-most),
+  λ p. let z : _≡_ {A = ℕ} 0 1 = cc in omega arith,
+)
+
+-- document 01's registration: refused 9 where a slot is passed over now; else the one freed last
+before : ((registerFreedLast twoToPass 2) .1 .0 ≡ Refused OlderSenderLives) × ((registerFreedLast (afterList theRules twoToPass (drops 3 ∷ [])) 2) .1 .0 ≡ lane 3 1)
+    × ((registerFreedLast (noneFree 2) 2) .1 .0 ≡ lane 1 0) × ((registerFreedLast (noneFree 1) 2) .1 .0 ≡ Refused NoFreeSlot) × ((registerFreedLast (noneFree 2) 1) .1 .0 ≡ Refused AtCapacity)
+unfolding computeStates
+before = (refl, refl, refl, refl, refl)
