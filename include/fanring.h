@@ -26,6 +26,18 @@
    Keys carry neither channel nor number, and sends and drops go by key: a key of an earlier opening may name a sender of a later one, and is then taken. Keep
    no key over an opening.
 
+   SLOTS. A slot is free from the moment its lane retires: when the lane is closed, or when a receive finds it empty with its sender dropped. (A lane of
+   generation 2^64 - 1 is its slot's last.) A registration goes down the list of free slots, most recently freed first, and takes the first one without a
+   living older sender, with generation + 1; failing that, the next unused slot, with the opening's generation.
+   So a headbox may be unplugged while its driver still holds the sender. Its lane is closed: the slot is free, and has its place in the list from then on,
+   but registrations pass it over until the sender is dropped. They take another free slot or the next unused one, and the slots passed over stay where they
+   are. Meanwhile the driver's sends are refused 12; its sender counts as living, so looks answer FANRING_EMPTY and not FANRING_DISCONNECTED. Its drop answers
+   FANRING_DONE. From then on the slot may be taken again in its turn, and sends and drops by the old key are refused 10.
+   Refused 8: no slot is free and none is unused, so a lane has to retire first. Refused 9: slots are free, but each has a living older sender, and none is
+   unused, so one of these senders has to be dropped first. A headbox that is plugged in again before its driver has dropped the old sender needs a second
+   slot: let S be at least the registered lanes and the closed lanes whose senders are still held, taken together. `most` counts registered lanes alone.
+   A registration takes longer with each slot that it passes over, at most 8,191; one that is refused 9 has looked at every free slot.
+
    SLEEP. No call waits. A send that finds its lane's signal idle answers woken 1: wake the receiver if it sleeps, and do nothing else.
    To look is to make a plain receive, a fair one or a batch of a limit other than 0. A receiver may sleep after a look that answered FANRING_EMPTY or
    FANRING_DISCONNECTED, and after a batch that answered fewer items than its limit. From such an answer on, while no calls but sender calls and held are
@@ -101,7 +113,7 @@ enum fanring_refusal {
     FANRING_RECEIVER_CLOSED = 6,       /* receiver closed */
     FANRING_AT_CAPACITY = 7,           /* registered lanes are as many as the most-lanes number, or more */
     FANRING_NO_FREE_SLOT = 8,          /* free list empty and slot S - 1 issued */
-    FANRING_OLDER_SENDER_LIVES = 9,    /* the slot due still has a living older sender */
+    FANRING_OLDER_SENDER_LIVES = 9,    /* free list not empty, all its slots have living older senders, and slot S - 1 issued */
     FANRING_NO_SUCH_SENDER = 10,       /* no living sender has this key */
     FANRING_LANE_CLOSED = 12,          /* lane closed, or the receiver */
     FANRING_FULL = 11,                 /* ring full */
@@ -119,9 +131,9 @@ uint64_t fanring_open(
     uint64_t capacity, uint64_t slots, uint64_t channel, uint64_t cursor, uint64_t generation, uint64_t number,
     uint64_t words[FANRING_WORDS]);
 
-/* Registers a sender with a lane of its own, if fewer than `most` lanes are registered. The slot freed last is issued first, with generation + 1;
-   else the next unused one. Answers FANRING_REGISTERED with the lane's key: words[0] slot, words[1] generation; or refused 5, 6, 7, 8, 9. Refused 9
-   comes even with unused slots, while the slot freed last has a living sender, whose lane was closed: drop that sender. */
+/* Registers a sender with a lane of its own, if fewer than `most` lanes are registered, in the most recently freed slot that has no living older sender,
+   with generation + 1; else in the next unused one (SLOTS, above). Answers FANRING_REGISTERED with the lane's key: words[0] slot, words[1] generation; or
+   refused 5, 6, 7, 8, 9. Refused 9: every free slot is of a closed lane whose sender lives, and no slot is unused; drop one of these senders. */
 uint64_t fanring_register_sender(
     uint64_t *table, size_t table_len, const uint64_t *rings, size_t rings_len, uint64_t most, uint64_t words[FANRING_WORDS]);
 
@@ -140,7 +152,7 @@ uint64_t fanring_try_send_unsignaled(
 /* Drops the sender with this key: its lane is marked, and the living senders are one less. If the lane is not closed, items already sent can still be
    received, and the lane counts against `most` until a receive finds it empty, and it retires. If it is paused, only a targeted receive finds it empty
    before it is resumed; but with no living sender left, plain, fair and non-zero batch receives that have no item retire empty paused lanes too. A closed
-   lane is gone already. Answers FANRING_DONE; or refused 5, 10. */
+   lane is gone already, and its slot may now be taken again. Answers FANRING_DONE; or refused 5, 10. */
 uint64_t fanring_drop_sender(
     uint64_t *table, size_t table_len, const uint64_t *rings, size_t rings_len, uint64_t slot, uint64_t generation,
     uint64_t words[FANRING_WORDS]);
@@ -182,7 +194,7 @@ uint64_t fanring_resume(
     uint64_t channel, uint64_t slot, uint64_t generation, uint64_t opening, uint64_t words[FANRING_WORDS]);
 
 /* Retires the lane with this id, with the items that it holds: none of them is handed out. A sender not dropped yet still counts as living, with its
-   sends refused 12, and must be dropped. Answers FANRING_DONE; or refused 5, 6, 13. */
+   sends refused 12, and must be dropped: until then registrations pass the slot over. Answers FANRING_DONE; or refused 5, 6, 13. */
 uint64_t fanring_close_lane(
     uint64_t *table, size_t table_len, const uint64_t *rings, size_t rings_len,
     uint64_t channel, uint64_t slot, uint64_t generation, uint64_t opening, uint64_t words[FANRING_WORDS]);
