@@ -111,9 +111,10 @@ pub enum TryRegisterBoundedError {
     Disconnected,
     /// As many lanes are registered as the caller allows, or more. Refusal 7.
     AtCapacity,
-    /// No slot is free, and all of the opening's slots have been issued. Refusal 8.
+    /// No slot is free, and all of the opening's slots have been issued: a lane has to retire first. Refusal 8.
     NoFreeSlot,
-    /// The slot that is due still has an older sender: its lane was closed, and the sender not yet dropped. Refusal 9.
+    /// Slots are free, but each has an older sender, whose lane was closed, and which is not dropped yet; and all of the
+    /// opening's slots have been issued. One of these senders has to be dropped first. Refusal 9.
     OlderSenderLives,
 }
 
@@ -155,7 +156,7 @@ impl fmt::Display for TryRegisterBoundedError {
             Self::Disconnected => "the receiver is closed",
             Self::AtCapacity => "sender registration limit reached",
             Self::NoFreeSlot => "no slot is free",
-            Self::OlderSenderLives => "the slot due still has a living older sender",
+            Self::OlderSenderLives => "every free slot has a living older sender",
         })
     }
 }

@@ -120,8 +120,8 @@
 //! | 5 | store not in order | none: a channel's stores are in order |
 //! | 6 | receiver closed | [`ReceiverClosed`]; [`TryRecvError::ReceiverClosed`], [`LaneControlError::ReceiverClosed`], [`TryRegisterBoundedError::Disconnected`] |
 //! | 7 | as many registered lanes as the caller allows, or more | [`TryRegisterBoundedError::AtCapacity`] |
-//! | 8 | no slot left | [`TryRegisterBoundedError::NoFreeSlot`] |
-//! | 9 | the slot due still has a living older sender | [`TryRegisterBoundedError::OlderSenderLives`] |
+//! | 8 | no slot free, and none unused | [`TryRegisterBoundedError::NoFreeSlot`] |
+//! | 9 | every free slot has a living older sender, and none is unused | [`TryRegisterBoundedError::OlderSenderLives`] |
 //! | 10 | no living sender has this key | [`TrySendError::NoSuchSender`], [`NoSuchSender`] |
 //! | 11 | ring full | [`TrySendError::Full`] |
 //! | 12 | lane closed, or the receiver | [`TrySendError::Disconnected`] |

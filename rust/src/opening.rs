@@ -81,7 +81,7 @@ pub struct Stores {
 pub struct Opening {
     /// Items that a lane holds, from 1 to [`MAX_CAPACITY_PER_SENDER`]; rounded up to a power of two.
     pub capacity_per_sender: usize,
-    /// Lanes at one time, from 1 to [`MAX_SLOTS`].
+    /// Lanes at one time, from 1 to [`MAX_SLOTS`]. A lane that was closed takes a slot until its sender is dropped.
     pub slots: usize,
     /// The channel's number, which is part of every [`LaneId`](crate::LaneId). [`new`](Self::new) takes one of its own.
     /// It may be set, to the same for each opening too: the opening number still tells their lane ids from each other.

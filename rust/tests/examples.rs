@@ -1,6 +1,6 @@
 //! Document 01's checked examples, as far as answers show them, and the release batch of every C.
 
-use proved_fanring::{channel, Channel, LaneKey, Opening, TryRecvError, TrySendError};
+use proved_fanring::{channel, Channel, LaneKey, Opening, TryRecvError, TryRegisterBoundedError, TrySendError};
 
 /// A channel, and the keys of so many senders.
 fn with_senders(capacity: usize, senders: usize) -> (Channel, Vec<LaneKey>) {
@@ -130,4 +130,17 @@ fn a_slot_at_the_last_generation_is_not_issued_again() {
     channel.drop_sender(key).unwrap();
     assert_eq!(channel.try_recv(), Err(TryRecvError::Disconnected));
     assert_eq!(channel.register_sender(2), Ok(LaneKey { slot: 1, generation: u64::MAX }));
+}
+
+/// Nor does it hold a registration back with an older sender that lives: it is in no list.
+#[test]
+fn a_slot_at_the_last_generation_is_not_looked_at() {
+    let opening = Opening { first_generation: u64::MAX, ..Opening::new(4, 3) };
+    let mut channel = opening.open().unwrap();
+    for slot in 0..3 {
+        let key = channel.register_sender(1).unwrap();
+        assert_eq!(key, LaneKey { slot, generation: u64::MAX });
+        channel.close_lane(&channel.lane(key)).unwrap();
+    }
+    assert_eq!(channel.register_sender(1), Err(TryRegisterBoundedError::NoFreeSlot));
 }

@@ -1,5 +1,5 @@
-//! Random calls against a small model: a queue of items for each lane, and how many of its places are occupied still. At
-//! times the channel ends, and the next is opened on its stores with the same channel id.
+//! Random calls against a small model: a queue of items for each lane, how many of its places are occupied still, and
+//! which slots are in use. At times the channel ends, and the next is opened on its stores with the same channel id.
 
 use std::collections::{BTreeMap, BTreeSet, VecDeque};
 use std::mem;
@@ -85,6 +85,8 @@ struct Run {
     foretold: u64,
     /// Calls with an id of another opening whose key is one of this opening too.
     told_apart: u64,
+    /// Registrations that were taken while a closed lane's sender lived.
+    beside_living: u64,
 }
 
 impl Run {
@@ -112,6 +114,7 @@ impl Run {
             refusals: BTreeSet::new(),
             foretold: 0,
             told_apart: 0,
+            beside_living: 0,
         }
     }
 
@@ -163,20 +166,37 @@ impl Run {
         keys[self.random.below(keys.len() as u64) as usize]
     }
 
+    /// Of the free slots, those of closed lanes are known for sure. The rest of the list, and its order, is in slots.rs.
     fn register(&mut self) {
         let most = 1 + self.random.below(7) as usize;
         let result = self.channel.register_sender(most);
         self.refusals.extend(result.err().map(|error| error.refusal()));
+        // The last lane of each slot, and its generation.
+        let last: BTreeMap<u64, (u64, &Lane)> =
+            self.lanes.iter().map(|(key, lane)| (key.slot, (key.generation, lane))).collect();
+        let none_unused = last.len() == self.channel.slots();
+        let closed = |dropped: bool| last.values().any(|(_, lane)| lane.closed && lane.sender_dropped == dropped);
         match result {
-            Ok(key) => assert!(self.lanes.insert(key, Lane::default()).is_none(), "{key:?} was given out before"),
+            Ok(key) => {
+                match last.get(&key.slot) {
+                    Some((generation, lane)) => {
+                        assert_eq!(key.generation, generation + 1);
+                        assert!(lane.sender_dropped && lane.items.is_empty(), "{key:?} is given a slot in use");
+                    }
+                    None => {
+                        assert_eq!(key, LaneKey { slot: last.len() as u64, generation: 0 });
+                        assert!(!none_unused && !closed(true), "{key:?} is given out before a free slot");
+                    }
+                }
+                self.beside_living += u64::from(closed(false));
+                self.lanes.insert(key, Lane::default());
+            }
             Err(TryRegisterBoundedError::Disconnected) => assert!(self.receiver_closed),
             Err(TryRegisterBoundedError::AtCapacity) => {
-                assert!(self.lanes.values().filter(|lane| !lane.closed).count() >= most);
+                assert!(last.values().filter(|(_, lane)| !lane.closed).count() >= most);
             }
-            Err(TryRegisterBoundedError::NoFreeSlot) => assert!(self.lanes.len() >= self.channel.slots()),
-            Err(TryRegisterBoundedError::OlderSenderLives) => {
-                assert!(self.lanes.values().any(|lane| lane.closed && !lane.sender_dropped));
-            }
+            Err(TryRegisterBoundedError::NoFreeSlot) => assert!(none_unused && !closed(true) && !closed(false)),
+            Err(TryRegisterBoundedError::OlderSenderLives) => assert!(none_unused && !closed(true) && closed(false)),
         }
     }
 
@@ -248,9 +268,13 @@ impl Run {
     }
 
     fn drop_sender(&mut self) {
-        // A closed lane's sender too, or its slot would not be issued again.
-        let closed = self.lanes.iter().find(|(_, lane)| lane.closed && !lane.sender_dropped).map(|(key, _)| *key);
-        let key = closed.unwrap_or_else(|| self.any_key());
+        // Often a closed lane's sender, or few slots would be issued again.
+        let held: Vec<LaneKey> =
+            self.lanes.iter().filter(|(_, lane)| lane.closed && !lane.sender_dropped).map(|(key, _)| *key).collect();
+        let key = match held.len() as u64 {
+            count @ 1.. if self.random.below(2) == 0 => held[self.random.below(count) as usize],
+            _ => self.any_key(),
+        };
         let living = self.lanes.get(&key).is_some_and(|lane| !lane.sender_dropped);
         assert_eq!(self.channel.drop_sender(key).is_ok(), living);
         if let Some(lane) = self.lanes.get_mut(&key) {
@@ -423,7 +447,7 @@ impl Run {
 
 #[test]
 fn items_come_out_as_they_went_in() {
-    let (mut handed_out, mut woken, mut foretold, mut told_apart) = (0, 0, 0, 0);
+    let (mut handed_out, mut woken, mut foretold, mut told_apart, mut beside_living) = (0, 0, 0, 0, 0);
     let mut refusals = BTreeSet::new();
     for seed in 1..=400 {
         let mut run = Run::new(seed);
@@ -435,11 +459,13 @@ fn items_come_out_as_they_went_in() {
         woken += run.woken;
         foretold += run.foretold;
         told_apart += run.told_apart;
+        beside_living += run.beside_living;
         refusals.append(&mut run.refusals);
     }
     assert!(handed_out > 50_000, "only {handed_out} items");
     assert!(woken > 5_000, "only {woken} sends that woke");
     assert!(foretold > 5_000, "only {foretold} sends with places occupied by items taken");
     assert!(told_apart > 2_000, "only {told_apart} ids of other openings with a key of the present one");
+    assert!(beside_living > 200, "only {beside_living} registrations while a closed lane's sender lived");
     assert!((6..=13).all(|number| refusals.contains(&number)), "only refusals {refusals:?}");
 }

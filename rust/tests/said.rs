@@ -1,8 +1,9 @@
-//! What the documentation of the calls and include/fanring.h say of credit, free places, waking, Disconnected and lanes,
-//! by running.
+//! What the documentation of the calls and include/fanring.h say of credit, free places, waking, Disconnected, lanes and
+//! slots, by running.
 
 use proved_fanring::{
-    channel, Channel, LaneControlError, LaneKey, Taken, TryRecvError, TryRegisterBoundedError, TrySendError,
+    channel, Channel, LaneControlError, LaneKey, NoSuchSender, Taken, TryRecvError, TryRegisterBoundedError,
+    TrySendError,
 };
 
 fn with_senders(capacity: usize, slots: usize, senders: usize) -> (Channel, Vec<LaneKey>) {
@@ -150,13 +151,53 @@ fn targeted_disconnected_is_of_its_lane() {
 fn an_older_sender_with_slots_unused() {
     let (mut channel, keys) = with_senders(4, 8, 1);
     channel.close_lane(&channel.lane(keys[0])).unwrap();
-    assert_eq!(channel.register_sender(8), Err(TryRegisterBoundedError::OlderSenderLives));
-    // The closed lane's sender counts as living.
+    // The closed lane counts against no limit, and its sender as living.
+    let next = channel.register_sender(1).unwrap();
+    assert_eq!(next, LaneKey { slot: 1, generation: 0 });
+    channel.drop_sender(next).unwrap();
     assert_eq!(channel.try_recv(), Err(TryRecvError::Empty));
+    // Slot 1 was freed last, and is taken again before an unused one.
+    assert_eq!(channel.register_sender(1), Ok(LaneKey { slot: 1, generation: 1 }));
+    channel.close_lane(&channel.lane(LaneKey { slot: 1, generation: 1 })).unwrap();
     channel.drop_sender(keys[0]).unwrap();
-    assert_eq!(channel.try_recv(), Err(TryRecvError::Disconnected));
+    // Now slot 1 is passed over, and slot 0 taken, which was freed before it.
     assert_eq!(channel.register_sender(8), Ok(LaneKey { slot: 0, generation: 1 }));
-    assert_eq!(channel.register_sender(8), Ok(LaneKey { slot: 1, generation: 0 }));
+    assert_eq!(channel.register_sender(8), Ok(LaneKey { slot: 2, generation: 0 }));
+    channel.drop_sender(LaneKey { slot: 1, generation: 1 }).unwrap();
+    assert_eq!(channel.register_sender(8), Ok(LaneKey { slot: 1, generation: 2 }));
+}
+
+#[test]
+fn what_the_driver_of_an_unplugged_headbox_is_told() {
+    let (mut channel, keys) = with_senders(4, 2, 2);
+    let (old, other) = (keys[0], keys[1]);
+    let refused = |channel: &mut Channel, error: fn(u64) -> TrySendError| {
+        assert_eq!(channel.try_send(old, 6), Err(error(6)));
+        assert_eq!(channel.try_send_unsignaled(old, 7), Err(error(7)));
+        assert_eq!(channel.pause(&channel.lane(old)), Err(LaneControlError::NoSuchLane));
+    };
+    channel.try_send(old, 5).unwrap();
+    channel.drop_sender(other).unwrap();
+    assert_eq!(channel.try_recv_from(&channel.lane(other)), Err(TryRecvError::Disconnected));
+    channel.close_lane(&channel.lane(old)).unwrap();
+    refused(&mut channel, TrySendError::Disconnected);
+    // Registrations pass its slot over or are refused, and nothing that it sent comes out.
+    assert_eq!(channel.register_sender(2), Ok(LaneKey { slot: 1, generation: 1 }));
+    assert_eq!(channel.register_sender(1), Err(TryRegisterBoundedError::AtCapacity));
+    assert_eq!(channel.register_sender(2), Err(TryRegisterBoundedError::OlderSenderLives));
+    assert_eq!(channel.try_recv(), Err(TryRecvError::Empty));
+    refused(&mut channel, TrySendError::Disconnected);
+
+    assert_eq!(channel.drop_sender(old), Ok(()));
+    refused(&mut channel, TrySendError::NoSuchSender);
+    assert_eq!(channel.drop_sender(old), Err(NoSuchSender));
+    let new = channel.register_sender(2).unwrap();
+    assert_eq!(new, LaneKey { slot: 0, generation: 1 });
+    refused(&mut channel, TrySendError::NoSuchSender);
+    assert_eq!(channel.register_sender(3), Err(TryRegisterBoundedError::NoFreeSlot));
+    // A ring that is empty, with all its places.
+    assert_eq!(channel.try_recv_from(&channel.lane(new)), Err(TryRecvError::Empty));
+    assert_eq!(free_places(&mut channel, new), 4);
 }
 
 #[test]

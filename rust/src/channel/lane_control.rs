@@ -58,8 +58,8 @@ impl Channel {
     /// Disconnect and retire one lane, including a paused lane with items, which are lost.
     ///
     /// Its sender's sends are refused from then on. A sender not dropped yet still counts as living, and must be
-    /// dropped: until then the slot cannot be used again, and untargeted receives do not answer
-    /// [`Disconnected`](crate::TryRecvError::Disconnected).
+    /// dropped: until then [`register_sender`](Self::register_sender) passes the slot over, and untargeted receives do not
+    /// answer [`Disconnected`](crate::TryRecvError::Disconnected).
     ///
     /// # Errors
     ///

@@ -8,15 +8,21 @@ impl Channel {
     /// Register a sender, with a lane of its own, if fewer than `max_lanes` lanes are registered.
     ///
     /// Includes dropped senders whose lanes, not closed, the receiver has not yet observed empty, whether or not items
-    /// remain. Closed lanes stop counting immediately. The slot freed last is issued first, else the next unused one.
+    /// remain. Closed lanes stop counting immediately.
+    ///
+    /// A slot is free from the moment its lane retires. A registration goes down the list of free slots, most recently
+    /// freed first, and takes the first one without a living older sender, with generation + 1; failing that, the next
+    /// unused slot. An older sender lives where its lane was [closed](Self::close_lane) and it is not dropped yet: such a
+    /// slot is passed over, and keeps its place in the list. A registration takes longer with each slot that it passes
+    /// over, at most 8,191.
     ///
     /// # Errors
     ///
     /// [`Disconnected`](TryRegisterBoundedError::Disconnected) when the receiver is closed,
     /// [`AtCapacity`](TryRegisterBoundedError::AtCapacity) when the limit is reached,
-    /// [`NoFreeSlot`](TryRegisterBoundedError::NoFreeSlot) when no slot is free and all have been issued, and
-    /// [`OlderSenderLives`](TryRegisterBoundedError::OlderSenderLives) when the lane of the slot due was closed and its
-    /// sender is not dropped yet, even with unused slots: drop that sender.
+    /// [`NoFreeSlot`](TryRegisterBoundedError::NoFreeSlot) when no slot is free and none is unused, and
+    /// [`OlderSenderLives`](TryRegisterBoundedError::OlderSenderLives) when slots are free, but each has a living older
+    /// sender, and none is unused: drop one of these senders.
     ///
     /// ```
     /// use proved_fanring::{channel, LaneKey, TryRegisterBoundedError};
@@ -30,6 +36,25 @@ impl Channel {
     /// channel.close_lane(&channel.lane(key)).unwrap();
     /// assert_eq!(channel.register_sender(3), Err(TryRegisterBoundedError::OlderSenderLives));
     /// channel.drop_sender(key).unwrap();
+    /// assert_eq!(channel.register_sender(3), Ok(LaneKey { slot: 0, generation: 1 }));
+    /// ```
+    ///
+    /// Of two headboxes one is unplugged and its lane closed, but its driver still holds the sender. Plugged in again, it
+    /// gets the next slot; the first one is taken again once the old sender is dropped:
+    ///
+    /// ```
+    /// use proved_fanring::{channel, LaneKey, TrySendError};
+    ///
+    /// let mut channel = channel(4, 3);
+    /// let old = channel.register_sender(2).unwrap();
+    /// assert_eq!(old, LaneKey { slot: 0, generation: 0 });
+    /// channel.register_sender(2).unwrap();
+    /// channel.close_lane(&channel.lane(old)).unwrap();
+    /// assert_eq!(channel.register_sender(2), Ok(LaneKey { slot: 2, generation: 0 }));
+    ///
+    /// assert_eq!(channel.try_send(old, 5), Err(TrySendError::Disconnected(5)));
+    /// assert_eq!(channel.drop_sender(old), Ok(()));
+    /// assert_eq!(channel.try_send(old, 5), Err(TrySendError::NoSuchSender(5)));
     /// assert_eq!(channel.register_sender(3), Ok(LaneKey { slot: 0, generation: 1 }));
     /// ```
     pub fn register_sender(&mut self, max_lanes: usize) -> Result<LaneKey, TryRegisterBoundedError> {
@@ -130,7 +155,7 @@ impl Channel {
     /// Drop a sender. If its lane is not closed, items already sent can still be received, and the lane counts as
     /// registered until a receive finds it empty, and it retires. If it is paused, only a targeted receive finds it
     /// empty before it is resumed; but with no living sender left, untargeted receives that have no item retire empty
-    /// paused lanes too. A closed lane is gone already.
+    /// paused lanes too. A closed lane is gone already, and its slot may now be taken again.
     ///
     /// If the receiver sleeps, wake it, as fanring does: the sender may have been the last. An untargeted receive that
     /// finds nothing has seen it; one that has an item of another lane need not have.
