@@ -3,7 +3,8 @@
 
    - The receiver sleeps only where fanring.h says that it may: after a batch of fewer items than its limit. Sends that answer woken 1 wake it.
    - Where a ring is full (refusal 11), the headbox keeps samples back, and tries again once a batch has given credit back. None is lost by that.
-   - Headbox 1 is unplugged at midnight: its lane is closed, with the samples in it. Plugged in again, it has a lane with another key.
+   - Headbox 1 is unplugged at midnight: its lane is closed, with the samples in it, but its driver holds the sender for some hours more. That slot is passed
+     over meanwhile, so there is one slot more than headboxes: plugged in again, headbox 1 has a lane in that one.
    - At the end of the night each headbox drops its sender, and the receiver goes on until Disconnected.
 
    In the end the books have to agree: of each headbox, the samples sent are those received and those lost by the close. */
@@ -13,8 +14,8 @@
 #include <stdio.h>
 #include <stdlib.h>
 
-enum { HEADBOXES = 3, NIGHT = 200000, CAPACITY = 64, LIMIT = 128, KEEP = 32, UNPLUGGED = 1, CHANNEL = 7, OPENING = 1 };
-enum { TABLE = FANRING_TABLE_WORDS(HEADBOXES), RINGS = FANRING_RING_WORDS(HEADBOXES, CAPACITY) };
+enum { HEADBOXES = 3, SLOTS = HEADBOXES + 1, NIGHT = 200000, CAPACITY = 64, LIMIT = 128, KEEP = 32, UNPLUGGED = 1, CHANNEL = 7, OPENING = 1 };
+enum { TABLE = FANRING_TABLE_WORDS(SLOTS), RINGS = FANRING_RING_WORDS(SLOTS, CAPACITY) };
 
 /* A batch names no lanes, so a sample says itself whose it is: 8 bits for the headbox, 32 for the sample's number in the night, 24 for the reading,
    which here is made up. */
@@ -35,6 +36,7 @@ static int ended;                                        /* headboxes whose nigh
 struct headbox {
     pthread_t thread;
     uint64_t number, slot, generation;    /* its lane's key is another one after it was plugged in again */
+    uint64_t old_slot, old_generation;    /* the key of the sender that its driver still holds then */
     uint64_t sent, full, lost;            /* its own books: taken, refused 11, lost by close */
     uint64_t received, next, gaps, wrong; /* the receiver's books: samples, the number due, numbers passed over, wrong samples */
 };
@@ -67,12 +69,21 @@ static void plug_in(struct headbox *h) {
     h->slot = words[0], h->generation = words[1];
 }
 
-/* The lane ends at once, with what is in its ring. The sender has to be dropped too, or its slot is not issued again. */
+/* The lane ends at once, with what is in its ring. Its slot is free, but passed over until its sender is dropped. */
 static void unplug(struct headbox *h) {
     uint64_t words[FANRING_WORDS], before = held();
     expect(CALL(close_lane, CHANNEL, h->slot, h->generation, OPENING, words), FANRING_DONE, "close_lane");
     h->lost += before - held();
-    expect(CALL(drop_sender, h->slot, h->generation, words), FANRING_DONE, "drop_sender");
+    h->old_slot = h->slot, h->old_generation = h->generation;
+    wake_receiver();
+}
+
+/* The driver's last try to send by the old sender; then it lets go of it. */
+static void drop_old(struct headbox *h) {
+    uint64_t words[FANRING_WORDS];
+    expect(CALL(try_send, h->old_slot, h->old_generation, 0, words), FANRING_REFUSED, "try_send");
+    expect(words[0], FANRING_LANE_CLOSED, "try_send");
+    expect(CALL(drop_sender, h->old_slot, h->old_generation, words), FANRING_DONE, "drop_sender");
     wake_receiver();
 }
 
@@ -94,7 +105,7 @@ static void *run_headbox(void *argument) {
     struct headbox *h = argument;
     uint64_t kept[KEEP], first = 0, count = 0, made = 0; /* the samples kept back, from `first` on */
     uint64_t full_at = UINT64_MAX;                       /* the number of batches when the ring was last full */
-    int plugged = 1, unplugged = 0;
+    int plugged = 1, unplugged = 0, dropped = 0;
     while (made < NIGHT || count > 0) {
         if (made < NIGHT && count < KEEP)
             kept[(first + count++) % KEEP] = sample(h->number, made++);
@@ -112,6 +123,8 @@ static void *run_headbox(void *argument) {
         }
         if (h->number == UNPLUGGED && !unplugged && h->sent > NIGHT / 2)
             unplug(h), plugged = 0, unplugged = 1;
+        if (unplugged && !dropped && h->sent > NIGHT / 4 * 3)
+            drop_old(h), dropped = 1;
         pthread_mutex_unlock(&lock);
     }
     uint64_t words[FANRING_WORDS];
@@ -161,7 +174,7 @@ static void *run_receiver(void *unused) {
 
 int main(void) {
     uint64_t words[FANRING_WORDS];
-    expect(CALL(open, CAPACITY, HEADBOXES, CHANNEL, 0, 0, OPENING, words), FANRING_DONE, "open");
+    expect(CALL(open, CAPACITY, SLOTS, CHANNEL, 0, 0, OPENING, words), FANRING_DONE, "open");
     pthread_t receiver;
     for (int i = 0; i < HEADBOXES; i++) {
         headboxes[i].number = (uint64_t)i;
@@ -174,7 +187,7 @@ int main(void) {
         pthread_join(headboxes[i].thread, NULL);
     pthread_join(receiver, NULL);
 
-    int agree = held() == 0;
+    int agree = held() == 0 && headboxes[UNPLUGGED].slot == HEADBOXES;
     for (int i = 0; i < HEADBOXES; i++) {
         const struct headbox *h = &headboxes[i];
         printf("headbox %d: sent %" PRIu64 ", received %" PRIu64 ", lost by close %" PRIu64 ", ring full %" PRIu64 " times\n",

@@ -5,8 +5,9 @@
 //!   its limit. Sends that answer `woken: true` wake it.
 //! - Where a ring is full, the headbox keeps samples back, and tries again once a batch has released places. None is
 //!   lost by that.
-//! - Headbox 1 is unplugged at midnight: its lane is closed, with the samples in it. Plugged in again, it has a lane
-//!   with another key.
+//! - Headbox 1 is unplugged at midnight: its lane is closed, with the samples in it, but its driver holds the sender for
+//!   some hours more. That slot is passed over meanwhile, so there is one slot more than headboxes: plugged in again,
+//!   headbox 1 has a lane in that one.
 //! - At the end of the night each headbox drops its sender, and the receiver goes on until `Disconnected`.
 //!
 //! In the end the books have to agree: of each headbox, the samples sent are those received and those lost by the close.
@@ -19,6 +20,7 @@ use std::thread;
 use proved_fanring::{try_channel, Channel, LaneKey, TryRecvError, TrySendError};
 
 const HEADBOXES: usize = 3;
+const SLOTS: usize = HEADBOXES + 1;
 const NIGHT: u64 = 200_000;
 const CAPACITY: usize = 64;
 const LIMIT: usize = 128;
@@ -74,15 +76,20 @@ impl Recorder {
         self.woken.notify_one();
     }
 
-    /// The lane ends at once, with what is in its ring; how much that was. The sender has to be dropped too, or its slot
-    /// is not issued again.
+    /// The lane ends at once, with what is in its ring; how much that was. Its slot is free, but passed over until its
+    /// sender is dropped.
     fn unplug(&self, shared: &mut Shared, key: LaneKey) -> u64 {
         let before = shared.channel.held();
         let lane = shared.channel.lane(key);
         shared.channel.close_lane(&lane).unwrap();
-        let lost = before - shared.channel.held();
-        self.drop_sender(shared, key);
-        lost
+        self.wake_receiver(shared);
+        before - shared.channel.held()
+    }
+
+    /// The driver's last try to send by the old sender; then it lets go of it.
+    fn drop_old(&self, shared: &mut Shared, old: LaneKey) {
+        assert_eq!(shared.channel.try_send(old, 0), Err(TrySendError::Disconnected(0)));
+        self.drop_sender(shared, old);
     }
 
     /// A drop wakes nobody, and the receiver is to see the end.
@@ -94,6 +101,8 @@ impl Recorder {
     fn run_headbox(&self, headbox: usize, key: LaneKey) -> Sent {
         let mut sent = Sent::default();
         let mut key = Some(key);
+        // The sender that the driver of an unplugged headbox still holds.
+        let mut old = None;
         let mut kept = VecDeque::with_capacity(KEEP);
         let mut made = 0;
         // The number of batches when the ring was last full.
@@ -106,7 +115,9 @@ impl Recorder {
             let mut shared = self.shared.lock().unwrap();
             let plugged = *key.get_or_insert_with(|| {
                 full_at = None;
-                shared.channel.register_sender(HEADBOXES).unwrap()
+                let key = shared.channel.register_sender(HEADBOXES).unwrap();
+                assert_eq!(key, LaneKey { slot: HEADBOXES as u64, generation: 0 });
+                key
             });
             // The ring is full, and no more samples can be kept back, or none are to come: wait until places are free.
             while full_at == Some(shared.batches) && (kept.len() == KEEP || made == NIGHT) {
@@ -130,7 +141,12 @@ impl Recorder {
             }
             if headbox == UNPLUGGED && sent.lost == 0 && sent.taken > NIGHT / 2 {
                 sent.lost = self.unplug(&mut shared, plugged);
-                key = None;
+                old = key.take();
+            }
+            if sent.taken > NIGHT / 4 * 3 {
+                if let Some(old) = old.take() {
+                    self.drop_old(&mut shared, old);
+                }
             }
         }
         let mut shared = self.shared.lock().unwrap();
@@ -183,7 +199,7 @@ fn record(books: &mut [Received], item: u64) {
 }
 
 fn main() -> ExitCode {
-    let mut channel = try_channel(CAPACITY, HEADBOXES).unwrap();
+    let mut channel = try_channel(CAPACITY, SLOTS).unwrap();
     let keys: Vec<LaneKey> = (0..HEADBOXES).map(|_| channel.register_sender(HEADBOXES).unwrap()).collect();
     let recorder = Recorder {
         shared: Mutex::new(Shared { channel, look: false, batches: 0, ended: 0 }),
