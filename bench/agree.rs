@@ -61,7 +61,7 @@ impl Stream {
     }
 
     fn register(&mut self) {
-        // A freed slot whose older sender lives is refused by the library alone.
+        // A freed slot whose older sender lives is passed over by the library alone.
         for key in std::mem::take(&mut self.closed) {
             same!(self.drop_sender(key));
         }

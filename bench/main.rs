@@ -58,6 +58,7 @@ fn main() {
         eprintln!("self-test: {} steps answered alike by all sides", agree::agree());
         measure::registrations(effort);
         measure::openings(effort);
+        measure::passed_over(effort);
     }
     for place in &PLACES {
         for &how in place.hows {

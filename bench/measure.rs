@@ -273,3 +273,35 @@ pub fn openings(effort: Effort) {
     plain.tell("S 8,192", calls);
     inner.tell("S 8,192", calls);
 }
+
+/// Registers 64 senders, or as many as there is room for, each past so many free slots whose older senders live.
+fn pass_over<S: Side>(side: &mut S, passed: usize) -> [f64; 1] {
+    let clear = NEW.min(SLOTS - passed);
+    drop(side.reopen());
+    for _ in 1..clear + passed {
+        side.register_sender(SLOTS).expect("a slot is unused");
+    }
+    // The slots freed last, whose senders live, stand before the others in the list.
+    for slot in 0..clear + passed {
+        let key = Key { slot: slot as u64, generation: 0 };
+        assert!(side.close_lane(key));
+        if slot < clear {
+            side.drop_sender(key);
+        }
+    }
+    let start = Instant::now();
+    for _ in 0..clear {
+        side.register_sender(SLOTS).expect("a slot is clear");
+    }
+    [since(start, clear)]
+}
+
+/// By the inner calls alone: the original passes over no slot, and a checked call goes over all slots before.
+pub fn passed_over(effort: Effort) {
+    for (passed, place) in [(0, "0"), (1, "1"), (63, "63"), (SLOTS - 1, "8,191")] {
+        // All slots are issued.
+        let mut inner = Run::new(Library::<false>::open(1, NEW.min(SLOTS - passed) + passed));
+        while inner.go(effort, |side| pass_over(side, passed)) {}
+        inner.tell(place, ["register, slots passed over"]);
+    }
+}
