@@ -31,8 +31,8 @@
    living older sender, with generation + 1; failing that, the next unused slot, with the opening's generation.
    So a headbox may be unplugged while its driver still holds the sender. Its lane is closed: the slot is free, and has its place in the list from then on,
    but registrations pass it over until the sender is dropped. They take another free slot or the next unused one, and the slots passed over stay where they
-   are. Meanwhile the driver's sends are refused 12; its sender counts as living, so looks answer FANRING_EMPTY and not FANRING_DISCONNECTED. Its drop answers
-   FANRING_DONE. From then on the slot may be taken again in its turn, and sends and drops by the old key are refused 10.
+   are. Meanwhile the driver's sends are refused 12; its sender counts as living, so no plain, fair or batch receive answers FANRING_DISCONNECTED. Its drop
+   answers FANRING_DONE. From then on the slot may be taken again in its turn, and sends and drops by the old key are refused 10.
    Refused 8: no slot is free and none is unused, so a lane has to retire first. Refused 9: slots are free, but each has a living older sender, and none is
    unused, so one of these senders has to be dropped first. A headbox that is plugged in again before its driver has dropped the old sender needs a second
    slot: let S be at least the registered lanes and the closed lanes whose senders are still held, taken together. `most` counts registered lanes alone.

@@ -70,6 +70,7 @@
 //! | `Sender::lane`, `lane_id`, `capacity` | [`Channel::lane`], [`LaneKey::slot`], [`Channel::capacity_per_sender`] |
 //! | `with_lane_ids` | [`try_recv`](Channel::try_recv) and [`try_recv_fair`](Channel::try_recv_fair) always answer the lane's id |
 //! | a lane's id, which names its channel | [`LaneId`], which names its opening too |
+//! | a closed lane's slot, which the next registration takes | passed over until the lane's sender is dropped |
 //! | `Ok(())` of a send | [`Taken`]: whether to wake the receiver, and how many more sends the lane takes |
 //! | a `Sender` or the `Receiver` is dropped | [`drop_sender`](Channel::drop_sender), [`close_receiver`](Channel::close_receiver) |
 //!

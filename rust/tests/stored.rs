@@ -219,6 +219,12 @@ fn opening_numbers() {
     assert!(replay(&data("opening-numbers.txt"), &REPLAY) >= 120, "opening-numbers.txt is shorter than it was");
 }
 
+/// Slots of closed lanes whose senders live.
+#[test]
+fn slots_passed_over() {
+    assert!(replay(&data("passed-over.txt"), &REPLAY) >= 100, "passed-over.txt is shorter than it was");
+}
+
 #[test]
 fn refused_openings() {
     replay(&data("openings.txt"), &REPLAY);
