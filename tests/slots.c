@@ -57,10 +57,13 @@ int main(void) {
             return 1;
         }
     }
-    if (!all_closed(SLOTS - 1) || !lane(fanring_register_sender(S, SLOTS, words), SLOTS - 1, 0)
-        || !refused(fanring_inner_register_sender(S, SLOTS, words), FANRING_OLDER_SENDER_LIVES) || !others_in_order(SLOTS - 1, SLOTS)) {
-        printf("the unused slot is not taken, or the others are not in their order\n");
-        return 1;
-    }
-    return 0;
+    /* One slot is unused: it is taken after the clear one. */
+    int good = all_closed(SLOTS - 1);
+    uint64_t clear = freed[5];
+    good = good && fanring_inner_drop_sender(S, clear, 0, words) == FANRING_DONE && lane(fanring_register_sender(S, SLOTS, words), clear, 1)
+           && lane(fanring_register_sender(S, SLOTS, words), SLOTS - 1, 0)
+           && refused(fanring_inner_register_sender(S, SLOTS, words), FANRING_OLDER_SENDER_LIVES) && others_in_order(SLOTS - 1, clear);
+    if (!good)
+        printf("the unused slot is not taken after the clear one, or the others are not in their order\n");
+    return !good;
 }
