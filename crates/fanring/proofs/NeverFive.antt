@@ -29,12 +29,11 @@ use Rattle.lane.specs.declared.producer.Sent.{Sent}
 use Rattle.lane.specs.declared.producer.Sent.the-variants as Sent
 use Rattle.lane.specs.Table.{laneAt}
 use Rattle.queues.specs.Header.{issued, freeCount, slots, alive, channelId, openingNumber, laneCount}
-use Rattle.queues.specs.Registry.{lastFreed}
 use Rattle.store.specs.declared.refusal.Verdict.{Verdict}
 use Rattle.store.specs.declared.refusal.Verdict.the-variants.{Pass, Refuse}
 use Rattle.store.specs.Refusal.{senderVerdict, closedVerdict, receiverVerdict, laneVerdict, andThen, sendVerdict, idVerdict}
 use Rattle.store.specs.Words.{Words, unlessRefused}
-use Rattle.sender.specs.Sender.{sendSignaled, takeSignaled, sendUnsignaled, trySend, trySendUnsignaled, dropSender, unusedVerdict, olderVerdict, slotVerdict, registerVerdict, registerSender, senderWords}
+use Rattle.sender.specs.Sender.{sendSignaled, takeSignaled, sendUnsignaled, trySend, trySendUnsignaled, dropSender, capacityVerdict, lanesVerdict, slotVerdict, registerSlot, registerSender, senderWords}
 use Rattle.control.specs.Control.{pause, resume, closeLane, closeReceiver}
 use Rattle.all_lanes.specs.AllLanes.{releaseConsumed, pollAllLanes, countHeld}
 use Rattle.control.specs.Calls.{controlWords}
@@ -99,14 +98,15 @@ module _ (t : List ℕ) where
   unfolding idVerdict
   id-verdict i = and-then _ _ receiver-verdict (lane-verdict i)
 
-  register-verdict : (most : ℕ) → NotFive (registerVerdict t most)
-  unfolding registerVerdict slotVerdict unusedVerdict olderVerdict number
-  register-verdict most =
-      and-then (receiverVerdict t) _ receiver-verdict
-      (test (leb most (laneCount t)) (refused Refusal.AtCapacity refl)
-      (test (eqb (freeCount t) 0)
-      (test (ltb (issued t) (slots t)) passed (refused Refusal.NoFreeSlot refl))
-      (test (eqb (laneAt t (lastFreed t) .living) 1) (refused Refusal.OlderSenderLives refl) passed)))
+  lanes-verdict : (most : ℕ) → NotFive (lanesVerdict t most)
+  unfolding lanesVerdict capacityVerdict number
+  lanes-verdict most = and-then (receiverVerdict t) _ receiver-verdict (test (leb most (laneCount t)) (refused Refusal.AtCapacity refl) passed)
+
+  slot-verdict : (d : ℕ) → NotFive (slotVerdict t d)
+  unfolding slotVerdict number
+  slot-verdict d =
+      test (ltb d (freeCount t)) passed
+      (test (ltb (issued t) (slots t)) passed (test (eqb (freeCount t) 0) (refused Refusal.NoFreeSlot refl) (refused Refusal.OlderSenderLives refl)))
 
   batch-verdict : (limit room : ℕ) → NotFive (batchVerdict t limit room)
   unfolding batchVerdict roomVerdict number
@@ -147,8 +147,8 @@ module _ (t r : List ℕ) where
   sent-unsignaled (Sent.Full l, u) = another Refusal.Full refl
 
   sender-never : (c : SenderCall) → NotRefusedFive (senderWords t r c)
-  unfolding senderWords registerSender trySend trySendUnsignaled dropSender accepted
-  sender-never (RegisterSender most) = unless-result (register-verdict t most) _ refl
+  unfolding senderWords registerSender registerSlot trySend trySendUnsignaled dropSender accepted
+  sender-never (RegisterSender most) = unless (lanes-verdict t most) _ (unless-result (slot-verdict t _) _ refl)
   sender-never (TrySend k v) = unless (send-verdict t k) _ (sent _)
   sender-never (TrySendUnsignaled k v) = unless (send-verdict t k) _ (sent-unsignaled _)
   sender-never (DropSender k) = unless-result (sender-verdict t k) _ refl

@@ -18,7 +18,7 @@ use Rattle.store.specs.declared.refusal.Verdict.the-variants.{Pass, Refuse}
 use Rattle.store.specs.Order.{StoreInOrder}
 use Rattle.store.specs.Words.{unlessRefused}
 use Rattle.opening.specs.Opening.{openStore}
-use Rattle.sender.specs.Sender.{registerVerdict, dueKey, takeSlot, registerLane, registerSender}
+use Rattle.sender.specs.Sender.{passedOver, lanesVerdict, slotVerdict, dueKey, takeSlot, registerLane, registerSlot, registerSender}
 use Rattle.opening.specs.FirstCursor.{StartsAt}
 use Rattle.sender.proofs.SenderBounds.{free-issued, register-room, due-in, length-taken}
 use Rattle.opening.proofs.OpeningLaws.{accepted, hd}
@@ -29,22 +29,23 @@ opening-puts-cursor o t r e = let a = accepted o t r e in rw (a .leaves) (hd o t
 
 module _ (t r : List ℕ) (o : StoreInOrder t r) (most : ℕ) where
   -- the slot that is due has its lane new, whether it is the next unused one or a freed one
-  due-lane-new : registerVerdict t most ≡ Pass → laneAt (registerLane t (dueKey t)) (dueKey t .slot) ≡ newLane (dueKey t) (firstCursor t)
+  due-lane-new : (d : ℕ) → slotVerdict t d ≡ Pass → laneAt (registerLane t d (dueKey t d)) (dueKey t d .slot) ≡ newLane (dueKey t d) (firstCursor t)
   unfolding registerLane
-  due-lane-new e =
-      let below = due-in t (o .stores .shaped) (free-issued t r o) (register-room t r o most e .due) in
-      let row : HasRow (dueKey t .slot) (length (takeSlot t)) = omega (arith, below, o .stores .shaped .room, length-taken t) in
-      simp (frames, has-row (takeSlot t) (dueKey t .slot) row)
+  due-lane-new d e =
+      let below = due-in t d (o .stores .shaped) (free-issued t r o) (register-room t r o d e .due) in
+      let row : HasRow (dueKey t d .slot) (length (takeSlot t d)) = omega (arith, below, o .stores .shaped .room, length-taken t d) in
+      simp (frames, has-row (takeSlot t d) (dueKey t d .slot) row)
 
   -- an accepted registration leaves the lane of the key that it answers new
   pub registered-lane-new : (k : LaneKey) → (registerSender t r most) .0 ≡ Registered k → laneAt ((registerSender t r most) .1) (k .slot) ≡ newLane k (firstCursor t)
-  unfolding registerSender unlessRefused
-  registered-lane-new k e = go (registerVerdict t most) refl e
+  unfolding registerSender registerSlot unlessRefused
+  registered-lane-new k e = go (lanesVerdict t most) (slotVerdict t (passedOver t)) refl e
     where
-      go : (v : Verdict) → registerVerdict t most ≡ v → (unlessRefused v t r (Registered (dueKey t), registerLane t (dueKey t), r)) .0 ≡ Registered k
-          → laneAt ((unlessRefused v t r (Registered (dueKey t), registerLane t (dueKey t), r)) .1) (k .slot) ≡ newLane k (firstCursor t)
-      go Pass a b = let same : dueKey t ≡ k = cc in rw (← same) (due-lane-new a)
-      go (Refuse why) a b = let z : _≡_ {A = ℕ} 0 1 = cc in absurd (omega arith)
+      go : (v w : Verdict) → slotVerdict t (passedOver t) ≡ w → let d = passedOver t in let u = unlessRefused v t r (unlessRefused w t r (Registered (dueKey t d), registerLane t d (dueKey t d), r)) in
+          u .0 ≡ Registered k → laneAt (u .1) (k .slot) ≡ newLane k (firstCursor t)
+      go Pass Pass a b = let same : dueKey t (passedOver t) ≡ k = cc in rw (← same) (due-lane-new (passedOver t) a)
+      go Pass (Refuse why) a b = let z : _≡_ {A = ℕ} 0 1 = cc in absurd (omega arith)
+      go (Refuse why) w a b = let z : _≡_ {A = ℕ} 0 1 = cc in absurd (omega arith)
 
   -- so its tail, released head, head and known tail are the first cursor
   pub registered-starts : (k : LaneKey) → (registerSender t r most) .0 ≡ Registered k → StartsAt (firstCursor t) (laneAt ((registerSender t r most) .1) (k .slot))

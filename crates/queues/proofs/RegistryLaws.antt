@@ -1,28 +1,64 @@
 -- The free list as a list: what each operation makes of it, and that it and the queue leave each other as they were.
 -- Assumes nothing.
-use mathlib.Core.Path.{_≡_, refl, ap, _∙_}
+use mathlib.Core.Path.{_≡_, refl, sym, ap, ap₂, _∙_}
 use mathlib.Core.Bool.{true, false}
-use mathlib.Core.List.{List, _∷_}
+use mathlib.Core.List.{List, [], _∷_, _++_}
 use Prim.Native.Nat.{ℕ, suc, _+_, _-_, _≤_, _<_}
+use native.Mathlib.Numerals.{add-one}
 use native.Mathlib.Omega.{arith}
+use borrow.Author.Tests.{ltb-true, eqb-false}
 use lib.Dec.{eqb, ltb, leb}
-use lib.ListN.{length}
-use lib.Seq.{getD-set-same, getD-set-other}
+use lib.ListN.{length, getD, take, drop, length-set, drop-of-length-le}
+use lib.Seq.{getD-set-same, getD-set-other, split-at, drop-cons}
 use Rattle.model.specs.Lists.{count}
-use Rattle.lane.specs.Table.{headerWords, rowWords, head, setHead, cell, setCell, laneAt, putLane}
+use Rattle.demands.proofs.Counting.{same-self, count-append}
+use Rattle.yring.specs.Lists.{tab}
+use Rattle.lane.specs.Table.{headerWords, rowWords, head, setHead, cellAt, cell, setCell, laneAt, putLane}
 use Rattle.lane.specs.declared.lane.Lane.{Lane}
-use Rattle.yring.proofs.ListLaws.{length-tab, tab-pop}
-use Rattle.lane.proofs.TableLaws.{frames}
+use Rattle.yring.proofs.ListLaws.{length-tab, getD-tab, tab-ext, tab-add, take-tab, drop-tab, tab-pop}
+use Rattle.lane.proofs.TableLaws.{frames, head-stored, other-head-kept, cell-setHead}
 use Rattle.queues.specs.Header.{Shaped, issued, freeCount, slots}
 use Rattle.queues.specs.Queue.{queueOf, pushBack, popFront, rotateLeft, remove, QueueNames}
-use Rattle.queues.specs.Registry.{freeColumn, freeOf, free, lastFreed, reissue}
+use Rattle.queues.specs.Registry.{freeColumn, freeOf, free, freedAt, movedDown, reissue}
 use Rattle.queues.proofs.Pigeonhole.{pigeonhole-less}
+use Rattle.queues.proofs.MovedDown.{length-moved-down, out-moved-down, in-moved-down}
 use Rattle.queues.proofs.QueueLaws.{queue-frames, header-in}
 use Rattle.queues.proofs.NamesLaws.{names-same}
 
 pub length-free : (t : List ℕ) → length (freeOf t) ≡ freeCount t
 unfolding freeOf
 length-free t = length-tab (freeCount t) (λ i. cell t freeColumn (freeCount t - suc i))
+
+-- ---- the slot d places down, and those before and after it
+
+-- its place, as the code counts it
+pub place-down : (t : List ℕ) (n d : ℕ) → cell t freeColumn (n - 1 - d) ≡ cell t freeColumn (n - suc d)
+place-down t n d = let e : n - 1 - d ≡ n - suc d = omega arith in ap (cell t freeColumn) e
+
+module _ (t : List ℕ) (d : ℕ) (h : d < freeCount t) where
+  inside : d < length (freeOf t)
+  inside = omega (arith, length-free t)
+
+  pub free-item : getD (freeOf t) d 0 ≡ freedAt t d
+  unfolding freeOf
+  free-item = getD-tab (freeCount t) (λ i. cell t freeColumn (freeCount t - suc i)) d h
+
+  pub free-parts : freeOf t ≡ take d (freeOf t) ++ (freedAt t d ∷ drop (suc d) (freeOf t))
+  free-parts = rw free-item at (split-at (freeOf t) d 0 inside)
+
+  -- for a loop that goes down the list
+  pub drop-free : drop d (freeOf t) ≡ freedAt t d ∷ drop (d + 1) (freeOf t)
+  drop-free = rw (add-one d) (rw free-item at (drop-cons (freeOf t) d 0 inside))
+
+  pub freed-in : 1 ≤ count (freedAt t d) (freeOf t)
+  unfolding count
+  freed-in =
+      let x : ℕ = freedAt t d in
+      omega (arith, ap (count x) free-parts, count-append x (take d (freeOf t)) (x ∷ drop (suc d) (freeOf t)), same-self x)
+
+-- past the last
+pub drop-free-all : (t : List ℕ) → drop (freeCount t) (freeOf t) ≡ []
+drop-free-all t = let h : length (freeOf t) ≤ freeCount t = omega (arith, length-free t) in drop-of-length-le (freeOf t) h
 
 -- ---- what leaves the free list as it was
 
@@ -83,30 +119,44 @@ module _ (t : List ℕ) (x : ℕ) where
   unfolding free
   queue-freed = simp queue-frames
 
-module _ (t : List ℕ) where
-  pub length-reissued : length (reissue t) ≡ length t
-  unfolding reissue
-  length-reissued = simp frames
+module _ (t : List ℕ) (d : ℕ) where
+  -- the words, before their number is stored
+  abbrev moved : List ℕ
+  moved = movedDown t (freeCount t - suc d) d
 
-  pub head-reissued : (k : ℕ) → eqb 3 k ≡ false → head (reissue t) k ≡ head t k
+  pub length-reissued : length (reissue t d) ≡ length t
   unfolding reissue
-  head-reissued k n = simp (frames, n)
+  length-reissued = length-set moved 3 (freeCount t - 1) ∙ length-moved-down t (freeCount t - suc d) d
 
-  pub count-reissued : leb headerWords (length t) ≡ true → freeCount (reissue t) ≡ freeCount t - 1
+  pub head-reissued : (k : ℕ) → ltb k headerWords ≡ true → eqb 3 k ≡ false → head (reissue t d) k ≡ head t k
   unfolding reissue
-  count-reissued r = simp (frames, r)
+  head-reissued k p n =
+      other-head-kept moved 3 (freeCount t - 1) k n
+      ∙ out-moved-down t (freeCount t - suc d) d k (λ i l e. omega (arith, ltb-true k headerWords p))
 
-  pub cell-reissued : (c row : ℕ) → cell (reissue t) c row ≡ cell t c row
+  pub count-reissued : leb headerWords (length t) ≡ true → freeCount (reissue t d) ≡ freeCount t - 1
   unfolding reissue
-  cell-reissued c row = simp frames
+  count-reissued r = head-stored moved 3 (freeCount t - 1) (rw (length-moved-down t (freeCount t - suc d) d) r) refl
 
-  pub lane-reissued : (slot : ℕ) → laneAt (reissue t) slot ≡ laneAt t slot
+  -- the places, as they were written
+  place-reissued : (row : ℕ) → cell (reissue t d) freeColumn row ≡ cell moved freeColumn row
   unfolding reissue
-  lane-reissued slot = simp frames
+  place-reissued row = cell-setHead moved 3 (freeCount t - 1) freeColumn row refl
 
-  pub queue-reissued : queueOf (reissue t) ≡ queueOf t
+  pub cell-reissued : (c row : ℕ) → ltb c rowWords ≡ true → eqb freeColumn c ≡ false → cell (reissue t d) c row ≡ cell t c row
   unfolding reissue
-  queue-reissued = simp queue-frames
+  cell-reissued c row p n =
+      cell-setHead moved 3 (freeCount t - 1) c row refl
+      ∙ out-moved-down t (freeCount t - suc d) d (cellAt c row)
+      (λ i l e. eqb-false freeColumn c n (omega (arith, ltb-true c rowWords p)))
+
+  pub lane-reissued : (slot : ℕ) → laneAt (reissue t d) slot ≡ laneAt t slot
+  unfolding laneAt
+  lane-reissued slot = simp cell-reissued
+
+  pub queue-reissued : queueOf (reissue t d) ≡ queueOf t
+  unfolding queueOf
+  queue-reissued = simp (head-reissued, cell-reissued)
 
 pub ruleset registry-frames = (
   free-putLane,
@@ -147,15 +197,36 @@ module _ (t : List ℕ) (s : Shaped t) where
       let e : k + 1 - suc (suc i) ≡ k - suc i = omega arith in
       ap (cell u freeColumn) e ∙ getD-set-other t _ _ x 0 (λ q. omega arith))))
 
-  -- the slot freed last, and what is left without it
-  pub free-reissued : 0 < freeCount t → freeOf t ≡ lastFreed t ∷ freeOf (reissue t)
-  unfolding freeOf reissue
-  free-reissued h =
-      simp (frames, header-in t s)
-      (tab-pop (freeCount t) _ _ _ h refl
-      (λ i l.
-      let e : freeCount t - suc (suc i) ≡ freeCount t - 1 - suc i = omega arith in
-      ap (cell t freeColumn) e))
+  -- the slot d places down gone, the others in their order
+  pub free-reissued : (d : ℕ) → d < freeCount t → freeOf (reissue t d) ≡ take d (freeOf t) ++ drop (suc d) (freeOf t)
+  unfolding freeOf
+  free-reissued d h =
+      let n : ℕ = freeCount t in
+      let p : ℕ = n - suc d in
+      let e : n - 1 ≡ d + p = omega arith in
+      let f : ℕ → ℕ = λ i. cell t freeColumn (n - suc i) in
+      let g : ℕ → ℕ = λ i. cell (movedDown t p d) freeColumn (n - 1 - suc i) in
+      simp (count-reissued t d (header-in t s), place-reissued)
+      (ap (λ (k : ℕ). tab k g) e
+      ∙ tab-add d p g
+      ∙ ap₂ (λ (a b : List ℕ). a ++ b)
+      (tab-ext d g f above ∙ sym (take-tab d n f (omega arith)))
+      (tab-ext p (λ i. g (d + i)) (λ i. f (suc d + i)) below ∙ sym (drop-tab (suc d) n f h)))
+    where
+      above : (i : ℕ) → i < d → cell (movedDown t (freeCount t - suc d) d) freeColumn (freeCount t - 1 - suc i) ≡ cell t freeColumn (freeCount t - suc i)
+      above i l =
+          let a : freeCount t - 1 - suc i ≡ freeCount t - suc d + (d - suc i) = omega arith in
+          let b : freeCount t - suc d + (d - suc i) + 1 ≡ freeCount t - suc i = omega arith in
+          ap (cell (movedDown t (freeCount t - suc d) d) freeColumn) a
+          ∙ in-moved-down t (freeCount t - suc d) d (omega (arith, s .room, s .free-most)) (d - suc i) (omega arith)
+          ∙ ap (cell t freeColumn) b
+
+      below : (i : ℕ) → i < freeCount t - suc d
+          → cell (movedDown t (freeCount t - suc d) d) freeColumn (freeCount t - 1 - suc (d + i)) ≡ cell t freeColumn (freeCount t - suc (suc d + i))
+      below i l =
+          let a : freeCount t - 1 - suc (d + i) ≡ freeCount t - suc (suc d + i) = omega arith in
+          ap (cell (movedDown t (freeCount t - suc d) d) freeColumn) a
+          ∙ out-moved-down t (freeCount t - suc d) d (cellAt freeColumn (freeCount t - suc (suc d + i))) (λ j k e. omega arith)
 
   -- where the free slots are issued ones, each once, another issued slot finds room
   pub free-has-room : ((y : ℕ) → count y (freeOf t) ≤ 1) → ((y : ℕ) → 1 ≤ count y (freeOf t) → y < issued t)
@@ -168,13 +239,13 @@ module _ (t : List ℕ) (s : Shaped t) where
   pub shaped-freed : (x : ℕ) → freeCount t < slots t → Shaped (free t x)
   shaped-freed x h = simp (registry-frames, header-in t s) (omega (arith, s))
 
-  pub shaped-reissued : Shaped (reissue t)
-  shaped-reissued = simp (registry-frames, header-in t s) (omega (arith, s))
+  pub shaped-reissued : (d : ℕ) → Shaped (reissue t d)
+  shaped-reissued d = simp (registry-frames, header-in t s) (omega (arith, s))
 
 -- ---- the queue names what it named
 
 pub names-freed : (t : List ℕ) (x : ℕ) → QueueNames t → QueueNames (free t x)
 names-freed t x q = names-same t (free t x) q (simp registry-frames) (λ y. simp registry-frames) (λ y. simp registry-frames)
 
-pub names-reissued : (t : List ℕ) → QueueNames t → QueueNames (reissue t)
-names-reissued t q = names-same t (reissue t) q (simp registry-frames) (λ y. simp registry-frames) (λ y. simp registry-frames)
+pub names-reissued : (t : List ℕ) (d : ℕ) → QueueNames t → QueueNames (reissue t d)
+names-reissued t d q = names-same t (reissue t d) q (simp registry-frames) (λ y. simp registry-frames) (λ y. simp registry-frames)

@@ -5,7 +5,7 @@ use mathlib.Core.Path.{_≡_, refl, _∙_}
 use mathlib.Core.Bool.{Bool, true, false, cond}
 use mathlib.Core.List.{List, [], _∷_, foldl}
 use Prim.Native.Nat.{ℕ, zero, suc, _+_, _-_, _*_}
-use lib.Dec.{eqb}
+use lib.Dec.{eqb, ltb}
 use Rattle.model.specs.Lists.{either}
 use Rattle.model.specs.declared.SenderCall.{SenderCall}
 use Rattle.model.specs.declared.SenderCall.the-variants.{RegisterSender, TrySend, TrySendUnsignaled, DropSender}
@@ -34,7 +34,7 @@ use Rattle.store.proofs.EnqueueLaws.{head-enqueued}
 use Rattle.store.proofs.SignalFrames.{head-marked-if-idle}
 use Rattle.store.proofs.RefusalLaws.{unless-refused-case}
 use Rattle.store.proofs.RetireFrames.{freed-unless-last-is}
-use Rattle.sender.specs.Sender.{withSender, takeSignaled, sendSignaled, sendUnsignaled, pushed, trySend, trySendUnsignaled, dropLane, dropSender, dueKey, takeSlot, registerLane, registerSender, senderWords}
+use Rattle.sender.specs.Sender.{withSender, takeSignaled, sendSignaled, sendUnsignaled, pushed, trySend, trySendUnsignaled, dropLane, dropSender, takeSlot, registerLane, registerSlot, registerSender, senderWords}
 use Rattle.sender.proofs.IssueLaws.{head-opened-page}
 use Rattle.all_lanes.specs.AllLanes.{forSlots, releaseSlot, releaseAll, releaseConsumed, mayQueue, pollSlot, pollSlots, pollAllLanes, countHeld}
 use Rattle.control.specs.Control.{withTurn, pausedLane, pauseLane, pause, resumeLane, resume, close, closeLane, closeReceiver}
@@ -146,20 +146,20 @@ module _ {c : KeptWord} (t : List ℕ) (h : At c t) where
 
   -- ---- sender calls
 
-  taken-at : At c (takeSlot t)
+  taken-at : (d : ℕ) → At c (takeSlot t d)
   unfolding takeSlot
-  taken-at =
-      cond-holds (At c) (eqb (freeCount t) 0) (setIssued (openPage t (issued t)) (issued t + 1)) (reissue t)
+  taken-at d =
+      cond-holds (At c) (ltb d (freeCount t)) (reissue t d) (setIssued (openPage t (issued t)) (issued t + 1))
+      (λ e. at-by t h (reissue t d) (head-reissued t d (c .word) (c .unwritten .in-header) (apart (c .unwritten) (placeOf freeCount) refl)))
       (λ e.
       at-head (openPage t (issued t)) (at-by t h (openPage t (issued t)) (head-opened-page t (issued t) (c .word) (c .unwritten .in-header))) (placeOf issued) (issued t + 1) refl)
-      (λ e. at-by t h (reissue t) (head-reissued t (c .word) (apart (c .unwritten) (placeOf freeCount) refl)))
 
-  registered-at : At c (registerLane t (dueKey t))
+  registered-at : (d : ℕ) (k : LaneKey) → At c (registerLane t d k)
   unfolding registerLane
-  registered-at =
-      let u : List ℕ = putLane (takeSlot t) (newLane (dueKey t) (firstCursor t)) in
+  registered-at d k =
+      let u : List ℕ = putLane (takeSlot t d) (newLane k (firstCursor t)) in
       let v : List ℕ = setLaneCount u (laneCount t + 1) in
-      let p : At c v = at-head u (at-put (takeSlot t) taken-at (newLane (dueKey t) (firstCursor t))) (placeOf laneCount) (laneCount t + 1) refl in
+      let p : At c v = at-head u (at-put (takeSlot t d) (taken-at d) (newLane k (firstCursor t))) (placeOf laneCount) (laneCount t + 1) refl in
       at-head v p (placeOf livingCount) (livingCount t + 1) refl
 
   signaled-at : (s : Sent × List ℕ) → At c ((sendSignaled t s) .1)
@@ -179,8 +179,8 @@ module _ {c : KeptWord} (t : List ℕ) (h : At c t) where
       at-head (markIfIdle u l) (at-marked-if-idle u (at-put t h (withSender 1 0 l)) l) (placeOf livingCount) (livingCount t - 1) refl
 
   pub sender-at : (r : List ℕ) (s : SenderCall) → At c ((senderWords t r s) .1)
-  unfolding senderWords registerSender trySend trySendUnsignaled dropSender
-  sender-at r (RegisterSender most) = unless-at _ r _ registered-at
+  unfolding senderWords registerSender registerSlot trySend trySendUnsignaled dropSender
+  sender-at r (RegisterSender most) = unless-at _ r _ (unless-at _ r _ (registered-at _ _))
   sender-at r (TrySend k v) = unless-at _ r _ (signaled-at (pushed t r k v))
   sender-at r (TrySendUnsignaled k v) = unless-at _ r _ (unsignaled-at (pushed t r k v))
   sender-at r (DropSender k) = unless-at _ r _ (dropped-at (laneAt t (k .slot)))

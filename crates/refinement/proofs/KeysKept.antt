@@ -58,13 +58,13 @@ move-generation : {s u : State} {t : Tick} → Moves s t u → (y : ℕ) → Hol
 unfolding registering releaseAll
 move-generation (stays-put s c a h) y k = refl
 move-generation (credits s c a h) y k = refl
-move-generation (registers-new s m e lt) y k =
+move-generation (registers-new s m lt) y k =
     let o = k refl in
     put-generation s (s .issued) (newLane (s .firstGeneration) (s .slotOf (s .issued))) y (λ p. absurd (omega (arith, o .0 .each-slot y .registered-issued (o .1))))
-move-generation (registers-old s m x f e) y k =
+move-generation (registers-old s m x i l) y k =
     let o = k refl in
     put-generation s x (newLane (s .slotOf x .generation + 1) (s .slotOf x)) y
-    (λ p. absurd (no (ap (λ (z : ℕ). s .slotOf z .registered) p ∙ o .1) (o .0 .each-slot x .free-unregistered (omega (arith, ap (count x) e, first-own x f)))))
+    (λ p. absurd (no (ap (λ (z : ℕ). s .slotOf z .registered) p ∙ o .1) (o .0 .each-slot x .free-unregistered i)))
 move-generation (sends s j v w free a r nf) y k = put-generation s (j .slot) _ y (λ p. refl)
 move-generation (posts s j v w free a r nf) y k = put-generation s (j .slot) _ y (λ p. refl)
 move-generation (drops-it s j a) y k = put-generation s (j .slot) _ y (λ p. refl)

@@ -33,7 +33,7 @@ use Rattle.turns.specs.declared.turn.Took.{Took}
 use Rattle.turns.specs.declared.turn.Took.the-variants as Took
 use Rattle.store.specs.Words.{Words, unlessRefused, withRings}
 use Rattle.opening.specs.Opening.{openSized, openStore}
-use Rattle.sender.specs.Sender.{pushed, sendSignaled, takeSignaled, sendUnsignaled, registerSender, trySend, trySendUnsignaled, dropSender, senderWords}
+use Rattle.sender.specs.Sender.{pushed, sendSignaled, takeSignaled, sendUnsignaled, registerSlot, registerSender, trySend, trySendUnsignaled, dropSender, senderWords}
 use Rattle.control.specs.Control.{pause, resume, closeLane, closeReceiver}
 use Rattle.all_lanes.specs.AllLanes.{releaseConsumed, pollAllLanes, countHeld}
 use Rattle.turns.specs.Drained.{retireEmptyPausedLanes, emptyOrDrained, nothingTaken}
@@ -88,8 +88,8 @@ module _ (t r : List ℕ) where
         go false e = rw e (λ why f. absurd (no refl (ap accepted f)))
 
   pub sender-unmoved : (c : SenderCall) → Unmoved t r (senderWords t r c)
-  unfolding senderWords registerSender trySend trySendUnsignaled dropSender accepted
-  sender-unmoved (RegisterSender most) = unless-accepted _ _ refl
+  unfolding senderWords registerSender registerSlot trySend trySendUnsignaled dropSender accepted
+  sender-unmoved (RegisterSender most) = unless-unmoved _ _ (unless-accepted _ _ refl)
   sender-unmoved (TrySend k v) = unless-unmoved _ _ (send-unmoved k v)
   sender-unmoved (TrySendUnsignaled k v) = unless-unmoved _ _ (unsignaled-unmoved k v)
   sender-unmoved (DropSender k) = unless-accepted _ _ refl

@@ -1,6 +1,6 @@
--- Document 01's sentences on order kept, the poll budget, turns of 64, collections, Disconnected and Empty, refusal 13, signals, first cursors and queued keys, of
--- calls on two stores. Those that the rules have too are crate `model`'s (its specs/Budget.antt, BudgetAfterNothing.antt, OneTurn.antt, Collections.antt,
--- WhileMarked.antt, Disconnected.antt, LaneIds.antt, Signals.antt, ReceivesEnd.antt), said of the state that the words show; those on words alone are here.
+-- Document 01's sentences on order kept, the poll budget, turns of 64, collections, Disconnected and Empty, refusal 13, signals, first cursors and queued keys, and
+-- document 02's on registrations (N4), of calls on two stores. Those that the rules have too are crate `model`'s (its specs/Budget.antt, BudgetAfterNothing.antt, OneTurn.antt, Collections.antt,
+-- WhileMarked.antt, Disconnected.antt, LaneIds.antt, Signals.antt, Registration.antt, ReceivesEnd.antt), said of the state that the words show; those on words alone are here.
 -- Assumes nothing.
 use mathlib.Core.Path.{_≡_}
 use mathlib.Core.Bool.{Bool, true, false}
@@ -20,7 +20,8 @@ use Rattle.model.specs.BudgetAfterNothing.{BudgetAfterNothing, BudgetAsEventsSe
 use Rattle.model.specs.Disconnected.{DisconnectedExactly, RetiresEmptyPaused, EmptyWithPausedItems, OnlyPausedItemsLeft, TargetedDisconnectedExactly}
 use Rattle.model.specs.LaneIds.{ThirteenExactly, ElseSixOrAccepted}
 use Rattle.model.specs.ReceivesEnd.{EndsWithNothingLeft}
-use Rattle.model.specs.Signals.{IdleOnlyWhenEmpty, ClosedSignalKept, OlderSenderRefused}
+use Rattle.model.specs.Signals.{IdleOnlyWhenEmpty, ClosedSignalKept}
+use Rattle.model.specs.Registration.{TakesFirstClear, TakesNextUnused, EightExactly, NineExactly, RefusedOnlyInVain}
 use Rattle.lane.specs.Table.{laneAt}
 use Rattle.queues.specs.Queue.{queueOf}
 use Rattle.ready.specs.Ready.{collectReady}
@@ -68,7 +69,11 @@ pub record KeepsRules (M : StoreCalls) : Type 0 where
   pub else-six-or-accepted : ElseSixOrAccepted (viewedOf M)
   pub idle-only-when-empty : IdleOnlyWhenEmpty (viewedOf M)
   pub closed-signal-kept : ClosedSignalKept (viewedOf M)
-  pub older-sender-refused : OlderSenderRefused (viewedOf M)
+  pub takes-first-clear : TakesFirstClear (viewedOf M)
+  pub takes-next-unused : TakesNextUnused (viewedOf M)
+  pub eight-exactly : EightExactly (viewedOf M)
+  pub nine-exactly : NineExactly (viewedOf M)
+  pub refused-only-in-vain : RefusedOnlyInVain (viewedOf M)
   pub rings-start-at-first-cursor : RingsStartAtFirstCursor M
   pub queued-keys-kept : QueuedKeysKept M
 

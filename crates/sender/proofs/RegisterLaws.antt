@@ -5,9 +5,8 @@ use mathlib.Core.Logic.{_≢_}
 use mathlib.Core.Bool.{Bool, true, false, cond, not}
 use mathlib.Core.List.{List, [], _∷_}
 use Prim.Native.Nat.{ℕ, zero, suc, _+_, _^_, _≤_, _<_}
-use native.Mathlib.Decide.{ℕ-discrete}
 use native.Mathlib.Omega.{arith}
-use borrow.Author.Tests.{eq-eqb, ne-eqb, eqb-false, le-ltb}
+use borrow.Author.Tests.{ne-eqb, le-ltb, lt-ltb}
 use lib.Dec.{eqb, leb, ltb}
 use lib.ListN.{length}
 use Rattle.model.specs.declared.LaneKey.{LaneKey}
@@ -16,15 +15,15 @@ use Rattle.model.specs.declared.Refusal.the-variants.{ReceiverClosed, AtCapacit
 use Rattle.model.specs.declared.Answer.the-variants.{Registered}
 use Rattle.model.specs.declared.SenderCall.the-variants.{RegisterSender}
 use Rattle.model.specs.declared.Call.the-variants.{Sender}
-use Rattle.model.specs.Lists.{if, both, nonEmpty, count}
+use Rattle.model.specs.Lists.{if, both, nonEmpty, count, without}
 use Rattle.model.specs.State.{State, vacant, registeredLanes}
 use Rattle.model.specs.Changes as rules
 use Rattle.model.specs.Changes.{put, withFree, withIssued}
 use Rattle.model.specs.Sender as rules-sender
-use Rattle.model.specs.Sender.{issueSlot, olderLives}
+use Rattle.model.specs.Outcome.{Outcome, unless}
+use Rattle.model.specs.Sender.{clearSlots, issueSlot, allIssued}
 use Rattle.model.specs.Rules.{outcome}
 use Rattle.demands.proofs.Counting.{no as clash}
-use Rattle.demands.proofs.OrderKept.{first-own}
 use Rattle.lane.specs.declared.lane.Lane.{Lane}
 use Rattle.yring.specs.declared.ring.Ring.{Ring}
 use Rattle.yring.specs.Ring.{newRing, items}
@@ -35,85 +34,74 @@ use Rattle.yring.proofs.CursorLaws.{distance-self}
 use Rattle.lane.proofs.OrderLaws.{new-lane-in-order}
 use Rattle.queues.specs.Header.{Shaped, issued, slots, budget, capacity, firstCursor, firstGeneration, freeCount, laneCount, livingCount, setLaneCount, setLivingCount}
 use Rattle.queues.specs.Queue.{queueOf}
-use Rattle.queues.specs.Registry.{freeOf, lastFreed, reissue}
+use Rattle.queues.specs.Registry.{freeOf, freedAt, reissue}
 use Rattle.ready.specs.Ready.{pageBit}
 use Rattle.queues.proofs.QueueLaws.{shaped-putLane}
-use Rattle.queues.proofs.RegistryLaws.{registry-frames, length-free, free-reissued, shaped-reissued}
+use Rattle.queues.proofs.RegistryLaws.{registry-frames, length-free, freed-in, shaped-reissued}
 use Rattle.store.specs.declared.refusal.Verdict.the-variants.{Pass, Refuse}
 use Rattle.store.specs.View.{flag, slotOf, slotAt, view}
 use Rattle.store.specs.Order.{Flags, Stores, StoreInOrder}
-use Rattle.store.specs.Refusal.{receiverVerdict, andThen}
-use Rattle.sender.specs.Sender.{unusedVerdict, olderVerdict, slotVerdict, registerVerdict, dueKey, takeSlot, registerLane, registerSender}
-use Rattle.store.proofs.ViewLaws.{slot-in, slot-out, view-put-lane, free-view, view-reissued, view-lane-count, view-living-count}
-use Rattle.store.proofs.RefusalLaws.{seen, firstOf, first-of-append, unless-refused-case, refused-alike, receiver-verdict, and-then-passes}
+use Rattle.store.specs.Refusal.{andThen}
+use Rattle.store.specs.Words.{Words}
+use Rattle.sender.specs.Sender.{passedOver, capacityVerdict, lanesVerdict, slotVerdict, dueKey, takeSlot, registerLane, registerSlot, registerSender}
+use Rattle.store.proofs.ViewLaws.{slot-in, slot-out, view-put-lane, view-lane-count, view-living-count}
+use Rattle.store.proofs.RefusalLaws.{seen, firstOf, first-of-append, unless-append, unless-refused-case, refused-alike, receiver-verdict}
 use Rattle.store.proofs.HeaderWords.{withWord}
 use Rattle.store.proofs.StepLaws.{step-start, step-put-lane, step-reissued, step-lane-count, step-living-count}
-use Rattle.store.proofs.StoreLaws.{FreeSlot, last-freed-slot, store-in-order-after, stores-after, windows-kept}
+use Rattle.store.proofs.StoreLaws.{FreeSlot, freed-slot, view-reissued-without, store-in-order-after, stores-after, windows-kept}
 use Rattle.sender.proofs.IssueLaws.{issuedNext, shaped-issued-next, view-issued, stores-registered-next}
-use Rattle.sender.proofs.SenderBounds.{some, not-below, pass-unless, register-room}
-
--- ---- the free list is empty, or begins with the slot freed last
-
-data FreeCase (t : List ℕ) : Type 0 where
-  none : freeCount t ≡ 0 → freeOf t ≡ [] → FreeCase t
-  one : 0 < freeCount t → freeOf t ≡ lastFreed t ∷ freeOf (reissue t) → FreeCase t
-
-free-case : (t : List ℕ) → Shaped t → FreeCase t
-free-case t s = elim (ℕ-discrete (freeCount t) 0) [
-  | yes e ↦ none e (empty (freeOf t) (length-free t ∙ e))
-  | no n ↦ one (some _ n) (free-reissued t s (some _ n))
-]
-  where
-    empty : (l : List ℕ) → length l ≡ 0 → l ≡ []
-    empty [] e = refl
-    empty (y ∷ l) e = absurd (omega arith)
+use Rattle.sender.proofs.SenderBounds.{not-below, register-room}
+use Rattle.sender.proofs.PassedLaws.{PassedCase, all, some, passed-case}
 
 -- ---- refusals 6 to 9 are the rules'
 
-module _ (t r : List ℕ) (o : StoreInOrder t r) (most : ℕ) where
+module _ (t r : List ℕ) (o : StoreInOrder t r) where
   abbrev s : State
   s = view t r
 
-  -- the rules' tests of a slot
+  -- the rules' tests of the lanes
+  abbrev laneTests : ℕ → List (Bool × Refusal)
+  laneTests most = (not (s .isOpen), ReceiverClosed) ∷ (leb most (registeredLanes s), AtCapacity) ∷ []
+
+  lanes-verdict : (most : ℕ) → lanesVerdict t most ≡ firstOf (laneTests most)
+  unfolding lanesVerdict capacityVerdict firstOf
+  lanes-verdict most =
+      ap₂ andThen (receiver-verdict t r) (rw (o .stores .lanes-counted) (go (leb most (registeredLanes s))))
+      ∙ sym (first-of-append ((not (s .isOpen), ReceiverClosed) ∷ []) ((leb most (registeredLanes s), AtCapacity) ∷ []))
+    where
+      go : (b : Bool) → cond b (Refuse AtCapacity) Pass ≡ if b (Refuse AtCapacity) Pass
+      go true = refl
+      go false = refl
+
+  -- and of the slots
   abbrev slotTests : List (Bool × Refusal)
   slotTests =
-      (leb most (registeredLanes s), AtCapacity)
-      ∷ (both (not (nonEmpty (s .free))) (leb (s .slots) (s .issued)), NoFreeSlot) ∷ (olderLives (s .free) s, OlderSenderLives) ∷ []
+      (both (not (nonEmpty (s .free))) (allIssued s), NoFreeSlot) ∷ (both (not (nonEmpty (clearSlots s))) (allIssued s), OlderSenderLives) ∷ []
 
-  abbrev tests : List (Bool × Refusal)
-  tests = (not (s .isOpen), ReceiverClosed) ∷ slotTests
-
-  -- the slot freed last
-  freed-living : 0 < freeCount t → s .slotOf (lastFreed t) .living ≡ flag (laneAt t (lastFreed t) .living)
-  unfolding slotAt
-  freed-living h = rw (slot-in t r (lastFreed t) (last-freed-slot t r o h .is-issued))
-
-  slot-verdict : slotVerdict t most ≡ firstOf slotTests
-  unfolding slotVerdict firstOf view unusedVerdict olderVerdict olderLives
-  slot-verdict = rw (o .stores .lanes-counted) (go (leb most (registeredLanes s)) (free-case t (o .stores .shaped)))
+  free-some : nonEmpty (freeOf t) ≡ not (eqb (freeCount t) 0)
+  free-some = rw (← length-free t) (go (freeOf t))
     where
-      unused : (c : Bool) → cond c Pass (Refuse NoFreeSlot) ≡ if (not c) (Refuse NoFreeSlot) Pass
-      unused true = refl
-      unused false = refl
+      go : (l : List ℕ) → nonEmpty l ≡ not (eqb (length l) 0)
+      go [] = refl
+      go (x ∷ l) = let e : suc (length l) ≢ 0 = λ z. omega arith in rw (ne-eqb _ _ e)
 
-      older : (c : Bool) → cond c (Refuse OlderSenderLives) Pass ≡ if c (Refuse OlderSenderLives) Pass
-      older true = refl
-      older false = refl
+  slot-verdict : slotVerdict t (passedOver t) ≡ firstOf slotTests
+  unfolding slotVerdict firstOf view allIssued
+  slot-verdict = go (passed-case t r o)
+    where
+      none : (i e : Bool) → cond i Pass (cond e (Refuse NoFreeSlot) (Refuse OlderSenderLives))
+          ≡ if (both (not (not e)) (not i)) (Refuse NoFreeSlot) (if (not i) (Refuse OlderSenderLives) Pass)
+      none true true = refl
+      none true false = refl
+      none false true = refl
+      none false false = refl
 
-      go : (b : Bool) → FreeCase t
-          → cond b (Refuse AtCapacity) (cond (eqb (freeCount t) 0) (unusedVerdict (issued t) (slots t)) (olderVerdict (laneAt t (lastFreed t))))
-          ≡ if b (Refuse AtCapacity)
-          (if (both (not (nonEmpty (freeOf t))) (leb (slots t) (issued t))) (Refuse NoFreeSlot) (if (olderLives (freeOf t) s) (Refuse OlderSenderLives) Pass))
-      go true f = refl
-      go false (none e l) = rw (eq-eqb _ _ e, l, not-below (issued t) (slots t)) (unused (ltb (issued t) (slots t)))
-      go false (one h l) =
-          let n : freeCount t ≢ 0 = λ e. omega arith in
-          rw (ne-eqb _ _ n, l, freed-living h) (older (flag (laneAt t (lastFreed t) .living)))
-
-  register-verdict : registerVerdict t most ≡ firstOf tests
-  unfolding registerVerdict
-  register-verdict =
-      ap₂ andThen (receiver-verdict t r) slot-verdict ∙ sym (first-of-append ((not (s .isOpen), ReceiverClosed) ∷ []) slotTests)
+      go : PassedCase t r → slotVerdict t (passedOver t) ≡ firstOf slotTests
+      go (all e c) =
+          rw (le-ltb (passedOver t) (freeCount t) (omega arith), c, free-some, not-below (issued t) (slots t)) (none (ltb (issued t) (slots t)) (eqb (freeCount t) 0))
+      go (some h n f c) =
+          let e : freeCount t ≢ 0 = λ z. omega arith in
+          rw (lt-ltb (passedOver t) (freeCount t) h, c, free-some, ne-eqb _ _ e)
 
 -- ---- a new lane
 
@@ -126,8 +114,8 @@ new-flags : (k : LaneKey) (c : ℕ) → Flags (newLane k c)
 new-flags k c =
     record { pending-flag = omega arith; queued-flag = omega arith; paused-flag = omega arith; registered-flag = omega arith; living-flag = omega arith }
 
--- with an empty free list the next unused slot is due, else the one freed last
-module _ (t r : List ℕ) (o : StoreInOrder t r) where
+-- where d slots are passed over, the slot below them is due, else the next unused one
+module _ (t r : List ℕ) (o : StoreInOrder t r) (d : ℕ) where
   abbrev c : ℕ
   c = firstCursor t
 
@@ -135,22 +123,22 @@ module _ (t r : List ℕ) (o : StoreInOrder t r) where
   view-counted : (u : List ℕ) (a b : ℕ) → Shaped u → view (setLivingCount (setLaneCount u a) b) r ≡ view u r
   view-counted u a b h = view-living-count (setLaneCount u a) r (simp frames h) b ∙ view-lane-count u r h a
 
-  module _ (e : freeCount t ≡ 0) (l : freeOf t ≡ []) (below : issued t < slots t) where
+  module _ (past : freeCount t ≤ d) (below : issued t < slots t) where
     abbrev next : LaneKey
     next = record { slot = issued t; generation = firstGeneration t }
 
-    due-next : dueKey t ≡ next
+    due-next : dueKey t d ≡ next
     unfolding dueKey
-    due-next = rw (eq-eqb _ _ e)
+    due-next = rw (le-ltb _ _ past)
 
-    taken-next : takeSlot t ≡ issuedNext t
+    taken-next : takeSlot t d ≡ issuedNext t
     unfolding takeSlot
-    taken-next = rw (eq-eqb _ _ e)
+    taken-next = rw (le-ltb _ _ past)
 
     shaped-next : Shaped (issuedNext t)
     shaped-next = shaped-issued-next t (o .stores .shaped) (o .stores .linked) below
 
-    next-view : view (registerLane t next) r ≡ withIssued (suc (issued t)) (put (issued t) (rules.newLane (firstGeneration t) (view t r .slotOf (issued t))) (view t r))
+    next-view : view (registerLane t d next) r ≡ withIssued (suc (issued t)) (put (issued t) (rules.newLane (firstGeneration t) (view t r .slotOf (issued t))) (view t r))
     unfolding registerLane vacant
     next-view =
         rw taken-next
@@ -158,50 +146,46 @@ module _ (t r : List ℕ) (o : StoreInOrder t r) where
         ∙ view-issued t (o .stores .shaped) (o .stores .linked) below r (newLane next c) refl
         ∙ rw (new-holds (newRing (issued t) (capacity t)) r next c (o .stores .first-cursor), slot-out t r (issued t) (le-ltb (issued t) (issued t) (omega arith))))
 
-    next-stores : Stores (registerLane t next) r
+    next-stores : Stores (registerLane t d next) r
     unfolding registerLane
     next-stores =
         rw taken-next
         (stores-registered-next t r (o .stores) below (newLane next c) refl (new-flags next c)
         (new-lane-in-order (capacity t) (o .stores .power) next c (o .stores .first-cursor)) refl refl refl refl)
 
-  module _ (h : 0 < freeCount t) (l : freeOf t ≡ lastFreed t ∷ freeOf (reissue t)) where
+  module _ (h : d < freeCount t) where
     abbrev x : ℕ
-    x = lastFreed t
+    x = freedAt t d
 
     abbrev again : LaneKey
     again = record { slot = x; generation = laneAt t x .key .generation + 1 }
 
     free : FreeSlot t x
-    free = last-freed-slot t r o h
+    free = freed-slot t r o d h
 
-    not-none : freeCount t ≢ 0
-    not-none e = omega arith
-
-    due-again : dueKey t ≡ again
+    due-again : dueKey t d ≡ again
     unfolding dueKey
-    due-again = rw (ne-eqb _ _ not-none)
+    due-again = rw (lt-ltb _ _ h)
 
-    taken-again : takeSlot t ≡ reissue t
+    taken-again : takeSlot t d ≡ reissue t d
     unfolding takeSlot
-    taken-again = rw (ne-eqb _ _ not-none)
+    taken-again = rw (lt-ltb _ _ h)
 
     seen-generation : view t r .slotOf x .generation ≡ laneAt t x .key .generation
     unfolding slotAt
     seen-generation = rw (slot-in t r x (free .is-issued))
 
-    again-view : view (registerLane t again) r
-        ≡ withFree (freeOf (reissue t)) (put x (rules.newLane (view t r .slotOf x .generation + 1) (view t r .slotOf x)) (view t r))
+    again-view : view (registerLane t d again) r
+        ≡ withFree (without x (view t r .free)) (put x (rules.newLane (view t r .slotOf x .generation + 1) (view t r .slotOf x)) (view t r))
     unfolding registerLane slotAt
     again-view =
-        let u : List ℕ = reissue t in
+        let u : List ℕ = reissue t d in
         let m : Lane = newLane again c in
         let same : pageBit u x ≡ pageBit t x = simp registry-frames in
         rw taken-again
-        (view-counted (putLane u m) (laneCount t + 1) (livingCount t + 1) (shaped-putLane u (shaped-reissued t (o .stores .shaped)) m)
-        ∙ view-put-lane u (shaped-reissued t (o .stores .shaped)) m x refl (simp registry-frames (free .is-issued)) r
-        ∙ ap₂ (λ (b : ℕ) (z : State). put x (slotOf m b (heldItems (newRing x (capacity u)) r m)) z) same
-        (view-reissued t r (o .stores .shaped) x (freeOf u) (free-view t r (o .stores .shaped) h))
+        (view-counted (putLane u m) (laneCount t + 1) (livingCount t + 1) (shaped-putLane u (shaped-reissued t (o .stores .shaped) d) m)
+        ∙ view-put-lane u (shaped-reissued t (o .stores .shaped) d) m x refl (simp registry-frames (free .is-issued)) r
+        ∙ ap₂ (λ (b : ℕ) (z : State). put x (slotOf m b (heldItems (newRing x (capacity u)) r m)) z) same (view-reissued-without t r o d h)
         ∙ rw (new-holds (newRing x (capacity u)) r again c (o .stores .first-cursor), slot-in t r x (free .is-issued)))
 
     -- a free slot is not queued
@@ -209,17 +193,14 @@ module _ (t r : List ℕ) (o : StoreInOrder t r) where
     unfolding view
     unqueued = go (count x (queueOf t)) (o .ordered .each-slot x .queued-registered)
       where
-        named : 1 ≤ count x (freeOf t)
-        named = omega (arith, ap (count x) l, first-own x (freeOf (reissue t)))
-
         go : (n : ℕ) → (1 ≤ n → view t r .slotOf x .registered ≡ true) → n ≡ 0
         go zero f = refl
-        go (suc n) f = absurd (clash (f (omega arith)) (o .ordered .each-slot x .free-unregistered named))
+        go (suc n) f = absurd (clash (f (omega arith)) (o .ordered .each-slot x .free-unregistered (freed-in t d h)))
 
     zero-flag : (w : ℕ) → w ≤ 1 → w ≢ 1 → w ≡ 0
     zero-flag w a b = omega arith
 
-    again-stores : laneAt t x .living ≢ 1 → Stores (registerLane t again) r
+    again-stores : laneAt t x .living ≢ 1 → Stores (registerLane t d again) r
     unfolding registerLane
     again-stores dropped =
         let m : Lane = newLane again c in
@@ -228,7 +209,7 @@ module _ (t r : List ℕ) (o : StoreInOrder t r) where
         let dead : laneAt t x .living ≡ 0 = zero-flag _ (f .living-flag) dropped in
         rw taken-again
         (stores-after t r _ r (o .stores) x (free .is-issued) m (queueOf t) (withWord livingCount (livingCount t + 1) (withWord laneCount (laneCount t + 1) (head t)))
-        (step-living-count (step-lane-count (step-put-lane (step-reissued (step-start t r (o .stores) x)) m refl (free .is-issued)) (laneCount t + 1)) (livingCount t + 1))
+        (step-living-count (step-lane-count (step-put-lane (step-reissued (step-start t r (o .stores) x) d) m refl (free .is-issued)) (laneCount t + 1)) (livingCount t + 1))
         (record {
           flags = new-flags again c;
           order = λ e. new-lane-in-order (capacity t) (o .stores .power) again c (o .stores .first-cursor);
@@ -245,50 +226,56 @@ module _ (t r : List ℕ) (o : StoreInOrder t r) where
 
 -- ---- the call
 
-module _ (t r : List ℕ) (o : StoreInOrder t r) (most : ℕ) where
-  -- the slot due has no living older sender
-  none-older : registerVerdict t most ≡ Pass → 0 < freeCount t → laneAt t (lastFreed t) .living ≢ 1
-  unfolding registerVerdict slotVerdict olderVerdict
-  none-older e h z =
-      let n : freeCount t ≢ 0 = λ y. omega arith in
-      let a = and-then-passes (receiverVerdict t) (slotVerdict t most) e in
-      let b = pass-unless (leb most (laneCount t)) _ AtCapacity (a .1) in
-      let d = pass-unless (eqb (laneAt t (lastFreed t) .living) 1) Pass OlderSenderLives (rw (ne-eqb _ _ n) at (b .1)) in
-      eqb-false _ _ (d .0) z
+module _ (t r : List ℕ) (o : StoreInOrder t r) where
+  abbrev n : ℕ
+  n = passedOver t
 
-  registered-alike : registerVerdict t most ≡ Pass → FreeCase t → seen (Registered (dueKey t), registerLane t (dueKey t), r) ≡ (issueSlot (view t r .free) (view t r)) .1
+  -- the answer and the words of a registration that is let pass
+  abbrev made : Words
+  made = (Registered (dueKey t n), registerLane t n (dueKey t n), r)
+
+  made-alike : slotVerdict t n ≡ Pass → PassedCase t r → seen made ≡ (issueSlot (clearSlots (view t r)) (view t r)) .1
   unfolding issueSlot view
-  registered-alike e (none z l) =
-      let below : issued t < slots t = register-room t r o most e .due z in
-      let here : seen (Registered (dueKey t), registerLane t (dueKey t), r) ≡ (issueSlot [] (view t r)) .1 =
-      rw (due-next t r o z l below) (ap (λ (u : State). (Registered (next t r o z l below), u)) (next-view t r o z l below)) in
+  made-alike e (all p l) =
+      let past : freeCount t ≤ n = omega arith in
+      let below : issued t < slots t = register-room t r o n e .due past in
+      let here : seen made ≡ (issueSlot [] (view t r)) .1 =
+      rw (due-next t r o n past below) (ap (λ (u : State). (Registered (next t r o n past below), u)) (next-view t r o n past below)) in
       here ∙ sym (ap (λ (f : List ℕ). (issueSlot f (view t r)) .1) l)
-  registered-alike e (one h l) =
-      let here : seen (Registered (dueKey t), registerLane t (dueKey t), r) ≡ (issueSlot (lastFreed t ∷ freeOf (reissue t)) (view t r)) .1 =
-      rw (due-again t r o h l)
-      (ap₂ (λ (g : ℕ) (u : State). (Registered (record { slot = lastFreed t; generation = g + 1 }), u)) (sym (seen-generation t r o h l)) (again-view t r o h l)) in
+  made-alike e (some h dropped f l) =
+      let here : seen made ≡ (issueSlot (freedAt t n ∷ f) (view t r)) .1 =
+      rw (due-again t r o n h)
+      (ap₂ (λ (g : ℕ) (u : State). (Registered (record { slot = freedAt t n; generation = g + 1 }), u)) (sym (seen-generation t r o n h)) (again-view t r o n h)) in
       here ∙ sym (ap (λ (f : List ℕ). (issueSlot f (view t r)) .1) l)
 
-  registered-stores : registerVerdict t most ≡ Pass → FreeCase t → Stores (registerLane t (dueKey t)) r
-  registered-stores e (none z l) =
-      let below : issued t < slots t = register-room t r o most e .due z in
-      rw (due-next t r o z l below) (next-stores t r o z l below)
-  registered-stores e (one h l) = rw (due-again t r o h l) (again-stores t r o h l (none-older e h))
+  made-stores : slotVerdict t n ≡ Pass → PassedCase t r → Stores (registerLane t n (dueKey t n)) r
+  made-stores e (all p l) =
+      let past : freeCount t ≤ n = omega arith in
+      let below : issued t < slots t = register-room t r o n e .due past in
+      rw (due-next t r o n past below) (next-stores t r o n past below)
+  made-stores e (some h dropped f l) = rw (due-again t r o n h) (again-stores t r o n h dropped)
 
-  -- registering a sender does what the rules say, and answers as they do
-  pub register-sender-alike : seen (registerSender t r most) ≡ (rules-sender.registerSender (view t r) most) .1
-  unfolding registerSender rules-sender.registerSender
-  register-sender-alike =
-      refused-alike (registerVerdict t most) (tests t r o most) t r (Registered (dueKey t), registerLane t (dueKey t), r) (issueSlot (view t r .free) (view t r))
-      (register-verdict t r o most) (λ e. registered-alike e (free-case t (o .stores .shaped)))
+  slot-alike : seen (registerSlot t r n) ≡ (unless (slotTests t r o) (view t r) (issueSlot (clearSlots (view t r)) (view t r))) .1
+  unfolding registerSlot
+  slot-alike =
+      refused-alike (slotVerdict t n) (slotTests t r o) t r made (issueSlot (clearSlots (view t r)) (view t r)) (slot-verdict t r o) (λ e. made-alike e (passed-case t r o))
 
-  -- and leaves a store in order
-  pub register-sender-keeps : Stores ((registerSender t r most) .1) ((registerSender t r most) .2)
-  unfolding registerSender
-  register-sender-keeps =
-      unless-refused-case (λ z. Stores (z .1) (z .2)) (registerVerdict t most) t r (Registered (dueKey t), registerLane t (dueKey t), r) (λ why e. o .stores)
-      (λ e. registered-stores e (free-case t (o .stores .shaped)))
+  module _ (most : ℕ) where
+    -- registering a sender does what the rules say, and answers as they do
+    pub register-sender-alike : seen (registerSender t r most) ≡ (rules-sender.registerSender (view t r) most) .1
+    unfolding registerSender rules-sender.registerSender
+    register-sender-alike =
+        let rest = issueSlot (clearSlots (view t r)) (view t r) in
+        refused-alike (lanesVerdict t most) (laneTests t r o most) t r (registerSlot t r n) (unless (slotTests t r o) (view t r) rest) (lanes-verdict t r o most) (λ e. slot-alike)
+        ∙ ap (λ (p : Outcome). p .1) (sym (unless-append (laneTests t r o most) (slotTests t r o) (view t r) rest))
 
-  pub register-sender-in-order : StoreInOrder ((registerSender t r most) .1) ((registerSender t r most) .2)
-  unfolding outcome rules-sender.senderOutcome
-  register-sender-in-order = store-in-order-after t r (Sender (RegisterSender most)) (registerSender t r most) o register-sender-alike register-sender-keeps
+    -- and leaves a store in order
+    pub register-sender-keeps : Stores ((registerSender t r most) .1) ((registerSender t r most) .2)
+    unfolding registerSender registerSlot
+    register-sender-keeps =
+        unless-refused-case (λ z. Stores (z .1) (z .2)) (lanesVerdict t most) t r (registerSlot t r n) (λ why e. o .stores)
+        (λ e. unless-refused-case (λ z. Stores (z .1) (z .2)) (slotVerdict t n) t r made (λ why f. o .stores) (λ f. made-stores f (passed-case t r o)))
+
+    pub register-sender-in-order : StoreInOrder ((registerSender t r most) .1) ((registerSender t r most) .2)
+    unfolding outcome rules-sender.senderOutcome
+    register-sender-in-order = store-in-order-after t r (Sender (RegisterSender most)) (registerSender t r most) o register-sender-alike register-sender-keeps

@@ -2,30 +2,29 @@
 -- Assumes nothing.
 use mathlib.Core.Path.{_≡_, refl, sym, ap, _∙_}
 use mathlib.Core.Bool.{Bool, true, false, cond, not}
-use mathlib.Core.Logic.{_≢_}
 use mathlib.Core.List.{List, _∷_}
 use Prim.Native.Nat.{ℕ, zero, suc, _+_, _≤_, _<_}
 use native.Mathlib.Omega.{arith}
-use borrow.Author.Tests.{eqb-true, eqb-false, eq-eqb, ltb-true, ltb-false, le-leb, lt-leb}
+use borrow.Author.Tests.{ltb-true, ltb-false, le-ltb, le-leb, lt-leb}
 use lib.Dec.{eqb, ltb, leb}
 use lib.ListN.{length}
 use Rattle.model.specs.declared.LaneKey.{LaneKey}
-use Rattle.model.specs.declared.Refusal.{Refusal}
+use Rattle.model.specs.declared.Refusal.the-variants as Refusal
 use Rattle.model.specs.Lists.{if, keep, from}
 use Rattle.model.specs.State.{registeredLanes, livingSenders}
 use Rattle.lane.proofs.OrderLaws.{cond-holds}
 use Rattle.lane.proofs.TableLaws.{frames}
 use Rattle.queues.specs.Header.{Shaped, issued, slots, freeCount, laneCount, livingCount, setIssued}
-use Rattle.queues.specs.Registry.{lastFreed, reissue}
+use Rattle.queues.specs.Registry.{freedAt, reissue}
+use Rattle.queues.proofs.RegistryLaws.{length-reissued}
 use Rattle.ready.specs.Ready.{openPage}
-use Rattle.store.specs.declared.refusal.Verdict.{Verdict}
 use Rattle.store.specs.declared.refusal.Verdict.the-variants.{Pass, Refuse}
 use Rattle.store.specs.View.{view}
 use Rattle.store.specs.Order.{Stores, StoreInOrder}
-use Rattle.store.specs.Refusal.{sendVerdict, receiverVerdict}
-use Rattle.sender.specs.Sender.{SendRoom, unusedVerdict, slotVerdict, registerVerdict, FreeIssued, SlotDue, RegisterRoom, dueKey, takeSlot}
-use Rattle.store.proofs.RefusalLaws.{passes, and-then-passes, send-passes}
-use Rattle.store.proofs.StoreLaws.{below-slots, issued-ring-in, last-freed-slot}
+use Rattle.store.specs.Refusal.{sendVerdict}
+use Rattle.sender.specs.Sender.{SendRoom, FreeIssued, SlotDue, RegisterRoom, slotVerdict, dueKey, takeSlot}
+use Rattle.store.proofs.RefusalLaws.{send-passes}
+use Rattle.store.proofs.StoreLaws.{below-slots, issued-ring-in, freed-slot}
 use Rattle.sender.proofs.IssueLaws.{length-opened-page}
 
 -- ---- tests that passed
@@ -37,10 +36,6 @@ not-below a b = go (ltb a b) refl
     go : (c : Bool) → ltb a b ≡ c → leb b a ≡ not c
     go true e = lt-leb b a (ltb-true a b e)
     go false e = le-leb b a (omega (arith, ltb-false a b e))
-
-pub pass-unless : (b : Bool) (v : Verdict) (why : Refusal) → cond b (Refuse why) v ≡ Pass → (b ≡ false) × (v ≡ Pass)
-pass-unless true v why e = let z : _≡_ {A = ℕ} 0 1 = cc in absurd (omega arith)
-pass-unless false v why e = (refl, e)
 
 -- ---- a send
 
@@ -77,37 +72,41 @@ module _ (t r : List ℕ) (s : Stores t r) where
 
 module _ (t r : List ℕ) (o : StoreInOrder t r) where
   pub free-issued : FreeIssued t
-  free-issued = record { freed-issued = λ h. last-freed-slot t r o h .is-issued; freed-generation = λ h. last-freed-slot t r o h .generation }
+  free-issued = record { freed-issued = λ d h. freed-slot t r o d h .is-issued; freed-generation = λ d h. freed-slot t r o d h .generation }
 
-  pub register-room : (most : ℕ) → registerVerdict t most ≡ Pass → RegisterRoom t
-  unfolding registerVerdict slotVerdict unusedVerdict
-  register-room most e =
-      let a = and-then-passes (receiverVerdict t) (slotVerdict t most) e in
-      let b = pass-unless (leb most (laneCount t)) _ _ (a .1) in
+  pub register-room : (d : ℕ) → slotVerdict t d ≡ Pass → RegisterRoom t d
+  unfolding slotVerdict
+  register-room d e =
       record {
         shaped = o .stores .shaped;
-        due = λ z. ltb-true _ _ (passes (ltb (issued t) (slots t)) _ _ (rw (eq-eqb _ _ z) at (b .1)) .0);
+        due = λ h. unused (ltb (issued t) (slots t)) refl (rw (le-ltb d (freeCount t) h) at e);
         lanes-most = lanes-most t r (o .stores);
         living-most = living-most t r (o .stores);
       }
-
-pub some : (n : ℕ) → n ≢ 0 → 0 < n
-some n h = omega arith
+    where
+      unused : (b : Bool) → ltb (issued t) (slots t) ≡ b
+          → cond b Pass (cond (eqb (freeCount t) 0) (Refuse Refusal.NoFreeSlot) (Refuse Refusal.OlderSenderLives)) ≡ Pass → issued t < slots t
+      unused true g f = ltb-true _ _ g
+      unused false g f = absurd (neither (eqb (freeCount t) 0) f)
+        where
+          neither : (c : Bool) → cond c (Refuse Refusal.NoFreeSlot) (Refuse Refusal.OlderSenderLives) ≡ Pass → ⊥
+          neither true z = let x : _≡_ {A = ℕ} 0 1 = cc in omega arith
+          neither false z = let x : _≡_ {A = ℕ} 0 1 = cc in omega arith
 
 -- the slot that is due
-pub due-in : (t : List ℕ) → Shaped t → FreeIssued t → SlotDue t → dueKey t .slot < slots t
+pub due-in : (t : List ℕ) (d : ℕ) → Shaped t → FreeIssued t → SlotDue t d → dueKey t d .slot < slots t
 unfolding dueKey
-due-in t s f d = go (eqb (freeCount t) 0) refl _ _
+due-in t d s f due = go (ltb d (freeCount t)) refl _ _
   where
-    go : (b : Bool) → eqb (freeCount t) 0 ≡ b → (g h : ℕ)
-        → (cond {A = LaneKey} b (record { slot = issued t; generation = g }) (record { slot = lastFreed t; generation = h })) .slot < slots t
-    go true e g h = d (eqb-true _ _ e)
-    go false e g h = omega (arith, f .freed-issued (some (freeCount t) (eqb-false _ _ e)), s .issued-most)
+    go : (b : Bool) → ltb d (freeCount t) ≡ b → (g h : ℕ)
+        → (cond {A = LaneKey} b (record { slot = freedAt t d; generation = g }) (record { slot = issued t; generation = h })) .slot < slots t
+    go true e g h = omega (arith, f .freed-issued d (ltb-true _ _ e), s .issued-most)
+    go false e g h = due (omega (arith, ltb-false d (freeCount t) e))
 
 -- ---- lengths
 
-pub length-taken : (t : List ℕ) → length (takeSlot t) ≡ length t
-unfolding takeSlot reissue
-length-taken t =
-    cond-holds (λ u. length u ≡ length t) (eqb (freeCount t) 0) (setIssued (openPage t (issued t)) (issued t + 1)) (reissue t)
-    (λ e. simp (frames, length-opened-page)) (λ e. simp frames)
+pub length-taken : (t : List ℕ) (d : ℕ) → length (takeSlot t d) ≡ length t
+unfolding takeSlot
+length-taken t d =
+    cond-holds (λ u. length u ≡ length t) (ltb d (freeCount t)) (reissue t d) (setIssued (openPage t (issued t)) (issued t + 1))
+    (λ e. length-reissued t d) (λ e. simp (frames, length-opened-page))

@@ -1,10 +1,10 @@
 -- The sender calls, as words.
 -- Assumes nothing.
 use mathlib.Core.Bool.{Bool, true, false, cond}
-use mathlib.Core.List.{List}
+use mathlib.Core.List.{List, [], _∷_}
 use mathlib.Core.Path.{_≡_}
 use mathlib.Core.Logic.{_≢_}
-use Prim.Native.Nat.{ℕ, _+_, _-_, _≤_, _<_}
+use Prim.Native.Nat.{ℕ, suc, _+_, _-_, _≤_, _<_}
 use lib.Dec.{eqb, leb, ltb}
 use Rattle.model.specs.declared.LaneKey.{LaneKey}
 use Rattle.model.specs.declared.Refusal.the-variants as Refusal
@@ -19,7 +19,7 @@ use Rattle.lane.specs.Lane.{withFlags, newLane, pushAndFlushItem}
 use Rattle.yring.specs.Ring.{Within, newRing}
 use Rattle.lane.specs.Table.{laneAt, putLane}
 use Rattle.queues.specs.Header.{setIssued, setLaneCount, setLivingCount, Shaped, issued, freeCount, slots, alive, capacity, firstCursor, firstGeneration, laneCount, livingCount}
-use Rattle.queues.specs.Registry.{lastFreed, reissue}
+use Rattle.queues.specs.Registry.{freeOf, freedAt, reissue}
 use Rattle.ready.specs.Ready.{openPage}
 use Rattle.store.specs.declared.refusal.Verdict.{Verdict}
 use Rattle.store.specs.declared.refusal.Verdict.the-variants.{Pass, Refuse}
@@ -67,57 +67,67 @@ dropLane t l = setLivingCount (markIfIdle (putLane t (withSender 1 0 l)) l) (liv
 unfoldable pub dropSender : List ℕ → List ℕ → LaneKey → Words
 dropSender t r k = unlessRefused (senderVerdict t k) t r (Done, dropLane t (laneAt t (k .slot)), r)
 
--- "free list empty and slot S - 1 issued"
-unfoldable pub unusedVerdict : ℕ → ℕ → Verdict
-unusedVerdict issued slots = cond (ltb issued slots) Pass (Refuse Refusal.NoFreeSlot)
+-- Document 02, N4: how many slots at the beginning of a list have a living older sender
+unfoldable pub olderAhead : List ℕ → List ℕ → ℕ
+olderAhead t [] = 0
+olderAhead t (x ∷ f) = cond (eqb (laneAt t x .living) 1) (suc (olderAhead t f)) 0
 
--- "the slot due still has a living older sender"
-unfoldable pub olderVerdict : Lane → Verdict
-olderVerdict l = cond (eqb (l .living) 1) (Refuse Refusal.OlderSenderLives) Pass
+-- how many slots of the free list a registration passes over: below these is "the first slot without a living older sender", if there is one
+abbrev pub passedOver : List ℕ → ℕ
+passedOver t = olderAhead t (freeOf t)
 
--- "registered lanes are as many as the most-lanes number, or more"
-unfoldable pub slotVerdict : List ℕ → ℕ → Verdict
-slotVerdict t most =
-    cond (leb most (laneCount t)) (Refuse Refusal.AtCapacity)
-    (cond (eqb (freeCount t) 0) (unusedVerdict (issued t) (slots t)) (olderVerdict (laneAt t (lastFreed t))))
-
--- the slot freed last is an issued one, and had a generation below the last
+-- the free slots are issued ones, and had generations below the last
 pub record FreeIssued (t : List ℕ) : Type 0 where
-  pub freed-issued : 0 < freeCount t → lastFreed t < issued t
-  pub freed-generation : 0 < freeCount t → laneAt t (lastFreed t) .key .generation ≢ 18446744073709551615
+  pub freed-issued : (d : ℕ) → d < freeCount t → freedAt t d < issued t
+  pub freed-generation : (d : ℕ) → d < freeCount t → laneAt t (freedAt t d) .key .generation ≢ 18446744073709551615
 
--- there is a slot to issue
-abbrev pub SlotDue : List ℕ → Type 0
-SlotDue t = freeCount t ≡ 0 → issued t < slots t
+-- there is a slot to issue, where d slots are passed over
+abbrev pub SlotDue : List ℕ → ℕ → Type 0
+SlotDue t d = freeCount t ≤ d → issued t < slots t
 
 -- and room for one more in the counts
-pub record RegisterRoom (t : List ℕ) : Type 0 where
+pub record RegisterRoom (t : List ℕ) (d : ℕ) : Type 0 where
   pub shaped : Shaped t
-  pub due : SlotDue t
+  pub due : SlotDue t d
   pub lanes-most : laneCount t ≤ slots t
   pub living-most : livingCount t ≤ slots t
 
--- the key that is due: "the one freed last is issued first, with generation + 1; else the next unused"
-unfoldable pub dueKey : List ℕ → LaneKey
-dueKey t =
-    cond (eqb (freeCount t) 0)
+-- "registered lanes are as many as the most-lanes number, or more"
+unfoldable pub capacityVerdict : ℕ → ℕ → Verdict
+capacityVerdict lanes most = cond (leb most lanes) (Refuse Refusal.AtCapacity) Pass
+
+-- refusals 6 and 7
+unfoldable pub lanesVerdict : List ℕ → ℕ → Verdict
+lanesVerdict t most = andThen (receiverVerdict t) (capacityVerdict (laneCount t) most)
+
+-- where d slots are passed over and these are all, and slot S - 1 has been issued: 8 if the list is empty, else 9
+unfoldable pub slotVerdict : List ℕ → ℕ → Verdict
+slotVerdict t d =
+    cond (ltb d (freeCount t)) Pass
+    (cond (ltb (issued t) (slots t)) Pass
+    (cond (eqb (freeCount t) 0) (Refuse Refusal.NoFreeSlot) (Refuse Refusal.OlderSenderLives)))
+
+-- the key that is due where d slots are passed over: of the slot below them, "with generation + 1"; else of "the next unused slot"
+unfoldable pub dueKey : List ℕ → ℕ → LaneKey
+dueKey t d =
+    cond (ltb d (freeCount t))
+    (record { slot = freedAt t d; generation = laneAt t (freedAt t d) .key .generation + 1 })
     (record { slot = issued t; generation = firstGeneration t })
-    (record { slot = lastFreed t; generation = laneAt t (lastFreed t) .key .generation + 1 })
 
--- its slot is taken off the free list, or is one more issued, with a page and group of its own where it is their first
-unfoldable pub takeSlot : List ℕ → List ℕ
-takeSlot t = cond (eqb (freeCount t) 0) (setIssued (openPage t (issued t)) (issued t + 1)) (reissue t)
+-- its slot is taken out of the free list, or is one more issued, with a page and group of its own where it is their first
+unfoldable pub takeSlot : List ℕ → ℕ → List ℕ
+takeSlot t d = cond (ltb d (freeCount t)) (reissue t d) (setIssued (openPage t (issued t)) (issued t + 1))
 
-unfoldable pub registerLane : List ℕ → LaneKey → List ℕ
-registerLane t k =
-    setLivingCount (setLaneCount (putLane (takeSlot t) (newLane k (firstCursor t))) (laneCount t + 1)) (livingCount t + 1)
+unfoldable pub registerLane : List ℕ → ℕ → LaneKey → List ℕ
+registerLane t d k =
+    setLivingCount (setLaneCount (putLane (takeSlot t d) (newLane k (firstCursor t))) (laneCount t + 1)) (livingCount t + 1)
 
-unfoldable pub registerVerdict : List ℕ → ℕ → Verdict
-registerVerdict t most = andThen (receiverVerdict t) (slotVerdict t most)
+-- a registration that 6 and 7 let pass
+unfoldable pub registerSlot : List ℕ → List ℕ → ℕ → Words
+registerSlot t r d = unlessRefused (slotVerdict t d) t r (Registered (dueKey t d), registerLane t d (dueKey t d), r)
 
 unfoldable pub registerSender : List ℕ → List ℕ → ℕ → Words
-registerSender t r most =
-    unlessRefused (registerVerdict t most) t r (Registered (dueKey t), registerLane t (dueKey t), r)
+registerSender t r most = unlessRefused (lanesVerdict t most) t r (registerSlot t r (passedOver t))
 
 -- every sender call
 unfoldable pub senderWords : List ℕ → List ℕ → SenderCall → Words

@@ -5,7 +5,7 @@ ghost use lib.ListN.{length};
 ghost use Rattle.queues.specs.Header.{Shaped, slots, livingCount};
 ghost use Rattle.store.specs.Order.{StoreInOrder};
 ghost use Rattle.store.specs.Signal.{markIfIdle};
-ghost use Rattle.sender.specs.Sender.{withSender, takeSignaled, SendRoom, pushed, sendSignaled, sendUnsignaled, trySend, trySendUnsignaled, dropLane, dropSender, unusedVerdict, olderVerdict, slotVerdict, registerVerdict, FreeIssued, SlotDue, RegisterRoom, dueKey, takeSlot, registerLane, registerSender};
+ghost use Rattle.sender.specs.Sender.{withSender, takeSignaled, SendRoom, pushed, sendSignaled, sendUnsignaled, trySend, trySendUnsignaled, dropLane, dropSender, FreeIssued, SlotDue, RegisterRoom, passedOver, capacityVerdict, lanesVerdict, slotVerdict, dueKey, takeSlot, registerLane, registerSlot, registerSender};
 use lane::lane::Lane;
 use lane::producer::Sent;
 use model::Answer;
@@ -130,113 +130,140 @@ pub fn drop_sender(t: &mut [u64], r: &[u64], key: LaneKey) -> Answer
     }
 }
 
-// Refusals 7, 8 and 9 of a registration.
-fn slot_verdict(t: &[u64], most: u64) -> Verdict
+// How many slots of the free list have a living older sender, from the one freed last down to the first
+// that has none.
+fn passed_over(t: &[u64]) -> u64
     requires { ⌜ Shaped (now t) × FreeIssued (now t) ⌝ }
-    ensures { λ r. ⌜ r ≡ slotVerdict (now (t .entry)) most ⌝ }
+    ensures { λ r. ⌜ r ≡ passedOver (now (t .entry)) ⌝ }
 {
-    if t[Header::LANES] >= most {
+    let n = t[Header::FREE];
+    let mut d = 0;
+    while d < n {
+        let l = Lane::load(t, registry::freed_at(t, d));
+        if l.living != 1 {
+            return d;
+        }
+        d += 1;
+    }
+    d
+}
+
+// Refusals 6 and 7 of a registration.
+fn lanes_verdict(t: &[u64], most: u64) -> Verdict
+    requires { ⌜ Shaped (now t) ⌝ }
+    ensures { λ r. ⌜ r ≡ lanesVerdict (now (t .entry)) most ⌝ }
+{
+    match refusal::receiver_verdict(t) {
+        Verdict::Refuse { why } => Verdict::Refuse { why: why },
+        Verdict::Pass => capacity_verdict(t[Header::LANES], most),
+    }
+}
+
+fn capacity_verdict(lanes: u64, most: u64) -> Verdict
+    ensures { λ r. ⌜ r ≡ capacityVerdict lanes most ⌝ }
+{
+    if lanes >= most {
         return Verdict::Refuse {
             why: Refusal::AtCapacity,
         };
     }
+    Verdict::Pass
+}
+
+// Refusals 8 and 9 of a registration that passes over `d` free slots.
+fn slot_verdict(t: &[u64], d: u64) -> Verdict
+    requires { ⌜ Shaped (now t) ⌝ }
+    ensures { λ r. ⌜ r ≡ slotVerdict (now (t .entry)) d ⌝ }
+{
+    if d < t[Header::FREE] {
+        return Verdict::Pass;
+    }
+    if t[Header::ISSUED] < t[Header::SLOTS] {
+        return Verdict::Pass;
+    }
     if t[Header::FREE] == 0 {
-        return unused_verdict(t[Header::ISSUED], t[Header::SLOTS]);
-    }
-    older_verdict(Lane::load(t, registry::last_freed(t)))
-}
-
-// Refusals 6 to 9 of a registration.
-fn register_verdict(t: &[u64], most: u64) -> Verdict
-    requires { ⌜ Shaped (now t) × FreeIssued (now t) ⌝ }
-    ensures { λ r. ⌜ r ≡ registerVerdict (now (t .entry)) most ⌝ }
-{
-    match refusal::receiver_verdict(t) {
-        Verdict::Refuse { why } => Verdict::Refuse { why: why },
-        Verdict::Pass => slot_verdict(t, most),
-    }
-}
-
-fn unused_verdict(issued: u64, slots: u64) -> Verdict
-    ensures { λ r. ⌜ r ≡ unusedVerdict issued slots ⌝ }
-{
-    if issued >= slots {
         return Verdict::Refuse {
             why: Refusal::NoFreeSlot,
         };
     }
-    Verdict::Pass
-}
-
-fn older_verdict(l: Lane) -> Verdict
-    ensures { λ r. ⌜ r ≡ olderVerdict l ⌝ }
-{
-    if l.living == 1 {
-        return Verdict::Refuse {
-            why: Refusal::OlderSenderLives,
-        };
+    Verdict::Refuse {
+        why: Refusal::OlderSenderLives,
     }
-    Verdict::Pass
 }
 
-// The key of the slot freed last, with generation + 1; else of the next unused slot.
-fn due_key(t: &[u64]) -> LaneKey
+// The key of the free slot below those passed over, with generation + 1; else of the next unused slot.
+fn due_key(t: &[u64], d: u64) -> LaneKey
     requires { ⌜ Shaped (now t) × FreeIssued (now t) ⌝ }
-    ensures { λ r. ⌜ r ≡ dueKey (now (t .entry)) ⌝ }
+    ensures { λ r. ⌜ r ≡ dueKey (now (t .entry)) d ⌝ }
 {
-    if t[Header::FREE] == 0 {
+    if d < t[Header::FREE] {
+        let slot = registry::freed_at(t, d);
+        let l = Lane::load(t, slot);
         return LaneKey {
-            slot: t[Header::ISSUED],
-            generation: t[Header::GENERATION],
+            slot: slot,
+            generation: l.key.generation + 1,
         };
     }
-    let slot = registry::last_freed(t);
-    let l = Lane::load(t, slot);
     LaneKey {
-        slot: slot,
-        generation: l.key.generation + 1,
+        slot: t[Header::ISSUED],
+        generation: t[Header::GENERATION],
     }
 }
 
 // Takes the slot that is due.
-fn take_slot(t: &mut [u64])
-    requires { ⌜ Shaped (now t) × SlotDue (now t) ⌝ }
-    ensures { λ _. ⌜ now (t .exit) ≡ takeSlot (now (t .entry)) ⌝ }
+fn take_slot(t: &mut [u64], d: u64)
+    requires { ⌜ Shaped (now t) × SlotDue (now t) d ⌝ }
+    ensures { λ _. ⌜ now (t .exit) ≡ takeSlot (now (t .entry)) d ⌝ }
 {
-    if t[Header::FREE] == 0 {
-        let slot = t[Header::ISSUED];
-        marks::open_page(t, slot as usize);
-        t[Header::ISSUED] = slot + 1;
+    if d < t[Header::FREE] {
+        registry::reissue(t, d);
         return;
     }
-    registry::reissue(t);
+    let slot = t[Header::ISSUED];
+    marks::open_page(t, slot as usize);
+    t[Header::ISSUED] = slot + 1;
 }
 
 // The lane of the slot that is due, registered.
-fn register_lane(t: &mut [u64], key: LaneKey)
-    requires { ⌜ RegisterRoom (now t) × (key .slot < slots (now t)) ⌝ }
-    ensures { λ _. ⌜ now (t .exit) ≡ registerLane (now (t .entry)) key ⌝ }
+fn register_lane(t: &mut [u64], d: u64, key: LaneKey)
+    requires { ⌜ RegisterRoom (now t) d × (key .slot < slots (now t)) ⌝ }
+    ensures { λ _. ⌜ now (t .exit) ≡ registerLane (now (t .entry)) d key ⌝ }
 {
     let lanes = t[Header::LANES] + 1;
     let living = t[Header::LIVING] + 1;
     let l = Lane::new(key, t[Header::CURSOR]);
-    take_slot(t);
+    take_slot(t, d);
     l.store(t);
     t[Header::LANES] = lanes;
     t[Header::LIVING] = living;
 }
 
-// Registers a sender: the slot freed last, or else the next unused one, gets a new lane.
+// A registration that refusals 6 and 7 let pass, over `d` free slots.
+fn register_slot(t: &mut [u64], r: &[u64], d: u64) -> Answer
+    requires { ⌜ StoreInOrder (now t) (now r) ⌝ }
+    ensures { λ a. ⌜ (a, now (t .exit), now (r .entry)) ≡ registerSlot (now (t .entry)) (now (r .entry)) d ⌝ }
+{
+    match slot_verdict(t, d) {
+        Verdict::Refuse { why } => Answer::Refused { why: why },
+        Verdict::Pass => {
+            let key = due_key(t, d);
+            register_lane(t, d, key);
+            Answer::Registered { key: key }
+        }
+    }
+}
+
+// Registers a sender: the slot freed last of those without a living older sender, or else the next unused
+// one, gets a new lane.
 pub fn register_sender(t: &mut [u64], r: &[u64], most: u64) -> Answer
     requires { ⌜ StoreInOrder (now t) (now r) ⌝ }
     ensures { λ a. ⌜ (a, now (t .exit), now (r .entry)) ≡ registerSender (now (t .entry)) (now (r .entry)) most ⌝ }
 {
-    match register_verdict(t, most) {
+    match lanes_verdict(t, most) {
         Verdict::Refuse { why } => Answer::Refused { why: why },
         Verdict::Pass => {
-            let key = due_key(t);
-            register_lane(t, key);
-            Answer::Registered { key: key }
+            let d = passed_over(t);
+            register_slot(t, r, d)
         }
     }
 }

@@ -252,17 +252,17 @@ module _ {t u : List ℕ} {x : ℕ} {l : Lane} {w : List ℕ} {h : ℕ → ℕ} 
       })
       (shaped-freed u (k .shaped) z room) (simp registry-frames (k .queue))
 
-  -- the slot freed last issued again
-  pub step-reissued : Step t (reissue u) x l w h
-  step-reissued =
+  -- the slot d places down the free list issued again
+  pub step-reissued : (d : ℕ) → Step t (reissue u d) x l w h
+  step-reissued d =
       step-same
       (record {
-        heads = λ j i. head-reissued u j (apart i (placeOf freeCount) refl);
+        heads = λ j i. head-reissued u d j (i .in-header) (apart i (placeOf freeCount) refl);
         lanes = λ y. simp registry-frames;
         pages = λ y. simp registry-frames;
         groups = λ y. simp registry-frames;
       })
-      (shaped-reissued u (k .shaped)) (simp registry-frames (k .queue))
+      (shaped-reissued u (k .shaped) d) (simp registry-frames (k .queue))
 
   -- a header word stored that such a run may change, or one that has the value already
   module _ (word : List ℕ → ℕ) (v : ℕ) (may : moved (placeOf word) ≡ true) where

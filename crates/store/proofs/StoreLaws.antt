@@ -9,16 +9,17 @@ use native.Mathlib.Nat.{mul-le-mul-right}
 use native.Mathlib.Omega.{arith}
 use borrow.Author.Tests.{eq-eqb, ne-eqb, eqb-true, eqb-false}
 use lib.Dec.{ltb}
-use lib.ListN.{length, take}
+use lib.ListN.{length, take, drop}
 use Rattle.model.specs.Lists as rules
 use Rattle.model.specs.Lists.{if, count}
 use Rattle.model.specs.State.{Slot, State, vacant, releaseBatch, registeredLanes, livingSenders}
+use Rattle.model.specs.Changes.{withFree}
 use Rattle.model.specs.Order.{Ordered, SlotOrdered, RingsFit, LaneFits}
 use Rattle.model.specs.Rules.{outcome}
 use Rattle.model.specs.declared.Call.{Call}
 use Rattle.model.specs.declared.Answer.{Answer}
 use Rattle.demands.proofs.Counting.{equal, other, same?, no as clash}
-use Rattle.demands.proofs.OrderKept.{first-own}
+use Rattle.demands.proofs.ClearSlots.{without-once}
 use Rattle.demands.proofs.InOrder.{call-keeps-order}
 use Rattle.lane.specs.declared.lane.Lane.{Lane}
 use Rattle.yring.specs.declared.ring.Ring.{Ring}
@@ -32,14 +33,14 @@ use Rattle.lane.proofs.CursorOrder.{held-adds, span-adds}
 use Rattle.yring.proofs.RingLaws.{length-items}
 use Rattle.queues.specs.Header.{issued, slots, budget, capacity, fastSlot, laneCount, livingCount, freeCount, queueCount}
 use Rattle.queues.specs.Queue.{QueueNames, queueOf}
-use Rattle.queues.specs.Registry.{freeOf, lastFreed, reissue}
+use Rattle.queues.specs.Registry.{freeOf, freedAt, reissue}
 use Rattle.queues.proofs.Pigeonhole.{pigeonhole-less}
 use Rattle.queues.proofs.QueueLaws.{queue-has-room}
-use Rattle.queues.proofs.RegistryLaws.{length-free, free-reissued}
+use Rattle.queues.proofs.RegistryLaws.{length-free, free-parts, freed-in, free-reissued}
 use Rattle.store.specs.View.{flag, slotAt, view}
 use Rattle.store.specs.Order.{Flags, Fast, Stores, StoreInOrder}
 use Rattle.store.specs.Words.{Words}
-use Rattle.store.proofs.ViewLaws.{slot-in, row-in}
+use Rattle.store.proofs.ViewLaws.{slot-in, row-in, view-reissued}
 use Rattle.store.proofs.HeaderWords.{placeOf}
 use Rattle.store.proofs.CountLaws.{one, SlotSum, lanes-sum, living-sum, number-some, number-but}
 use Rattle.store.proofs.StepLaws.{Step, issued-kept, slots-kept, capacity-kept, alive-kept, cursor-kept, fast-now, budget-now, lanes-now, living-now}
@@ -126,10 +127,22 @@ free-slot t r o x c =
       generation = λ e. f .free-generation c (rw (slot-in t r x h) e);
     }
 
-pub last-freed-slot : (t r : List ℕ) → StoreInOrder t r → 0 < freeCount t → FreeSlot t (lastFreed t)
-last-freed-slot t r o h =
-    free-slot t r o (lastFreed t)
-    (omega (arith, ap (count (lastFreed t)) (free-reissued t (o .stores .shaped) h), first-own (lastFreed t) (freeOf (reissue t))))
+module _ (t r : List ℕ) (o : StoreInOrder t r) (d : ℕ) (h : d < freeCount t) where
+  pub freed-slot : FreeSlot t (freedAt t d)
+  freed-slot = free-slot t r o (freedAt t d) (freed-in t d h)
+
+  -- taken off the list, it is the slot that the rules leave out
+  pub free-reissued-without : freeOf (reissue t d) ≡ rules.without (freedAt t d) (freeOf t)
+  unfolding view
+  free-reissued-without =
+      let x : ℕ = freedAt t d in
+      let parts : freeOf t ≡ take d (freeOf t) ++ (x ∷ drop (suc d) (freeOf t)) = free-parts t d h in
+      free-reissued t (o .stores .shaped) d h
+      ∙ sym (ap (rules.without x) parts ∙ without-once x (take d (freeOf t)) (drop (suc d) (freeOf t)) (rw parts at (o .ordered .each-slot x .free-once)))
+
+  pub view-reissued-without : view (reissue t d) r ≡ withFree (rules.without (freedAt t d) (view t r .free)) (view t r)
+  unfolding view
+  view-reissued-without = view-reissued t r (o .stores .shaped) d free-reissued-without
 
 -- ---- the rules' order of the state after
 

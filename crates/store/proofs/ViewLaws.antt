@@ -29,10 +29,10 @@ use Rattle.lane.proofs.HeldLaws.{held-by-ends, push-and-flush-appends}
 use Rattle.queues.specs.Header.{Shaped, issued, slots, budget, groupCursor, alive, capacity, channel, firstGeneration, freeCount, queueCount, setBudget, setGroupCursor, setAlive, setFastSlot, setLaneCount, setLivingCount}
 use Rattle.queues.specs.Queue as words
 use Rattle.queues.specs.Queue.{queueOf, pushBack, popFront, rotateLeft, remove}
-use Rattle.queues.specs.Registry.{freeOf, free, lastFreed, reissue}
+use Rattle.queues.specs.Registry.{freeOf, free, reissue}
 use Rattle.ready.specs.Ready.{pageBit, mark, queuedLane, enqueue}
 use Rattle.queues.proofs.QueueLaws.{queue-frames, header-in, queue-pushed-back, queue-popped-front, queue-rotated, queue-removed, shaped-putLane}
-use Rattle.queues.proofs.RegistryLaws.{registry-frames, length-free, free-freed, free-reissued}
+use Rattle.queues.proofs.RegistryLaws.{registry-frames, free-freed}
 use Rattle.ready.proofs.MarkLaws.{head-marked, lane-marked, queue-marked, free-marked, own-bit-marked, other-bit-marked}
 use Rattle.store.specs.View.{flag, slotOf, slotAt, view}
 
@@ -349,26 +349,14 @@ module _ (t r : List ℕ) (s : Shaped t) where
   unfolding view
   view-freed x h = view-free t (free t x) r r (slot-freed x) (simp registry-frames) _ (simp registry-frames) (free-freed t s x h)
 
-  slot-reissued : (y : ℕ) → slotAt (reissue t) r y ≡ slotAt t r y
+  slot-reissued : (d y : ℕ) → slotAt (reissue t d) r y ≡ slotAt t r y
   unfolding slotAt
-  slot-reissued y = simp registry-frames
+  slot-reissued d y = simp registry-frames
 
-  -- the slot freed last, issued again
-  pub free-view : 0 < freeCount t → view t r .free ≡ lastFreed t ∷ freeOf (reissue t)
+  -- the slot d places down issued again
+  pub view-reissued : (d : ℕ) {f : List ℕ} → freeOf (reissue t d) ≡ f → view (reissue t d) r ≡ withFree f (view t r)
   unfolding view
-  free-view h = free-reissued t s h
-
-  pub view-reissued : (x : ℕ) (f : List ℕ) → view t r .free ≡ x ∷ f → view (reissue t) r ≡ withFree f (view t r)
-  unfolding view
-  view-reissued x f e =
-      view-free t (reissue t) r r slot-reissued (simp registry-frames) f (simp registry-frames) (ap rest (sym (free-reissued t s some) ∙ e))
-    where
-      some : 0 < freeCount t
-      some = omega (arith, length-free t, ap length e)
-
-      rest : List ℕ → List ℕ
-      rest [] = []
-      rest (y ∷ l) = l
+  view-reissued d {f} e = view-free t (reissue t d) r r (slot-reissued d) (simp registry-frames) f (simp registry-frames) e
 
 -- ---- header words
 

@@ -8,7 +8,7 @@ use native.Mathlib.Numerals.{add-one}
 use native.Mathlib.Decide.{decLt}
 use native.Mathlib.Omega.{arith}
 use lib.ListN.{length, getD, set, take, drop, length-set, length-append, take-append-drop}
-use lib.Seq.{take-at, take-suc, drop-append-add, drop-drop, drop-cons, set-at, append-snoc, length-take-le, length-sets, sets-eq, getD-set-same, getD-set-other}
+use lib.Seq.{take-at, drop-at, take-suc, drop-append-add, drop-drop, drop-cons, set-at, append-snoc, length-take-le, length-sets, sets-eq, getD-set-same, getD-set-other}
 use Rattle.yring.specs.Lists.{tab, written, scatter}
 
 -- ---- a list by its items
@@ -47,6 +47,18 @@ tab-add (suc m) n f =
     ap (λ (k : ℕ). tab k f) (suc-add m n)
     ∙ ap (λ (l : List ℕ). f zero ∷ l) (tab-add m n (λ i. f (suc i)))
     ∙ ap (λ (l : List ℕ). f zero ∷ (tab m (λ i. f (suc i)) ++ l)) (tab-ext n _ _ (λ i l. ap f (sym (suc-add m i))))
+
+-- the first m items
+pub take-tab : (m n : ℕ) (f : ℕ → ℕ) → m ≤ n → take m (tab n f) ≡ tab m f
+take-tab m n f h =
+    let e : m + (n - m) ≡ n = omega arith in
+    (rw e at (ap (λ (l : List ℕ). take m l) (tab-add m (n - m) f))) ∙ take-at (tab m f) (tab (n - m) (λ i. f (m + i))) m (length-tab m f)
+
+-- and those after them
+pub drop-tab : (m n : ℕ) (f : ℕ → ℕ) → m ≤ n → drop m (tab n f) ≡ tab (n - m) (λ i. f (m + i))
+drop-tab m n f h =
+    let e : m + (n - m) ≡ n = omega arith in
+    (rw e at (ap (λ (l : List ℕ). drop m l) (tab-add m (n - m) f))) ∙ drop-at (tab m f) (tab (n - m) (λ i. f (m + i))) m (length-tab m f)
 
 -- the first item, and the rest
 pub tab-pop : (n : ℕ) (f g : ℕ → ℕ) (x : ℕ) → 0 < n → f 0 ≡ x → ((i : ℕ) → i < n - 1 → f (suc i) ≡ g i) → tab n f ≡ x ∷ tab (n - 1) g

@@ -3,38 +3,33 @@
 use mathlib.Core.Path.{_∙_, sym}
 use Rattle.store.specs.Words.{unlessRefused}
 use Rattle.sender.specs.Sender.{registerSender}
-use Rattle.sender.proofs.SenderBounds.{free-issued, register-room, due-in}
+use Rattle.sender.proofs.SenderBounds.{free-issued}
 use borrow.Author.Needs.{needs}
 use Rattle.sender.proofs.sender.register_sender.Statement.{statement}
 use Rattle.sender.proofs.sender.register_sender.Tie as tie
 
-register-verdict-requires : tie.Need-register-verdict-requires
-register-verdict-requires c κs = (c .before .before .before .pre .stores .shaped, free-issued _ _ (c .before .before .before .pre))
+lanes-verdict-requires : tie.Need-lanes-verdict-requires
+lanes-verdict-requires c κs = c .before .before .before .pre .stores .shaped
 
-due-key-requires : tie.Need-due-key-requires
-due-key-requires c κs = (c .before .before .before .before .before .before .before .pre .stores .shaped, free-issued _ _ (c .before .before .before .before .before .before .before .pre))
-
-register-lane-requires : tie.Need-register-lane-requires
-register-lane-requires c κs =
-    let room = register-room _ _ (c .before .before .before .before .before .before .before .before .before .pre) _ (sym (c .before .before .before .before .before .register-verdict .ensures) ∙ c .before .before .before .enum-told .given .1) in
-    (room, rw (c .before .due-key .ensures) (due-in _ (c .before .before .before .before .before .before .before .before .before .pre .stores .shaped) (free-issued _ _ (c .before .before .before .before .before .before .before .before .before .pre)) (room .due)))
+passed-over-requires : tie.Need-passed-over-requires
+passed-over-requires c κs = (c .before .before .before .before .before .before .before .pre .stores .shaped, free-issued _ _ (c .before .before .before .before .before .before .before .pre))
 
 returns : tie.Need-returns
 unfolding registerSender unlessRefused
-returns c = rw (sym (c .before .before .before .register-verdict .ensures) ∙ c .before .why .given .1)
+returns c = rw (sym (c .before .before .before .lanes-verdict .ensures) ∙ c .before .why .given .1)
 
 returns-2 : tie.Need-returns-2
 unfolding registerSender unlessRefused
-returns-2 c = rw (sym (c .before .before .before .before .before .before .before .before .register-verdict .ensures) ∙ c .before .before .before .before .before .before .enum-told .given .1, c .before .before .register-lane .ensures, c .before .before .before .before .due-key .ensures)
+returns-2 c = rw (sym (c .before .before .before .before .before .before .before .before .lanes-verdict .ensures) ∙ c .before .before .before .before .before .before .enum-told .given .1, ← c .before .before .before .before .passed-over .ensures) (c .before .before .register-slot .ensures)
 
 pub register-sender-spec : {M : Type 1} → statement M
 register-sender-spec =
     tie.close
     (tie.spec
-    register-verdict-requires
+    lanes-verdict-requires
     (λ c. search needs) (λ c. search needs)
-    due-key-requires
-    register-lane-requires
+    passed-over-requires
+    (λ c κs. search needs)
     (λ c. search needs)
     returns
     (λ c. search needs)
