@@ -2,8 +2,9 @@
 //! the published files, unchanged; what they lack is in stubs/ and yring/. tests/build puts the tree together.
 //!
 //! A line `outside` is printed where the original has no answer, and for every later record up to the next opening:
-//! refusals 8 and 9, the subtraction from a zero budget, an opening whose first cursor, generation or number is not 0, and a
-//! receive before the first registration. With `--go-on` refusals 8 and 9 are `outside` alone: that call is not made, and the run goes on.
+//! refusals 8 and 9, the subtraction from a zero budget, an opening whose first cursor, generation or number is not 0, a
+//! receive before the first registration, and a registration that passes over a slot: the original takes the slot freed last, whether its older sender
+//! lives or not. With `--go-on` refusals 8 and 9 are `outside` alone: that call is not made, and the run goes on.
 
 #[allow(dead_code)]
 mod records;
@@ -110,10 +111,15 @@ impl Channel {
             None => {
                 let most = most as usize;
                 if self.shared.would_register(most) {
-                    let (slot, freed) = self.shared.due_slot();
-                    let older = freed && self.senders[slot].is_some();
-                    if older || !freed && slot >= self.slots {
-                        return PlusRefusal;
+                    let (free, unused) = self.shared.due_slots();
+                    let clear = |&slot: &usize| self.senders[slot].is_none();
+                    let used_up = unused >= self.slots;
+                    match free.last() {
+                        // Refusal 8.
+                        None if used_up => return PlusRefusal,
+                        // Refusal 9, if there is no slot to pass on to.
+                        Some(last) if !clear(last) => return if used_up && !free.iter().any(clear) { PlusRefusal } else { Beyond },
+                        _ => {}
                     }
                 }
                 match self.shared.register(most) {

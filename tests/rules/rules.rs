@@ -1,5 +1,5 @@
 //! Document 01's rules, item by item: no cursors, windows, cached counts or bit words. Written from document 01 and the
-//! definitions of crates/model/specs, for comparison with the original. Quoted sentences are document 01's.
+//! definitions of crates/model/specs, for comparison with the original. Quoted sentences are document 01's, or document 02's where it is named.
 
 use std::collections::{BTreeSet, VecDeque};
 
@@ -163,15 +163,18 @@ impl State {
 
     // Sender calls
 
+    /// "registration goes down the free list, most recently freed first, and takes the first slot without a living older sender; failing that, the next
+    /// unused slot. The slots passed over stay in the list in their order." (document 02, N4)
     fn register(&mut self, most: u64) -> Outcome {
         unless(!self.open, 6)?;
         unless(self.registered_lanes() as u64 >= most, 7)?;
-        let due = self.free.last().copied();
-        unless(due.is_none() && self.slots.len() == self.most_slots, 8)?;
-        unless(due.is_some_and(|x| self.slots[x].living), 9)?;
-        let (x, generation) = match due {
-            Some(x) => {
-                self.free.pop();
+        let clear = self.free.iter().rposition(|&x| !self.slots[x].living);
+        let used_up = clear.is_none() && self.slots.len() == self.most_slots;
+        unless(used_up && self.free.is_empty(), 8)?;
+        unless(used_up, 9)?;
+        let (x, generation) = match clear {
+            Some(at) => {
+                let x = self.free.remove(at);
                 (x, self.slots[x].generation + 1)
             }
             None => {
@@ -270,7 +273,7 @@ impl State {
         }
     }
 
-    /// "the one freed last is issued first"; "A slot retired at generation 2^64 - 1 is not freed."
+    /// The slot is now the one most recently freed, whether its sender lives or not. "A slot retired at generation 2^64 - 1 is not freed."
     fn retire(&mut self, x: usize) {
         self.slots[x].registered = false;
         self.slots[x].paused = false;

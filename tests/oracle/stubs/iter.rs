@@ -78,12 +78,9 @@ impl<T> Shared<T, Deferred> {
         self.receiver_alive.load(Relaxed) && self.registered_lanes.load(Relaxed) < most
     }
 
-    /// The slot that a registration gets next, and whether it is a freed one.
-    pub(crate) fn due_slot(&self) -> (usize, bool) {
+    /// The free slots, the one freed last at the end: the original's registration gets that one. And the next unused slot, which it gets if none is free.
+    pub(crate) fn due_slots(&self) -> (Vec<usize>, usize) {
         let registry = lock(&self.registry);
-        match registry.free.last() {
-            Some(key) => (key.slot, true),
-            None => (registry.next_slot, false),
-        }
+        (registry.free.iter().map(|key| key.slot).collect(), registry.next_slot)
     }
 }
