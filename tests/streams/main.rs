@@ -5,12 +5,15 @@
 //!     streams expected < FILE    the lines that it expects
 //!
 //! A stream is a row of openings, each in a style of its own; the first has style SEED modulo the number of styles. The rules run
-//! along, so that a style can aim at a state; on the way their free places are held to the sends that follow, and their answers to
-//! ids to the opening's record. --slots N makes every opening wide: up to N lanes, for stores that hold them. --deep gives every opening a
+//! along, so that a style can aim at a state; on the way their free places are held to the sends that follow, their answers to
+//! ids to the opening's record, and their registrations to the free list before and after.
+//! --slots N makes every opening wide: up to N lanes, for stores that hold them. --deep gives every opening a
 //! large capacity, up to 65,536, as far as the stores hold it, and so many records that its rings fill.
 //! --shifted gives every opening a first cursor and generation near 2^64, which the original does not have.
 //! --numbered makes shorter openings with numbers of their own, which the original does not have, mostly of the channel before, and among their calls
 //! many by ids and keys of other openings.
+//! With these two registrations pass slots over now and then, in style unplugged all the time. In other streams they do so seldom, as the original is
+//! followed up to there alone, and the opening then soon ends.
 
 mod random;
 #[allow(dead_code)]
@@ -61,6 +64,14 @@ enum Act {
     Drain,
     /// One lane comes, sends a little and goes.
     Churn,
+    /// Lanes closed while their senders live.
+    Unplug,
+    /// Sends by such senders.
+    SendOn,
+    /// Such senders dropped, in any order.
+    LetGo,
+    /// Registrations until one is refused.
+    Crowd,
 }
 
 use Act::*;
@@ -68,7 +79,8 @@ use Act::*;
 struct Style {
     name: &'static str,
     capacities: &'static [u64],
-    slots: (u64, u64),
+    /// Least and most slots; of several such ranges each opening takes one.
+    slots: &'static [(u64, u64)],
     /// Lanes registered at first.
     lanes: u64,
     acts: &'static [(Act, u64)],
@@ -78,7 +90,7 @@ const STYLES: &[Style] = &[
     Style {
         name: "mixed",
         capacities: &[1, 2, 3, 4, 8, 16],
-        slots: (1, 8),
+        slots: &[(1, 8)],
         lanes: 2,
         acts: &[
             (Register, 3), (Send, 20), (Unsignalled, 4), (Fill, 2), (Drop, 2), (Plain, 12), (Fair, 6), (Targeted, 4), (Batch, 4), (Pause, 3),
@@ -88,7 +100,7 @@ const STYLES: &[Style] = &[
     Style {
         name: "churn",
         capacities: &[1, 2, 4, 5, 64],
-        slots: (4, 24),
+        slots: &[(4, 24)],
         lanes: 4,
         acts: &[
             (Register, 10), (Send, 16), (Unsignalled, 2), (Drop, 8), (Plain, 10), (Fair, 5), (Targeted, 3), (Batch, 3), (Pause, 8), (Resume, 5),
@@ -98,7 +110,7 @@ const STYLES: &[Style] = &[
     Style {
         name: "limits",
         capacities: &[64, 128, 256, 100, 64, 128, 256, 512, 1_000],
-        slots: (1, 5),
+        slots: &[(1, 5)],
         lanes: 2,
         acts: &[
             (Register, 3), (Send, 12), (Unsignalled, 2), (Fill, 5), (Drop, 1), (Plain, 8), (Fair, 5), (Targeted, 8), (Batch, 10), (Pause, 8),
@@ -108,7 +120,7 @@ const STYLES: &[Style] = &[
     Style {
         name: "lone",
         capacities: &[1, 4, 64, 128, 256, 512, 2_048],
-        slots: (1, 2),
+        slots: &[(1, 2)],
         lanes: 1,
         acts: &[
             (Send, 14), (Unsignalled, 1), (Fill, 8), (Plain, 14), (Fair, 18), (Targeted, 3), (Batch, 3), (Pause, 1), (Resume, 2), (Release, 1),
@@ -118,7 +130,7 @@ const STYLES: &[Style] = &[
     Style {
         name: "unsignalled",
         capacities: &[1, 2, 4, 8, 64],
-        slots: (2, 10),
+        slots: &[(2, 10)],
         lanes: 3,
         acts: &[
             (Register, 2), (Send, 5), (Unsignalled, 22), (Drop, 2), (Plain, 12), (Fair, 8), (Targeted, 4), (Batch, 4), (Pause, 3), (Resume, 4),
@@ -128,7 +140,7 @@ const STYLES: &[Style] = &[
     Style {
         name: "closed",
         capacities: &[1, 2, 4, 64],
-        slots: (6, 60),
+        slots: &[(6, 60)],
         lanes: 4,
         acts: &[
             (Register, 12), (Send, 16), (Unsignalled, 3), (Fill, 2), (Drop, 6), (Plain, 10), (Fair, 5), (Targeted, 3), (Batch, 3), (Pause, 3),
@@ -138,7 +150,7 @@ const STYLES: &[Style] = &[
     Style {
         name: "stale",
         capacities: &[1, 2, 4],
-        slots: (1, 4),
+        slots: &[(1, 4)],
         lanes: 1,
         acts: &[
             (Register, 8), (Send, 10), (Unsignalled, 2), (Drop, 6), (Plain, 8), (Fair, 3), (Targeted, 3), (Batch, 3), (Pause, 3), (Resume, 3),
@@ -148,7 +160,7 @@ const STYLES: &[Style] = &[
     Style {
         name: "endings",
         capacities: &[1, 2, 4, 64],
-        slots: (1, 10),
+        slots: &[(1, 10)],
         lanes: 2,
         acts: &[
             (Register, 10), (Send, 14), (Unsignalled, 4), (Drop, 4), (Plain, 6), (Fair, 4), (Targeted, 3), (Batch, 4), (Pause, 5), (Resume, 2),
@@ -158,7 +170,7 @@ const STYLES: &[Style] = &[
     Style {
         name: "zero",
         capacities: &[64, 128, 256, 64],
-        slots: (2, 7),
+        slots: &[(2, 7)],
         lanes: 3,
         acts: &[
             (Register, 6), (Send, 14), (Unsignalled, 4), (Fill, 4), (Drop, 3), (Plain, 6), (Fair, 2), (Targeted, 6), (Batch, 12), (Pause, 8),
@@ -168,30 +180,57 @@ const STYLES: &[Style] = &[
     Style {
         name: "tangle",
         capacities: &[2, 4, 8, 64, 128],
-        slots: (3, 12),
+        slots: &[(3, 12)],
         lanes: 5,
         acts: &[(Tangle, 30), (Send, 4), (Fill, 1), (Churn, 1), (Drain, 1), (Held, 1), (Resume, 2)],
     },
     Style {
         name: "wide",
         capacities: &[1, 2, 4, 8],
-        slots: (65, 149),
+        slots: &[(65, 149)],
         lanes: 80,
         acts: &[
             (Register, 10), (Send, 40), (Unsignalled, 6), (Fill, 6), (Drop, 4), (Plain, 14), (Fair, 8), (Targeted, 4), (Batch, 8), (Pause, 4),
             (Resume, 5), (Close, 2), (Release, 1), (PollAll, 1), (Held, 1), (Stale, 1), (Drain, 1), (Churn, 2), (Zero, 1), (Aim, 2),
         ],
     },
-    // Lines longer than their records, so that the replay program's text is full before its buffer is used up. The last, and only by name: the
-    // streams of a seed stay as they were.
+    // The rest only by name: the streams of a seed stay as they were.
+    // Lines longer than their records, so that the replay program's text is full before its buffer is used up.
     Style {
         name: "idle",
         capacities: &[4, 64],
-        slots: (1, 4),
+        slots: &[(1, 4)],
         lanes: 2,
         acts: &[(Plain, 30), (Fair, 14), (Held, 14), (Release, 4), (PollAll, 4), (Register, 1), (Send, 2), (Batch, 1), (Drop, 1), (Drain, 1)],
     },
+    // Headboxes unplugged, whose drivers hold their senders on: the free list has slots with living older senders and clear ones among each other.
+    // Of 100 calls 25 are registrations: 9 pass slots over (7 take a freed slot, mostly below two or more, and 2 an unused one), 7 pass none over, 4 are
+    // refused 9, 3 refused 8 and 2 refused 7; and 11 are sends refused 12. 90 come after their opening's first slot passed over, where the original has no
+    // answer.
+    Style {
+        name: "unplugged",
+        capacities: &[1, 2, 4, 8],
+        slots: &[(1, 8), (1, 8), (9, 40), (65, 149)],
+        lanes: 6,
+        acts: &[
+            (Register, 16), (Unplug, 10), (SendOn, 3), (LetGo, 7), (Crowd, 3), (Send, 18), (Unsignalled, 3), (Drop, 5), (Plain, 8), (Fair, 5),
+            (Targeted, 3), (Batch, 4), (Pause, 2), (Resume, 3), (Held, 2), (Stale, 2), (Drain, 2), (Churn, 2), (CloseReceiver, 1),
+        ],
+    },
 ];
+
+/// How many styles take turns.
+const IN_TURN: usize = STYLES.len() - 2;
+
+/// `pass_one_in` of openings that the original is compared in.
+const FOR_THE_ORIGINAL: u64 = 300;
+
+/// The free slots, the one freed last first, and whether the older sender of each lives; and how many slots are issued.
+type FreeList = (Vec<(usize, bool)>, usize);
+
+fn free_list(state: &State) -> FreeList {
+    (state.free.iter().rev().map(|&x| (x, state.slots[x].living)).collect(), state.slots.len())
+}
 
 struct Stream<W: Write> {
     random: Random,
@@ -217,6 +256,8 @@ struct Stream<W: Write> {
     opened: [u64; 2],
     /// Ids of lanes that were registered, of this opening and of earlier ones.
     saved: Vec<[u64; 4]>,
+    /// Of so many registrations that would find the older sender of the slot freed last living, one is made as it is.
+    pass_one_in: u64,
 }
 
 impl<W: Write> Stream<W> {
@@ -230,8 +271,12 @@ impl<W: Write> Stream<W> {
         self.left = self.left.saturating_sub(1);
         self.here = self.here.saturating_sub(1);
         let due = matches!(kind, TARGETED | PAUSE | RESUME | CLOSE).then(|| self.due_to_id(&record));
+        let found = if kind == REGISTER { self.rules.state.as_ref().map(free_list) } else { None };
         let answer = self.rules.answer(&record);
         self.hold_to_free(&record, &answer);
+        if let Some(found) = found {
+            self.hold_to_list(&found, &answer);
+        }
         if let Some(due) = due {
             let refusal = if let Answer::Refused(number) = answer { Some(number) } else { None };
             assert_eq!(refusal, due, "{record:?}: the refusal due to its id");
@@ -285,6 +330,23 @@ impl<W: Write> Stream<W> {
             (Some((_, before)), _) => panic!("{before} free places, and then {record:?} answers {answer}"),
         };
         self.free = free.map(|free| (key, free));
+    }
+
+    /// What a registration does, by document 02's sentences (N4) in other words than the rules': a free slot that it takes is clear, and those freed later are
+    /// not; if it takes an unused one, or is refused 9, no free slot is clear; if it is refused 8 none is free. The others stay in their order.
+    fn hold_to_list(&self, (free, issued): &FreeList, answer: &Answer) {
+        let state = self.state();
+        let none_clear = free.iter().all(|&(_, lives)| lives);
+        let taken = if let Answer::Lane(slot, _) = *answer { Some(slot as usize) } else { None };
+        let right = match (taken, answer) {
+            (Some(x), _) if x == *issued => none_clear,
+            (Some(x), _) => free.iter().find(|&&(y, lives)| y == x || !lives) == Some(&(x, false)),
+            (None, Answer::Refused(8)) => free.is_empty() && *issued == state.most_slots,
+            (None, Answer::Refused(9)) => !free.is_empty() && none_clear && *issued == state.most_slots,
+            (None, _) => true,
+        };
+        let left = free.iter().map(|&(x, _)| x).filter(|&x| Some(x) != taken);
+        assert!(right && left.eq(state.free.iter().rev().copied()), "a registration that finds {free:?} answers {answer}");
     }
 
     fn over(&self) -> bool {
@@ -401,9 +463,13 @@ impl<W: Write> Stream<W> {
             _ => u64::MAX,
         };
         if most > lanes && (full || older.is_some()) {
-            // The original has no refusal 8 or 9. Mostly the slot's older sender is dropped, or nothing is done.
-            if self.random.one_in(300) {
-                self.here = self.here.min(12);
+            // The original has no refusal 8 or 9 and passes no slot over: from there on it has no answers, and a run that is compared with it soon ends.
+            // Mostly the older sender of the slot freed last is dropped, or nothing is done.
+            let one_in = if full && self.pass_one_in > 1 { FOR_THE_ORIGINAL } else { self.pass_one_in };
+            if self.random.one_in(one_in) {
+                if self.pass_one_in == FOR_THE_ORIGINAL {
+                    self.here = self.here.min(12);
+                }
             } else if let Some(x) = older {
                 let generation = self.state().slots[x].generation;
                 self.emit(DROP, &[x as u64, generation]);
@@ -423,6 +489,54 @@ impl<W: Write> Stream<W> {
                 break;
             }
         }
+    }
+
+    /// Some of the slots that fit, in any order: mostly one to three, now and then all.
+    fn some_slots(&mut self, fits: impl Fn(&Slot) -> bool) -> Vec<usize> {
+        let slots = &self.state().slots;
+        let mut found: Vec<usize> = (0..slots.len()).filter(|&x| fits(&slots[x])).collect();
+        let most = match self.random.below(12) {
+            0 => found.len(),
+            1 => self.random.below(found.len() as u64 + 1) as usize,
+            _ => 1 + self.random.below(3) as usize,
+        };
+        for at in 0..most.min(found.len()) {
+            let other = at + self.random.below((found.len() - at) as u64) as usize;
+            found.swap(at, other);
+        }
+        found.truncate(most);
+        found
+    }
+
+    fn unplug(&mut self) {
+        for x in self.some_slots(|slot| slot.registered && slot.living) {
+            if self.over() {
+                return;
+            }
+            let id = self.id_of([x as u64, self.state().slots[x].generation]);
+            self.emit(CLOSE, &id);
+        }
+    }
+
+    /// One of the calls of a sender whose lane was closed.
+    fn by_closed(&mut self, kind: u16) {
+        for x in self.some_slots(|slot| slot.living && !slot.registered) {
+            if self.over() {
+                return;
+            }
+            let [slot, generation] = [x as u64, self.state().slots[x].generation];
+            if kind == DROP {
+                self.emit(DROP, &[slot, generation]);
+            } else {
+                let item = self.next_item();
+                self.emit(kind, &[slot, generation, item]);
+            }
+        }
+    }
+
+    fn crowd(&mut self) {
+        let most = if self.random.one_in(4) { self.state().registered_lanes() as u64 + self.random.below(4) } else { u64::MAX };
+        while !self.over() && !matches!(self.emit(REGISTER, &[most]), Answer::Refused(_)) {}
     }
 
     fn stale(&mut self) {
@@ -776,6 +890,13 @@ impl<W: Write> Stream<W> {
             End => self.end(),
             Drain => self.drain(),
             Churn => self.churn(),
+            Unplug => self.unplug(),
+            SendOn => {
+                let kind = if self.random.one_in(4) { UNSIGNALLED } else { SEND };
+                self.by_closed(kind);
+            }
+            LetGo => self.by_closed(DROP),
+            Crowd => self.crowd(),
         }
     }
 
@@ -823,7 +944,7 @@ impl<W: Write> Stream<W> {
 
     fn opening(&mut self, style: &Style) {
         let lent = self.rules.lent;
-        let (low, high) = style.slots;
+        let (low, high) = if let [only] = *style.slots { only } else { self.random.pick(style.slots) };
         let (slots, capacity) = match self.most_slots {
             Some(most) => (most - self.random.below(most / 16 + 1), self.random.pick(&[1, 2, 4])),
             None if self.deep => (1 + self.random.below(4), self.random.pick(&[1_000, 2_048, 5_000, 8_192, 30_000, 65_536])),
@@ -848,9 +969,16 @@ impl<W: Write> Stream<W> {
                 channel = self.opened[0];
             }
         }
+        let unplugged = style.acts.iter().any(|&(act, _)| act == Unplug);
+        self.pass_one_in = if unplugged { 1 } else if self.shifted || self.numbered { 2 } else { FOR_THE_ORIGINAL };
         let (cursor, generation) = if self.shifted {
             let below_top = [0, 1, 3, 70, 1_000].map(|n| u64::MAX - n);
             (self.random.pick(&below_top), self.random.pick(&below_top))
+        } else if unplugged && self.random.one_in(8) {
+            // Slots are used up for good after some lanes.
+            let lanes_left = self.random.below(8);
+            self.here = self.here.min(60 + 12 * slots * (lanes_left + 1));
+            (0, u64::MAX - lanes_left)
         } else if self.random.one_in(100) {
             // Outside the original's domain; short.
             self.here = self.here.min(60);
@@ -964,6 +1092,7 @@ fn main() -> io::Result<()> {
         next_number: 0,
         opened: [0; 2],
         saved: Vec::new(),
+        pass_one_in: 1,
     };
     if numbered {
         stream.next_number = stream.number_after(0);
@@ -973,11 +1102,10 @@ fn main() -> io::Result<()> {
         stream.refused_opening();
         stream.emit(HELD, &[]);
     }
-    let in_turn = STYLES.len() - 1;
-    let mut style = only.unwrap_or(seed as usize % in_turn);
+    let mut style = only.unwrap_or(seed as usize % IN_TURN);
     while stream.left > 0 {
         stream.opening(&STYLES[style]);
-        style = only.unwrap_or(stream.random.below(in_turn as u64) as usize);
+        style = only.unwrap_or(stream.random.below(IN_TURN as u64) as usize);
     }
     if stream.random.one_in(8) {
         stream.malformed();
