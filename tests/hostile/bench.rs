@@ -4,7 +4,7 @@ use std::time::Duration;
 
 use crate::calls::{self, CHECKED, INNER, Stores, WORDS, Words};
 use crate::memory::Guarded;
-use crate::order::{free_places, in_order};
+use crate::order::{free_places, free_slots, in_order, registration};
 use crate::records::{self, Answer, Record};
 use crate::watch;
 
@@ -107,6 +107,7 @@ impl Bench {
         self.count(&answer, took);
         self.look_at_words(record, &answer);
         self.look_at_order(record, &answer);
+        self.look_at_registration(record, &answer);
         self.look_at_stores(record, &answer);
         answer
     }
@@ -160,6 +161,17 @@ impl Bench {
                 self.counts.in_order += u64::from(ordered);
             }
         }
+    }
+
+    /// On stores in order a registration answers and leaves the free list as the words say that it found there.
+    fn look_at_registration(&mut self, record: &Record, answer: &Answer) {
+        if record.kind != records::REGISTER || *answer == Answer::Refused(5) {
+            return;
+        }
+        let (due, free) = registration(&self.table_before, record.fields[0]);
+        let due = due.map_or_else(Answer::Refused, |[slot, generation]| Answer::Lane(slot, generation));
+        assert_eq!(*answer, due, "{record:?}: what document 02's sentences say of the words");
+        assert!(free_slots(self.table.words()) == free, "{record:?}: {answer} leaves another free list");
     }
 
     /// A refusal changes nothing; a send writes one item and says the free places that it leaves, a batch writes its items, and no other call writes to

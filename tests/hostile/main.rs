@@ -4,7 +4,7 @@
 //!
 //! Every call must end; touch nothing outside its slices, which end or begin at guard pages; leave every word as it was where it refuses; answer 5 exactly
 //! if document 01's list, read once more in order.rs, does not hold of the stores; and leave stores in order where it does not answer 5. An accepted send
-//! must answer the free places that the store's words then have.
+//! must answer the free places that the store's words then have, a registration the slot that they say is due.
 //! --episode runs the one episode that a failure names.
 
 mod bench;

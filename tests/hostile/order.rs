@@ -1,5 +1,6 @@
-//! Document 01's "A store in order", in Rust, of any words: another reading beside crate `order`, and one that shares no code with it.
-//! Quoted sentences are document 01's; the places of the words are those of the specifications Table, Header, Queue, Registry and Ready.
+//! Document 01's "A store in order", in Rust, of any words: another reading beside crate `order`, and one that shares no code with it. And what free places
+//! and a registration's slot are, of the words of stores in order. Quoted sentences are document 01's, or document 02's where it is named; the places of the
+//! words are those of the specifications Table, Header, Queue, Registry and Ready.
 
 /// A table store read by names.
 struct Table<'a>(&'a [u64]);
@@ -145,6 +146,36 @@ fn marks(t: &Table) -> bool {
 pub fn free_places(table: &[u64], x: u64) -> u64 {
     let t = Table(table);
     t.capacity() - t.cell(1, x).wrapping_sub(t.cell(2, x))
+}
+
+/// What a registration with this most-lanes number answers, a key or a refusal; and the free list that it leaves, the slot freed last at the end. Of a store
+/// in order. "registration goes down the free list, most recently freed first, and takes the first slot without a living older sender; failing that, the next
+/// unused slot. The slots passed over stay in the list in their order." (document 02, N4)
+pub fn registration(table: &[u64], most: u64) -> (Result<[u64; 2], u64>, Vec<u64>) {
+    let t = Table(table);
+    let mut free = t.free();
+    if t.0[7] == 0 {
+        return (Err(6), free);
+    }
+    if t.0[13] >= most {
+        return (Err(7), free);
+    }
+    for place in (0..free.len()).rev() {
+        let x = free[place];
+        if t.cell(13, x) == 0 {
+            free.remove(place);
+            return (Ok([x, t.cell(0, x) + 1]), free);
+        }
+    }
+    if t.issued() < t.slots() {
+        return (Ok([t.issued(), t.0[11]]), free);
+    }
+    (Err(if free.is_empty() { 8 } else { 9 }), free)
+}
+
+/// The slots of the free list, the one freed last at the end; of a store in order.
+pub fn free_slots(table: &[u64]) -> Vec<u64> {
+    Table(table).free()
 }
 
 pub fn in_order(table: &[u64], rings: &[u64]) -> bool {
