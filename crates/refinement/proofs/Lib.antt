@@ -31,5 +31,6 @@ pub mod AsInner
 pub mod Simulation
 pub mod Demands
 pub mod FirstCursorKept
+pub mod RegistrationOnWords
 pub mod RulesKept
 pub mod AsRules

@@ -9,6 +9,7 @@ use Rattle.refinement.specs.Runs.{StoreCalls, viewedOf, innerCalls}
 use Rattle.refinement.specs.RulesOnWords.{KeepsRules, afterCollecting, WordsCollecting}
 use Rattle.refinement.proofs.AsInner.{AsInner, inner-as-inner, stays-in-order, queued-keys-kept}
 use Rattle.refinement.proofs.Simulation.{simulates, stores-simulate}
+use Rattle.refinement.proofs.RegistrationOnWords.{eight-by-words, nine-by-words}
 use Rattle.refinement.proofs.FirstCursorKept.{rings-start-at-first-cursor}
 
 pub keeps-rules : (M : StoreCalls) → AsInner M → KeepsRules M
@@ -39,6 +40,8 @@ keeps-rules M i =
       takes-next-unused = words-takes-next-unused W sim;
       eight-exactly = words-eight-exactly W sim;
       nine-exactly = words-nine-exactly W sim;
+      eight-by-words = eight-by-words M (words-eight-exactly W sim);
+      nine-by-words = nine-by-words M (words-nine-exactly W sim);
       refused-only-in-vain = words-refused-only-in-vain W sim;
       rings-start-at-first-cursor = rings-start-at-first-cursor M i;
       queued-keys-kept = queued-keys-kept M i;

@@ -3,4 +3,5 @@ pub mod Runs
 pub mod AsRules
 pub mod Refusals
 pub mod Demands
+pub mod RegistrationOnWords
 pub mod RulesOnWords

@@ -28,6 +28,7 @@ use Rattle.ready.specs.Ready.{collectReady}
 use Rattle.store.specs.Order.{StoreInOrder}
 use Rattle.opening.specs.FirstCursor.{StartsAt}
 use Rattle.refinement.specs.Runs.{StoreCalls, viewedOf, innerCalls, Run, storesAfter}
+use Rattle.refinement.specs.RegistrationOnWords.{EightByWords, NineByWords}
 
 -- Of any calls M on two stores: what is set in below takes M first, as in `StaysInOrder innerCalls`.
 module _ (M : StoreCalls) where
@@ -73,6 +74,8 @@ pub record KeepsRules (M : StoreCalls) : Type 0 where
   pub takes-next-unused : TakesNextUnused (viewedOf M)
   pub eight-exactly : EightExactly (viewedOf M)
   pub nine-exactly : NineExactly (viewedOf M)
+  pub eight-by-words : EightByWords M
+  pub nine-by-words : NineByWords M
   pub refused-only-in-vain : RefusedOnlyInVain (viewedOf M)
   pub rings-start-at-first-cursor : RingsStartAtFirstCursor M
   pub queued-keys-kept : QueuedKeysKept M
