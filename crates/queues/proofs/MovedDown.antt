@@ -1,10 +1,10 @@
 -- Free slots moved down by one place: what stands where, and the loop that moves one more at each turn.
 -- Assumes nothing.
-use mathlib.Core.Path.{_≡_, refl, sym, ap, _∙_}
+use mathlib.Core.Path.{_≡_, sym, ap, _∙_}
 use mathlib.Core.List.{List}
 use Prim.Native.Nat.{ℕ, suc, _+_, _-_, _≤_, _<_}
 use native.Mathlib.Omega.{arith}
-use lib.ListN.{length, getD, length-set}
+use lib.ListN.{length, getD}
 use Rattle.yring.specs.Lists.{tab, scatter}
 use Rattle.lane.specs.Table.{cellAt, cell, setCell}
 use Rattle.yring.proofs.ListLaws.{length-tab, getD-tab, tab-more, length-scatter, scatter-in, scatter-out, scatter-snoc}
@@ -34,38 +34,20 @@ module _ (t : List ℕ) (p n : ℕ) where
       let m : length (tab n word) ≡ n = length-tab n word in
       scatter-in (tab n word) t place (λ k l. omega arith) (λ j k a b e. omega arith) i (omega arith) ∙ getD-tab n word i h
 
--- ---- the loop that moves d slots down, from the gap up
+  -- ---- the loop, after n turns
 
--- after i turns
-pub record Moved (t₀ : List ℕ) (gap d : ℕ) (t : List ℕ) (i : ℕ) : Type 0 where
-  pub upto : i ≤ d
-  pub long : length t ≡ length t₀
-  pub words : t ≡ movedDown t₀ gap i
-
-module _ (t₀ : List ℕ) (gap d : ℕ) where
-  pub move-start : Moved t₀ gap d t₀ 0
-  move-start = record { upto = omega arith; long = refl; words = refl }
-
-  module _ (t : List ℕ) (i : ℕ) (k : Moved t₀ gap d t i) where
-    -- the word above is still the list's
-    pub move-one : i < d → (x : ℕ) → x ≡ cell t freeColumn (gap + i + 1) → Moved t₀ gap d (setCell t freeColumn (gap + i) x) (i + 1)
-    move-one h x is =
-        let above : cell (movedDown t₀ gap i) freeColumn (gap + i + 1) ≡ word t₀ gap i i =
-        out-moved-down t₀ gap i (cellAt freeColumn (gap + i + 1)) (λ j l q. omega arith) in
-        record {
-          upto = omega arith;
-          long = length-set t _ _ ∙ k .long;
-          words =
-              rw (is, k .words, above)
-              (sym
-              (ap (λ (l : List ℕ). scatter t₀ (place t₀ gap i) l) (tab-more i (word t₀ gap i))
-              ∙ (rw (length-tab i (word t₀ gap i)) at (scatter-snoc (tab i (word t₀ gap i)) t₀ (place t₀ gap i) (word t₀ gap i i)))));
-        }
+  pub move-one-more : (u : List ℕ) → u ≡ movedDown t p n → (x : ℕ) → x ≡ cell u freeColumn (p + n + 1)
+      → setCell u freeColumn (p + n) x ≡ movedDown t p (n + 1)
+  move-one-more u e x is =
+      let next : cell (movedDown t p n) freeColumn (p + n + 1) ≡ word n = out-moved-down (cellAt freeColumn (p + n + 1)) (λ i l q. omega arith) in
+      rw (is, e, next)
+      (sym (ap (λ (l : List ℕ). scatter t place l) (tab-more n word) ∙ (rw (length-tab n word) at (scatter-snoc (tab n word) t place (word n)))))
 
 -- all d moved, and their number stored
-pub move-end : (t₀ t : List ℕ) (d i : ℕ) → d < freeCount t₀ → Moved t₀ (freeCount t₀ - 1 - d) d t i → d ≤ i → setFreeCount t (freeCount t₀ - 1) ≡ reissue t₀ d
+pub move-end : (t u : List ℕ) (d i : ℕ) → d < freeCount t → u ≡ movedDown t (freeCount t - 1 - d) i → i ≤ d → d ≤ i
+    → setFreeCount u (freeCount t - 1) ≡ reissue t d
 unfolding reissue
-move-end t₀ t d i h k g =
-    let gap : freeCount t₀ - 1 - d ≡ freeCount t₀ - suc d = omega arith in
-    let all : i ≡ d = omega (arith, k .upto) in
-    rw (k .words, gap, all)
+move-end t u d i h e l g =
+    let place : freeCount t - 1 - d ≡ freeCount t - suc d = omega arith in
+    let all : i ≡ d = omega arith in
+    rw (e, place, all)

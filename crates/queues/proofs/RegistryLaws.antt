@@ -31,10 +31,6 @@ length-free t = length-tab (freeCount t) (λ i. cell t freeColumn (freeCount t -
 
 -- ---- the slot d places down, and those before and after it
 
--- its place, as the code counts it
-pub place-down : (t : List ℕ) (n d : ℕ) → cell t freeColumn (n - 1 - d) ≡ cell t freeColumn (n - suc d)
-place-down t n d = let e : n - 1 - d ≡ n - suc d = omega arith in ap (cell t freeColumn) e
-
 module _ (t : List ℕ) (d : ℕ) (h : d < freeCount t) where
   inside : d < length (freeOf t)
   inside = omega (arith, length-free t)
@@ -58,7 +54,7 @@ module _ (t : List ℕ) (d : ℕ) (h : d < freeCount t) where
 
 -- past the last
 pub drop-free-all : (t : List ℕ) → drop (freeCount t) (freeOf t) ≡ []
-drop-free-all t = let h : length (freeOf t) ≤ freeCount t = omega (arith, length-free t) in drop-of-length-le (freeOf t) h
+drop-free-all t = drop-of-length-le (freeOf t) {i = freeCount t} (omega (arith, length-free t))
 
 -- ---- what leaves the free list as it was
 
@@ -120,23 +116,27 @@ module _ (t : List ℕ) (x : ℕ) where
   queue-freed = simp queue-frames
 
 module _ (t : List ℕ) (d : ℕ) where
+  -- the place of the slot taken
+  abbrev gap : ℕ
+  gap = freeCount t - suc d
+
   -- the words, before their number is stored
   abbrev moved : List ℕ
-  moved = movedDown t (freeCount t - suc d) d
+  moved = movedDown t gap d
 
   pub length-reissued : length (reissue t d) ≡ length t
   unfolding reissue
-  length-reissued = length-set moved 3 (freeCount t - 1) ∙ length-moved-down t (freeCount t - suc d) d
+  length-reissued = length-set moved 3 (freeCount t - 1) ∙ length-moved-down t gap d
 
   pub head-reissued : (k : ℕ) → ltb k headerWords ≡ true → eqb 3 k ≡ false → head (reissue t d) k ≡ head t k
   unfolding reissue
   head-reissued k p n =
       other-head-kept moved 3 (freeCount t - 1) k n
-      ∙ out-moved-down t (freeCount t - suc d) d k (λ i l e. omega (arith, ltb-true k headerWords p))
+      ∙ out-moved-down t gap d k (λ i l e. omega (arith, ltb-true k headerWords p))
 
   pub count-reissued : leb headerWords (length t) ≡ true → freeCount (reissue t d) ≡ freeCount t - 1
   unfolding reissue
-  count-reissued r = head-stored moved 3 (freeCount t - 1) (rw (length-moved-down t (freeCount t - suc d) d) r) refl
+  count-reissued r = head-stored moved 3 (freeCount t - 1) (rw (length-moved-down t gap d) r) refl
 
   -- the places, as they were written
   place-reissued : (row : ℕ) → cell (reissue t d) freeColumn row ≡ cell moved freeColumn row
@@ -147,7 +147,7 @@ module _ (t : List ℕ) (d : ℕ) where
   unfolding reissue
   cell-reissued c row p n =
       cell-setHead moved 3 (freeCount t - 1) c row refl
-      ∙ out-moved-down t (freeCount t - suc d) d (cellAt c row)
+      ∙ out-moved-down t gap d (cellAt c row)
       (λ i l e. eqb-false freeColumn c n (omega (arith, ltb-true c rowWords p)))
 
   pub lane-reissued : (slot : ℕ) → laneAt (reissue t d) slot ≡ laneAt t slot
@@ -202,31 +202,29 @@ module _ (t : List ℕ) (s : Shaped t) where
   unfolding freeOf
   free-reissued d h =
       let n : ℕ = freeCount t in
-      let p : ℕ = n - suc d in
-      let e : n - 1 ≡ d + p = omega arith in
       let f : ℕ → ℕ = λ i. cell t freeColumn (n - suc i) in
-      let g : ℕ → ℕ = λ i. cell (movedDown t p d) freeColumn (n - 1 - suc i) in
+      let g : ℕ → ℕ = λ i. cell (moved t d) freeColumn (n - 1 - suc i) in
+      let e : n - 1 ≡ d + gap t d = omega arith in
       simp (count-reissued t d (header-in t s), place-reissued)
       (ap (λ (k : ℕ). tab k g) e
-      ∙ tab-add d p g
+      ∙ tab-add d (gap t d) g
       ∙ ap₂ (λ (a b : List ℕ). a ++ b)
       (tab-ext d g f above ∙ sym (take-tab d n f (omega arith)))
-      (tab-ext p (λ i. g (d + i)) (λ i. f (suc d + i)) below ∙ sym (drop-tab (suc d) n f h)))
+      (tab-ext (gap t d) (λ i. g (d + i)) (λ i. f (suc d + i)) below ∙ sym (drop-tab (suc d) n f h)))
     where
-      above : (i : ℕ) → i < d → cell (movedDown t (freeCount t - suc d) d) freeColumn (freeCount t - 1 - suc i) ≡ cell t freeColumn (freeCount t - suc i)
+      above : (i : ℕ) → i < d → cell (moved t d) freeColumn (freeCount t - 1 - suc i) ≡ cell t freeColumn (freeCount t - suc i)
       above i l =
-          let a : freeCount t - 1 - suc i ≡ freeCount t - suc d + (d - suc i) = omega arith in
-          let b : freeCount t - suc d + (d - suc i) + 1 ≡ freeCount t - suc i = omega arith in
-          ap (cell (movedDown t (freeCount t - suc d) d) freeColumn) a
-          ∙ in-moved-down t (freeCount t - suc d) d (omega (arith, s .room, s .free-most)) (d - suc i) (omega arith)
+          let a : freeCount t - 1 - suc i ≡ gap t d + (d - suc i) = omega arith in
+          let b : gap t d + (d - suc i) + 1 ≡ freeCount t - suc i = omega arith in
+          ap (cell (moved t d) freeColumn) a
+          ∙ in-moved-down t (gap t d) d (omega (arith, s .room, s .free-most)) (d - suc i) (omega arith)
           ∙ ap (cell t freeColumn) b
 
-      below : (i : ℕ) → i < freeCount t - suc d
-          → cell (movedDown t (freeCount t - suc d) d) freeColumn (freeCount t - 1 - suc (d + i)) ≡ cell t freeColumn (freeCount t - suc (suc d + i))
+      below : (i : ℕ) → i < gap t d → cell (moved t d) freeColumn (freeCount t - 1 - suc (d + i)) ≡ cell t freeColumn (freeCount t - suc (suc d + i))
       below i l =
           let a : freeCount t - 1 - suc (d + i) ≡ freeCount t - suc (suc d + i) = omega arith in
-          ap (cell (movedDown t (freeCount t - suc d) d) freeColumn) a
-          ∙ out-moved-down t (freeCount t - suc d) d (cellAt freeColumn (freeCount t - suc (suc d + i))) (λ j k e. omega arith)
+          ap (cell (moved t d) freeColumn) a
+          ∙ out-moved-down t (gap t d) d (cellAt freeColumn (freeCount t - suc (suc d + i))) (λ j k e. omega arith)
 
   -- where the free slots are issued ones, each once, another issued slot finds room
   pub free-has-room : ((y : ℕ) → count y (freeOf t) ≤ 1) → ((y : ℕ) → 1 ≤ count y (freeOf t) → y < issued t)
