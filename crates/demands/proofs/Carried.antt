@@ -27,7 +27,7 @@ use Rattle.model.specs.Collections.{AtMost64BetweenCollections, TakesOneGroup, 
 use Rattle.model.specs.Disconnected.{NoSenderLives, NoLaneRegistered, EmptyOnesRetired, SameLane, PausedWithItems, Looks, Drained, DisconnectedExactly, RetiresEmptyPaused, EmptyWithPausedItems, OnlyPausedItemsLeft, TargetedDisconnectedExactly}
 use Rattle.model.specs.LaneIds.{ThirteenExactly, SixOrAccepted, ElseSixOrAccepted}
 use Rattle.model.specs.Signals.{dropsSender, FoundEmptyBy, IdleOnlyWhenEmpty, ClosedAfter, ClosedSignalKept}
-use Rattle.model.specs.Registration.{TakesFirstClear, TakesNextUnused, EightExactly, NineExactly, RefusedOnlyInVain}
+use Rattle.model.specs.Registration.{TakesFirstClear, TakesNextUnused, EightExactly, NineExactly, RefusedOnlyInVain, OnTop, FreedOnTop}
 use Rattle.model.specs.PollLoop.{NothingLeft}
 use Rattle.model.specs.ReceivesEnd.{itemsAsked, EndsWithNothingLeft}
 use Rattle.model.specs.Simulation.{Simulation}
@@ -39,6 +39,7 @@ use Rattle.demands.proofs.LaneIds.{thirteen-exactly, else-six-or-accept
 use Rattle.demands.proofs.IdleWhenEmpty.{idle-only-when-empty}
 use Rattle.demands.proofs.ClosedSignal.{closed-signal-kept}
 use Rattle.demands.proofs.Registration.{takes-first-clear, takes-next-unused, eight-exactly, nine-exactly, refused-only-in-vain}
+use Rattle.demands.proofs.FreedOnTop.{freed-on-top}
 use Rattle.demands.proofs.ReceivesEnd.{ends-with-nothing-left}
 use Rattle.demands.proofs.Simulation.{accepted-too, opened-after, opened-events}
 
@@ -209,6 +210,12 @@ module _ (W : Viewed) (sim : Simulation W) where
   unfolding RefusedOnlyInVain
   words-refused-only-in-vain s o most why l e =
       refused-only-in-vain (W .view s) tt most why l (sym (sim .answers-alike s (Sender (RegisterSender most)) o) ∙ e)
+
+  pub words-freed-on-top : FreedOnTop W
+  unfolding FreedOnTop
+  words-freed-on-top s o c g =
+      let back = sim .leaves-alike s c o in
+      subst (OnTop (W .view s)) (sym back) (freed-on-top (W .view s) tt c g)
 
   -- ---- collections, by steps that do what the rules' do
 

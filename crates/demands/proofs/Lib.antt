@@ -1,6 +1,7 @@
 pub mod Counting
 pub mod Totals
 pub mod OrderKept
+pub mod OnTop
 pub mod Quiet
 pub mod Ahead
 pub mod WaitInReceive
@@ -46,6 +47,7 @@ pub mod FoundEmpty
 pub mod IdleWhenEmpty
 pub mod ClosedSignal
 pub mod Registration
+pub mod FreedOnTop
 pub mod ReceivesEnd
 pub mod Carried
 pub mod BudgetAfterNothing

@@ -51,6 +51,11 @@ pub first-own : (x : ℕ) (q : List ℕ) → count x (x ∷ q) ≡ suc (count x 
 unfolding count
 first-own x q = omega (arith, same-self x)
 
+-- a list names no fewer with one more in front
+pub count-rest : (x y : ℕ) (l : List ℕ) → count x l ≤ count x (y ∷ l)
+unfolding count
+count-rest x y l = omega arith
+
 -- lane x retires, and the queue, which may have named it, is then q
 pub retire-unqueue-ordered : (x : ℕ) (q : List ℕ) (s : State) → Ordered s → s .slotOf x .registered ≡ true → ((y : ℕ) → x ≢ y → count y q ≡ count y (s .queue)) → count x q ≡ 0
     → Ordered (retireLane x (withQueue q s))

@@ -8,14 +8,16 @@ use native.Mathlib.Omega.{arith}
 use lib.ListN.{length}
 use lib.Dec.{eqb, leb}
 use Rattle.model.specs.declared.Answer.the-variants.{Empty}
-use Rattle.model.specs.Lists.{if, from, nonEmpty}
+use Rattle.model.specs.Lists.{if, Each, from, nonEmpty}
 use Rattle.model.specs.State.{Slot, State, livingSenders}
-use Rattle.model.specs.Changes.{withQueue, withBudget, put, settledEmpty, retired, unmarked}
+use Rattle.model.specs.Changes.{withQueue, withFree, withBudget, put, settledEmpty, retired, unmarked}
 use Rattle.model.specs.Ready.{groupOf, marks, collectMarks, collectGroup, groupsRound, collectFirst, collectEach, collectReadyGroup, collectReady}
 use Rattle.model.specs.Turn.{retireLane, retireLaneIf, settleEmpty, refill, beforeNextTurn, runDownFrom, collectIfDue, runDown, collectIfNoneQueued, polled}
 use Rattle.model.specs.Receive.{retireEmptyPausedLanes, emptyOrDrained, nothingTaken, releaseAll}
 use Rattle.model.specs.Order.{Ordered}
+use Rattle.model.specs.Registration.{OnTop}
 use Rattle.demands.proofs.Counting.{equal, other, same?, self, no, both-3}
+use Rattle.demands.proofs.OnTop.{none-freed, freed-then}
 use Rattle.demands.proofs.OrderKept.{collect-ready-ordered, run-down-ordered, retire-empty-paused-ordered, polled-ordered, budget-ordered}
 
 pub record Still (l m : Slot) : Type 0 where
@@ -36,6 +38,7 @@ pub record Quietly (s u : State) : Type 0 where
   pub opens : u .isOpen ≡ s .isOpen
   pub capacities : u .capacity ≡ s .capacity
   pub channels : u .channel ≡ s .channel
+  pub frees : OnTop s u
   pub held-same : (y : ℕ) → u .slotOf y .ring ≡ s .slotOf y .ring
   pub credit : (y : ℕ) → u .slotOf y .unreleased ≤ s .slotOf y .unreleased
 
@@ -55,6 +58,10 @@ quiet-trans (stays a) (goes e r g) = goes (sym (a .rings) ∙ e) r (g ∙ a .gen
 quiet-trans (goes e r g) (stays b) = goes e (b .registers ∙ r) (b .generations ∙ g)
 quiet-trans (goes e r g) (goes f t h) = goes e t (h ∙ g)
 
+pub quiet-unregistered : {l m : Slot} → Quiet l m → l .registered ≡ false → m .registered ≡ false
+quiet-unregistered (stays a) e = a .registers ∙ e
+quiet-unregistered (goes e r g) f = r
+
 pub trans : {s t u : State} → Quietly s t → Quietly t u → Quietly s u
 trans a b = record {
   each = λ y. quiet-trans (a .each y) (b .each y);
@@ -62,15 +69,16 @@ trans a b = record {
   opens = b .opens ∙ a .opens;
   capacities = b .capacities ∙ a .capacities;
   channels = b .channels ∙ a .channels;
+  frees = freed-then (a .frees) (b .frees) (λ y. quiet-unregistered (b .each y));
   held-same = λ y. b .held-same y ∙ a .held-same y;
   credit = λ y. omega (arith, a .credit y, b .credit y);
 }
 
 pub calm : (s : State) → Quietly s s
-calm s = record { each = λ y. stays (still (s .slotOf y)); issues = refl; opens = refl; capacities = refl; channels = refl; held-same = λ y. refl; credit = λ y. omega arith }
+calm s = record { each = λ y. stays (still (s .slotOf y)); issues = refl; opens = refl; capacities = refl; channels = refl; frees = none-freed s _ refl; held-same = λ y. refl; credit = λ y. omega arith }
 
 pub budget-quiet : (b : ℕ) (s : State) → Quietly s (withBudget b s)
-budget-quiet b s = record { each = λ y. stays (still (s .slotOf y)); issues = refl; opens = refl; capacities = refl; channels = refl; held-same = λ y. refl; credit = λ y. omega arith }
+budget-quiet b s = record { each = λ y. stays (still (s .slotOf y)); issues = refl; opens = refl; capacities = refl; channels = refl; frees = none-freed s _ refl; held-same = λ y. refl; credit = λ y. omega arith }
 
 -- one slot
 put-quiet : (s : State) (x : ℕ) (l : Slot) → Quiet (s .slotOf x) l → (y : ℕ) → Quiet (s .slotOf y) ((put x l s) .slotOf y)
@@ -85,6 +93,14 @@ put-held s x l h y = elim (same? x y) [ equal p e i ↦ rw (e, ← p) h | other 
 put-credit : (s : State) (x : ℕ) (l : Slot) → l .unreleased ≤ s .slotOf x .unreleased → (y : ℕ) → (put x l s) .slotOf y .unreleased ≤ s .slotOf y .unreleased
 put-credit s x l h y = elim (same? x y) [ equal p e i ↦ rw (e, ← p) h | other d e i ↦ rw e (omega arith) ]
 
+pub retire-lane-frees : (x : ℕ) (s : State) → OnTop s (retireLane x s)
+unfolding retireLane Each
+retire-lane-frees x s = go (eqb (s .slotOf x .generation) 18446744073709551615)
+  where
+    go : (b : Bool) → OnTop s (withFree (if b (s .free) (x ∷ s .free)) (put x (retired (s .slotOf x)) s))
+    go true = none-freed s _ refl
+    go false = record { freed = x ∷ []; list = refl; retired = (rw (self x), tt) }
+
 pub retire-lane-quiet : (x : ℕ) (s : State) → s .slotOf x .ring ≡ [] → Quietly s (retireLane x s)
 unfolding retireLane
 retire-lane-quiet x s e = record {
@@ -93,6 +109,7 @@ retire-lane-quiet x s e = record {
   opens = refl;
   capacities = refl;
   channels = refl;
+  frees = retire-lane-frees x s;
   held-same = put-held s x (retired (s .slotOf x)) refl;
   credit = put-credit s x (retired (s .slotOf x)) (omega arith);
 }
@@ -113,6 +130,7 @@ settle-empty-quiet x q s e =
       opens = refl;
       capacities = refl;
       channels = refl;
+      frees = none-freed s t refl;
       held-same = put-held s x (settledEmpty (s .slotOf x)) refl;
       credit = put-credit s x (settledEmpty (s .slotOf x)) (omega arith);
     } in
@@ -150,7 +168,7 @@ collect-group-quiet s g = go (marks s g)
 
     go : (m : List ℕ) → Quietly s (collectMarks m s g)
     go [] = calm s
-    go (x ∷ m) = record { each = λ y. unmark (eqb (groupOf y) g) (s .slotOf y); issues = refl; opens = refl; capacities = refl; channels = refl; held-same = λ y. ring-un (eqb (groupOf y) g) (s .slotOf y); credit = λ y. credit-un (eqb (groupOf y) g) (s .slotOf y) }
+    go (x ∷ m) = record { each = λ y. unmark (eqb (groupOf y) g) (s .slotOf y); issues = refl; opens = refl; capacities = refl; channels = refl; frees = none-freed s _ refl; held-same = λ y. ring-un (eqb (groupOf y) g) (s .slotOf y); credit = λ y. credit-un (eqb (groupOf y) g) (s .slotOf y) }
 
 pub collect-each-quiet : (gs : List ℕ) (s : State) → Quietly s (collectEach gs s)
 unfolding collectEach
@@ -220,7 +238,7 @@ retire-empty-paused-quiet (x ∷ xs) s =
 
 pub release-all-quiet : (s : State) → Quietly s (releaseAll s)
 unfolding releaseAll
-release-all-quiet s = record { each = λ y. stays record { registers = refl; generations = refl; livings = refl; pauses = refl; rings = refl; signals = λ h e. e }; issues = refl; opens = refl; capacities = refl; channels = refl; held-same = λ y. refl; credit = λ y. less (s .slotOf y .registered) (s .slotOf y .unreleased) }
+release-all-quiet s = record { each = λ y. stays record { registers = refl; generations = refl; livings = refl; pauses = refl; rings = refl; signals = λ h e. e }; issues = refl; opens = refl; capacities = refl; channels = refl; frees = none-freed s _ refl; held-same = λ y. refl; credit = λ y. less (s .slotOf y .registered) (s .slotOf y .unreleased) }
   where
     less : (b : Bool) (n : ℕ) → if b 0 n ≤ n
     less true n = omega arith

@@ -265,7 +265,7 @@ nine-exactly s any c = (nine-then s c, λ v e. vain-answer s c _ v (go v e))
 
 -- ---- what did not change
 
-module _ (s : State) (most : ℕ) (o : InOrder s) (never : PassesOver s most → ⊥) where
+module _ (s : State) (most : ℕ) (distinct : (x : ℕ) → count x (s .free) ≤ 1) (never : PassesOver s most → ⊥) where
   abbrev Alike : (f c : List ℕ) → Type 0
   Alike f c =
       unless ((not (s .isOpen), ReceiverClosed) ∷ (leb most (registeredLanes s), AtCapacity) ∷ (both (not (nonEmpty f)) (allIssued s), NoFreeSlot)
@@ -292,7 +292,7 @@ module _ (s : State) (most : ℕ) (o : InOrder s) (never : PassesOver s most →
     unfolding unless issueSlot issueFreedLast freedLastLives Each
     clear-alike l =
         let c : FirstClear s [] x f = record { list = e; passed = no-slots; clear = l } in
-        let once : count x ([] ++ (x ∷ f)) ≤ 1 = subst (λ (z : List ℕ). count x z ≤ 1) e (o .ordered .each-slot x .free-once) in
+        let once : count x ([] ++ (x ∷ f)) ≤ 1 = subst (λ (z : List ℕ). count x z ≤ 1) e (distinct x) in
         let left : without x (s .free) ≡ f = ap (without x) e ∙ without-once x [] f once in
         rw (first-clear s [] x f c, l, left)
       where
@@ -316,16 +316,16 @@ module _ (s : State) (most : ℕ) (o : InOrder s) (never : PassesOver s most →
         go true false true i u v w y = absurd (passes-over u v (λ n. has-some (clearSlots s) w (none-clear s (n .older-live))))
         go true false false false u v w y = absurd (passes-over u v (λ n. omega (arith, n .all-issued, leb-false (s .slots) (s .issued) y)))
 
-pub else-as-before : ElseAsBefore
+pub else-as-before : ElseAsBefore registerSender
 unfolding registerSender registerFreedLast
-else-as-before s most o never = go (s .free) refl
+else-as-before s most distinct never = go (s .free) refl
   where
-    of : (x : ℕ) (f : List ℕ) → s .free ≡ x ∷ f → (b : Bool) → s .slotOf x .living ≡ b → Alike s most o never (x ∷ f) (clearSlots s)
-    of x f e true l = lives-alike s most o never x f e l
-    of x f e false l = clear-alike s most o never x f e l
+    of : (x : ℕ) (f : List ℕ) → s .free ≡ x ∷ f → (b : Bool) → s .slotOf x .living ≡ b → Alike s most distinct never (x ∷ f) (clearSlots s)
+    of x f e true l = lives-alike s most distinct never x f e l
+    of x f e false l = clear-alike s most distinct never x f e l
 
-    go : (f : List ℕ) → s .free ≡ f → Alike s most o never (s .free) (clearSlots s)
+    go : (f : List ℕ) → s .free ≡ f → Alike s most distinct never (s .free) (clearSlots s)
     go [] e =
-        subst (λ (z : List ℕ). Alike s most o never z (clearSlots s)) (sym e)
-        (subst (Alike s most o never []) (sym (none-clear s (none-older s e))) (none-alike s most o never))
-    go (x ∷ f) e = subst (λ (z : List ℕ). Alike s most o never z (clearSlots s)) (sym e) (of x f e (s .slotOf x .living) refl)
+        subst (λ (z : List ℕ). Alike s most distinct never z (clearSlots s)) (sym e)
+        (subst (Alike s most distinct never []) (sym (none-clear s (none-older s e))) (none-alike s most distinct never))
+    go (x ∷ f) e = subst (λ (z : List ℕ). Alike s most distinct never z (clearSlots s)) (sym e) (of x f e (s .slotOf x .living) refl)

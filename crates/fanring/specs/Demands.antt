@@ -119,7 +119,7 @@ abbrev pub HeldIsCounted : Type 0
 HeldIsCounted = HeldAsCountedIn theCalls runs
 
 -- document 01's sentences on order kept, the poll budget, turns of 64, collections, where receives end, Disconnected and Empty, refusal 13, signals, first cursors
--- and queued keys, one field for each
+-- and queued keys, and document 02's on registrations and the free list (N4), one field for each
 abbrev pub RulesKept : Type 0
 RulesKept = KeepsRules checkedCalls
 

@@ -15,7 +15,8 @@ pub fn open(opening: Opening, t: &mut [u64], r: &[u64]) -> Answer
     opening::mpsc::open(opening, t, r)
 }
 
-// Registers a sender: the slot freed last, or else the next unused one, gets a new lane.
+// Registers a sender: the slot freed last of those without a living older sender, or else the next unused
+// one, gets a new lane.
 pub fn register_sender(t: &mut [u64], r: &[u64], most: u64) -> Answer
     ensures { λ a. ⌜ (a, now (t .exit), now (r .entry)) ≡ checkedWords (now (t .entry)) (now (r .entry)) (Sender (RegisterSender most)) ⌝ }
 {

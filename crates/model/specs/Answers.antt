@@ -28,7 +28,7 @@ number ReceiverClosed = 6
 number AtCapacity = 7
 -- "free list empty and slot S - 1 issued"
 number NoFreeSlot = 8
--- "the slot due still has a living older sender"
+-- document 02, N4: "the free list is not empty, all its slots have living older senders, and slot S - 1 has been issued"
 number OlderSenderLives = 9
 -- "no living sender has this key"
 number NoSuchSender = 10

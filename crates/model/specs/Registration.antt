@@ -1,5 +1,5 @@
 -- Document 02, N4, "Pass over a slot whose old sender still lives": which slot a registration takes, what it leaves of the free list, when it is refused 8 or 9,
--- and that nothing else changed. Said of any calls W but for the last; proved of the rules on every state that is named.
+-- how the list is ordered, and that nothing else changed. `TakesFirstClear` is proved of the rules on states in order, the other claims on any state.
 -- Assumes nothing.
 use mathlib.Core.Path.{_≡_}
 use mathlib.Core.Logic.{_≢_}
@@ -7,18 +7,17 @@ use mathlib.Core.Bool.{Bool, true, false, not}
 use mathlib.Core.List.{List, [], _∷_, _++_}
 use Prim.Native.Nat.{ℕ, suc, _+_, _≤_, _<_}
 use lib.Dec.{leb}
-use Rattle.model.specs.declared.SenderCall.the-variants.{RegisterSender}
+use Rattle.model.specs.declared.SenderCall.the-variants.{RegisterSender, TrySend, TrySendUnsignaled, DropSender}
 use Rattle.model.specs.declared.Call.{Call}
-use Rattle.model.specs.declared.Call.the-variants.{Sender}
+use Rattle.model.specs.declared.Call.the-variants.{Sender, Receive, Control}
 use Rattle.model.specs.declared.Refusal.{Refusal}
 use Rattle.model.specs.declared.Refusal.the-variants.{ReceiverClosed, AtCapacity, NoFreeSlot, OlderSenderLives}
 use Rattle.model.specs.declared.Answer.the-variants.{Registered, Refused}
-use Rattle.model.specs.Lists.{both, nonEmpty, Each}
+use Rattle.model.specs.Lists.{both, nonEmpty, Each, count}
 use Rattle.model.specs.State.{State, registeredLanes}
 use Rattle.model.specs.Changes.{withFree, withIssued, put, newLane}
 use Rattle.model.specs.Outcome.{Outcome, says, unless}
-use Rattle.model.specs.Order.{InOrder}
-use Rattle.model.specs.Sender.{issueSlot, registerSender}
+use Rattle.model.specs.Sender.{issueSlot}
 use Rattle.model.specs.Viewed.{Viewed, answerOf, viewAfter}
 
 -- ---- the words of the request
@@ -28,7 +27,7 @@ pub record LetPass (s : State) (most : ℕ) : Type 0 where
   pub is-open : s .isOpen ≡ true
   pub below-most : registeredLanes s < most
 
--- Slot x has a living older sender.
+-- Slot x, of the free list, has a living older sender.
 abbrev pub OlderLives : State → ℕ → Type 0
 OlderLives s x = s .slotOf x .living ≡ true
 
@@ -92,10 +91,32 @@ module _ (W : Viewed) where
       (s : W .rules .State) → W .Ok s → let t = W .view s in (most : ℕ) (why : Refusal) → LetPass t most → answerOf W s (Sender (RegisterSender most)) ≡ Refused why
       → NoSlotLeft t
 
+-- ---- the order of the free list
+
+-- Whether a call is a registration.
+unfoldable pub registering : Call → Bool
+registering (Sender (RegisterSender most)) = true
+registering (Sender (TrySend k v)) = false
+registering (Sender (TrySendUnsignaled k v)) = false
+registering (Sender (DropSender k)) = false
+registering (Receive r) = false
+registering (Control c) = false
+
+-- The free list of u is that of s with slots on top of it, none of which has a lane in u.
+pub record OnTop (s u : State) : Type 0 where
+  pub freed : List ℕ
+  pub list : u .free ≡ freed ++ s .free
+  pub retired : Each (λ x. u .slotOf x .registered ≡ false) freed
+
+-- "most recently freed first": what a call frees it puts on top, and the list below stays as it is, in its order, whatever calls come; a drop of a sender moves
+-- no slot. A registration takes one slot out, or none, by the claims above.
+unfoldable pub FreedOnTop : Viewed → Type 0
+FreedOnTop W = (s : W .rules .State) → W .Ok s → (c : Call) → registering c ≡ false → OnTop (W .view s) (viewAfter W s c)
+
 -- ---- what did not change
 
 -- A registration by document 01's words: "the one freed last is issued first, with generation + 1; else the next unused", refused 9 if "the slot due still has
--- a living older sender". The original does this, but for the two refusals.
+-- a living older sender". The original does this, but for refusals 8 and 9, which it lacks.
 unfoldable pub issueFreedLast : List ℕ → State → Outcome
 issueFreedLast [] s = issueSlot [] s
 issueFreedLast (x ∷ f) s =
@@ -122,6 +143,8 @@ pub record PassesOver (s : State) (most : ℕ) : Type 0 where
   pub older-lives : OlderLives s freed-last
   pub some-left : NoSlotLeft s → ⊥
 
--- "A run is held against the Rust only up to the first slot passed over.": a registration that passes none over does what it did by document 01's words.
-abbrev pub ElseAsBefore : Type 0
-ElseAsBefore = (s : State) (most : ℕ) → InOrder s → (PassesOver s most → ⊥) → registerSender s most ≡ registerFreedLast s most
+-- "A run is held against the Rust only up to the first slot passed over.": a registration, by any rule for it, that passes none over does what it did by document
+-- 01's words. "Free slots are distinct" is of its list of a store in order.
+abbrev pub ElseAsBefore : (State → ℕ → Outcome) → Type 0
+ElseAsBefore register =
+    (s : State) (most : ℕ) → ((x : ℕ) → count x (s .free) ≤ 1) → (PassesOver s most → ⊥) → register s most ≡ registerFreedLast s most

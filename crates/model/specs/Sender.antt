@@ -15,7 +15,7 @@ use Rattle.model.specs.Changes.{withFree, withIssued, put, newLane, sign
 use Rattle.model.specs.Outcome.{Outcome, says, unless}
 
 -- Document 02, N4: registration "goes down the free list, most recently freed first, and takes the first slot without a living older sender".
--- The free slots without one, in the list's order. Reading: only a slot from the free list can have an older sender.
+-- The free slots without one, in the list's order. Reading: the next unused slot has none, whatever its words say.
 unfoldable pub clearSlots : State → List ℕ
 clearSlots s = keep (λ x. not (s .slotOf x .living)) (s .free)
 

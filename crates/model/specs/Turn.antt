@@ -10,7 +10,7 @@ use Rattle.model.specs.State.{State, keyOf, releaseBatch}
 use Rattle.model.specs.Changes.{withQueue, withFree, withBudget, put, popped, settledEmpty, retired}
 use Rattle.model.specs.Ready.{collectReadyGroup, collectReady}
 
--- "Slots: the one freed last is issued first", so a retired lane's slot goes to the front of the free list.
+-- "most recently freed first", so a retired lane's slot goes to the front of the free list.
 -- "A slot retired at generation 2^64 - 1 is not freed."
 unfoldable pub retireLane : ℕ → State → State
 retireLane x s =

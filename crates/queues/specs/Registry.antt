@@ -1,4 +1,4 @@
--- The free list: a stack of slot numbers, one place in each row of the table.
+-- The free list: slot numbers, one place in each row of the table, the one freed last at the end.
 -- Assumes nothing.
 use mathlib.Core.List.{List}
 use Prim.Native.Nat.{ℕ, suc, _+_, _-_}

@@ -1,4 +1,4 @@
-// The registry's free list: a stack of slot numbers in the rows of the table store.
+// The registry's free list: slot numbers in the rows of the table store, the one freed last at the end.
 ghost use mathlib.Core.Path.{_≡_};
 ghost use Prim.Native.Nat.{_<_};
 ghost use Rattle.queues.specs.Header.{Shaped, freeCount, slots};

@@ -9,8 +9,7 @@ use borrow.Author.Tests.{eqb-true, eq-eqb}
 use Rattle.model.specs.declared.Call.{Call}
 use Rattle.model.specs.Lists.{Each, count}
 use Rattle.model.specs.Registration.{OlderLives, RegistersInVain, EightExactly, NineExactly}
-use Rattle.demands.proofs.Counting.{equal, other, same?}
-use Rattle.demands.proofs.OrderKept.{first-own, first-other}
+use Rattle.demands.proofs.OrderKept.{first-own, count-rest}
 use Rattle.lane.specs.Table.{laneAt}
 use Rattle.queues.specs.Header.{issued}
 use Rattle.queues.specs.Registry.{freeOf}
@@ -24,10 +23,7 @@ use Rattle.refinement.specs.RegistrationOnWords.{InVain, EightByWords, N
 each-as : (P Q : ℕ → Type 0) (l : List ℕ) → ((x : ℕ) → 1 ≤ count x l → P x → Q x) → Each P l → Each Q l
 unfolding Each
 each-as P Q [] f e = tt
-each-as P Q (y ∷ l) f e = (f y (omega (arith, first-own y l)) (e .0), each-as P Q l (λ x c p. f x (omega (arith, more x)) p) (e .1))
-  where
-    more : (x : ℕ) → count x l ≤ count x (y ∷ l)
-    more x = elim (same? y x) [ equal p b i ↦ rw p (omega (arith, first-own x l)) | other d b i ↦ omega (arith, first-other y x l d) ]
+each-as P Q (y ∷ l) f e = (f y (omega (arith, first-own y l)) (e .0), each-as P Q l (λ x c p. f x (omega (arith, count-rest x y l)) p) (e .1))
 
 module _ (t r : List ℕ) (o : StoreInOrder t r) where
   -- a free slot's older sender

@@ -1,7 +1,7 @@
 -- What specs/RulesOnWords.antt says, of the inner calls and of all that on stores in order are the inner calls: they simulate the rules.
 -- Assumes nothing.
 use mathlib.Core.Bool.{true, false}
-use Rattle.demands.proofs.Carried.{words-events-tell, words-budget-counts-items, words-at-most-64-in-one-turn, words-at-most-64-between-collections, words-ends-with-nothing-left, words-disconnected-exactly, words-retires-empty-paused, words-empty-with-paused-items, words-only-paused-items-left, words-targeted-disconnected-exactly, words-thirteen-exactly, words-else-six-or-accepted, words-idle-only-when-empty, words-closed-signal-kept, words-takes-first-clear, words-takes-next-unused, words-eight-exactly, words-nine-exactly, words-refused-only-in-vain, words-collecting}
+use Rattle.demands.proofs.Carried.{words-events-tell, words-budget-counts-items, words-at-most-64-in-one-turn, words-at-most-64-between-collections, words-ends-with-nothing-left, words-disconnected-exactly, words-retires-empty-paused, words-empty-with-paused-items, words-only-paused-items-left, words-targeted-disconnected-exactly, words-thirteen-exactly, words-else-six-or-accepted, words-idle-only-when-empty, words-closed-signal-kept, words-takes-first-clear, words-takes-next-unused, words-eight-exactly, words-nine-exactly, words-refused-only-in-vain, words-freed-on-top, words-collecting}
 use Rattle.demands.proofs.WhileMarked.{words-at-most-64-while-marked, words-at-most-64-while-marked-in-batch}
 use Rattle.demands.proofs.BudgetAfterNothing.{words-budget-after-nothing, words-budget-as-events-set}
 use Rattle.store.proofs.CollectedView.{view-collect-all, view-collect-group}
@@ -43,6 +43,7 @@ keeps-rules M i =
       eight-by-words = eight-by-words M (words-eight-exactly W sim);
       nine-by-words = nine-by-words M (words-nine-exactly W sim);
       refused-only-in-vain = words-refused-only-in-vain W sim;
+      freed-on-top = words-freed-on-top W sim;
       rings-start-at-first-cursor = rings-start-at-first-cursor M i;
       queued-keys-kept = queued-keys-kept M i;
     }

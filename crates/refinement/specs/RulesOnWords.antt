@@ -1,6 +1,7 @@
 -- Document 01's sentences on order kept, the poll budget, turns of 64, collections, Disconnected and Empty, refusal 13, signals, first cursors and queued keys, and
--- document 02's on registrations (N4), of calls on two stores. Those that the rules have too are crate `model`'s (its specs/Budget.antt, BudgetAfterNothing.antt, OneTurn.antt, Collections.antt,
--- WhileMarked.antt, Disconnected.antt, LaneIds.antt, Signals.antt, Registration.antt, ReceivesEnd.antt), said of the state that the words show; those on words alone are here.
+-- document 02's on registrations and the free list (N4), of calls on two stores. Those that the rules have too are crate `model`'s (its specs/Budget.antt,
+-- BudgetAfterNothing.antt, OneTurn.antt, Collections.antt, WhileMarked.antt, Disconnected.antt, LaneIds.antt, Signals.antt, Registration.antt, ReceivesEnd.antt),
+-- said of the state that the words show; those on words alone are here, and in RegistrationOnWords.antt.
 -- Assumes nothing.
 use mathlib.Core.Path.{_≡_}
 use mathlib.Core.Bool.{Bool, true, false}
@@ -21,7 +22,7 @@ use Rattle.model.specs.Disconnected.{DisconnectedExactly, RetiresEmptyPaused, E
 use Rattle.model.specs.LaneIds.{ThirteenExactly, ElseSixOrAccepted}
 use Rattle.model.specs.ReceivesEnd.{EndsWithNothingLeft}
 use Rattle.model.specs.Signals.{IdleOnlyWhenEmpty, ClosedSignalKept}
-use Rattle.model.specs.Registration.{TakesFirstClear, TakesNextUnused, EightExactly, NineExactly, RefusedOnlyInVain}
+use Rattle.model.specs.Registration.{TakesFirstClear, TakesNextUnused, EightExactly, NineExactly, RefusedOnlyInVain, FreedOnTop}
 use Rattle.lane.specs.Table.{laneAt}
 use Rattle.queues.specs.Queue.{queueOf}
 use Rattle.ready.specs.Ready.{collectReady}
@@ -77,6 +78,7 @@ pub record KeepsRules (M : StoreCalls) : Type 0 where
   pub eight-by-words : EightByWords M
   pub nine-by-words : NineByWords M
   pub refused-only-in-vain : RefusedOnlyInVain (viewedOf M)
+  pub freed-on-top : FreedOnTop (viewedOf M)
   pub rings-start-at-first-cursor : RingsStartAtFirstCursor M
   pub queued-keys-kept : QueuedKeysKept M
 

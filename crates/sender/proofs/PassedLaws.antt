@@ -11,8 +11,7 @@ use lib.Dec.{eqb}
 use lib.ListN.{length, getD, drop}
 use Rattle.model.specs.Lists.{count, keep}
 use Rattle.model.specs.Sender.{clearSlots}
-use Rattle.demands.proofs.Counting.{equal, other, same?}
-use Rattle.demands.proofs.OrderKept.{first-own, first-other}
+use Rattle.demands.proofs.OrderKept.{first-own, count-rest}
 use Rattle.lane.specs.Table.{laneAt}
 use Rattle.queues.specs.Header.{issued, freeCount}
 use Rattle.queues.specs.Registry.{freeOf, freedAt}
@@ -73,11 +72,8 @@ module _ (t r : List ℕ) where
   ahead : (l : List ℕ) → ((y : ℕ) → 1 ≤ count y l → y < issued t) → Ahead l
   unfolding olderAhead keep slotAt
   ahead [] h = none refl refl
-  ahead (x ∷ l) h = go (eqb (laneAt t x .living) 1) refl (ahead l (λ y c. h y (omega (arith, more y))))
+  ahead (x ∷ l) h = go (eqb (laneAt t x .living) 1) refl (ahead l (λ y c. h y (omega (arith, count-rest y x l))))
     where
-      more : (y : ℕ) → count y l ≤ count y (x ∷ l)
-      more y = elim (same? x y) [ equal p e i ↦ rw p (omega (arith, first-own y l)) | other d e i ↦ omega (arith, first-other x y l d) ]
-
       seen : view t r .slotOf x .living ≡ eqb (laneAt t x .living) 1
       seen = rw (slot-in t r x (h x (omega (arith, first-own x l))))
 

@@ -248,6 +248,26 @@ table =
           ∷ (1, registers, Refused NoFreeSlot)
           ∷ [];
     }
+    -- freed is when the lane retires: the order in which the senders are dropped moves no slot
+    ∷ record {
+      capacity = 4;
+      slots = 3;
+      generation = 0;
+      budget = 64;
+      said = (1, registers, lane 0 0)
+          ∷ (1, registers, lane 1 0)
+          ∷ (1, registers, lane 2 0)
+          ∷ (1, closes 1, Done)
+          ∷ (1, closes 0, Done)
+          ∷ (1, closes 2, Done)
+          ∷ (1, drops 2, Done)
+          ∷ (1, drops 1, Done)
+          ∷ (1, drops 0, Done)
+          ∷ (1, registers, lane 2 1)
+          ∷ (1, registers, lane 0 1)
+          ∷ (1, registers, lane 1 1)
+          ∷ [];
+    }
     -- "failing that, the next unused slot": 9 only once there is none; the slot passed over is taken when its sender is gone
     ∷ record {
       capacity = 4;
