@@ -26,16 +26,19 @@
    Keys carry neither channel nor number, and sends and drops go by key: a key of an earlier opening may name a sender of a later one, and is then taken. Keep
    no key over an opening.
 
-   SLOTS. A slot is free from the moment its lane retires: when the lane is closed, or when a receive finds it empty with its sender dropped. (A lane of
-   generation 2^64 - 1 is its slot's last.) A registration goes down the list of free slots, most recently freed first, and takes the first one without a
-   living older sender, with generation + 1; failing that, the next unused slot, with the opening's generation.
+   SLOTS. A slot is free from the moment its lane retires: when the lane is closed, or when a receive finds it empty with its sender dropped. (But a
+   lane of generation 2^64 - 1 is its slot's last: it frees nothing, and the slot is used up.) A registration goes down the list of free slots, most
+   recently freed first, and takes the first one without a living older sender, with generation + 1; failing that, the next unused slot, with the opening's
+   generation.
    So a headbox may be unplugged while its driver still holds the sender. Its lane is closed: the slot is free, and has its place in the list from then on,
    but registrations pass it over until the sender is dropped. They take another free slot or the next unused one, and the slots passed over stay where they
    are. Meanwhile the driver's sends are refused 12; its sender counts as living, so no plain, fair or batch receive answers FANRING_DISCONNECTED. Its drop
-   answers FANRING_DONE. From then on the slot may be taken again in its turn, and sends and drops by the old key are refused 10.
-   Refused 8: no slot is free and none is unused, so a lane has to retire first. Refused 9: slots are free, but each has a living older sender, and none is
-   unused, so one of these senders has to be dropped first. A headbox that is plugged in again before its driver has dropped the old sender needs a second
-   slot: let S be at least the registered lanes and the closed lanes whose senders are still held, taken together. `most` counts registered lanes alone.
+   answers FANRING_DONE. From then on the slot may be taken again in its turn, and sends and drops by the old key are refused 10. A sender is only a key:
+   where a driver never lets go, whoever has the key may drop the sender.
+   Refused 8: no slot is free and none is unused, so one has to be freed first. Refused 9: slots are free, but each has a living older sender, and none is
+   unused, so one of these senders has to be dropped first, or a further slot be freed and its sender dropped. A headbox that is plugged in again before its
+   driver has dropped the old sender needs a second slot: let S be at least, at every moment, the registered lanes, the one to be registered, the closed
+   lanes whose senders are still held, and the slots used up, taken together. `most` counts registered lanes alone.
    A registration takes longer with each slot that it passes over, at most 8,191; one that is refused 9 has looked at every free slot.
 
    SLEEP. No call waits. A send that finds its lane's signal idle answers woken 1: wake the receiver if it sleeps, and do nothing else.
@@ -123,9 +126,9 @@ enum fanring_refusal {
 
 /* ---- Checked calls: any stores, any numbers ---- */
 
-/* Opens a channel on two stores, whatever they hold: a capacity (1 to 65,536, rounded up to a power of two C), slots S (1 to 8,192), a channel id,
-   the cursor and the generation to start with (any number; 0 in the original), and the opening number (any; LANE IDS, above). No sender yet. Opening a used
-   pair starts afresh. Answers FANRING_DONE; or refused 1, 2, 3, 4. */
+/* Opens a channel on two stores, whatever they hold: a capacity (1 to 65,536, rounded up to a power of two C), slots S (1 to 8,192; how many: SLOTS,
+   above), a channel id, the cursor and the generation to start with (any number; 0 in the original), and the opening number (any; LANE IDS, above). No sender
+   yet. Opening a used pair starts afresh. Answers FANRING_DONE; or refused 1, 2, 3, 4. */
 uint64_t fanring_open(
     uint64_t *table, size_t table_len, const uint64_t *rings, size_t rings_len,
     uint64_t capacity, uint64_t slots, uint64_t channel, uint64_t cursor, uint64_t generation, uint64_t number,
@@ -133,7 +136,8 @@ uint64_t fanring_open(
 
 /* Registers a sender with a lane of its own, if fewer than `most` lanes are registered, in the most recently freed slot that has no living older sender,
    with generation + 1; else in the next unused one (SLOTS, above). Answers FANRING_REGISTERED with the lane's key: words[0] slot, words[1] generation; or
-   refused 5, 6, 7, 8, 9. Refused 9: every free slot is of a closed lane whose sender lives, and no slot is unused; drop one of these senders. */
+   refused 5, 6, 7, 8, 9. Refused 9: slots are free, but each is of a closed lane whose sender lives, and none is unused; to drop one of these senders
+   helps. */
 uint64_t fanring_register_sender(
     uint64_t *table, size_t table_len, const uint64_t *rings, size_t rings_len, uint64_t most, uint64_t words[FANRING_WORDS]);
 

@@ -103,7 +103,7 @@ impl Channel {
         self.capacity_per_sender
     }
 
-    /// Return how many lanes there may be at one time.
+    /// Return how many lanes there may be at one time. A lane that was closed takes a slot until its sender is dropped.
     ///
     /// ```
     /// assert_eq!(proved_fanring::channel(4, 2).slots(), 2);

@@ -111,10 +111,11 @@ pub enum TryRegisterBoundedError {
     Disconnected,
     /// As many lanes are registered as the caller allows, or more. Refusal 7.
     AtCapacity,
-    /// No slot is free, and all of the opening's slots have been issued: a lane has to retire first. Refusal 8.
+    /// No slot is free, and all of the opening's slots have been issued: one has to be freed first. Refusal 8.
     NoFreeSlot,
     /// Slots are free, but each has an older sender, whose lane was closed, and which is not dropped yet; and all of the
-    /// opening's slots have been issued. One of these senders has to be dropped first. Refusal 9.
+    /// opening's slots have been issued. One of these senders has to be dropped first, or a further slot be freed and its
+    /// sender dropped. Refusal 9.
     OlderSenderLives,
 }
 

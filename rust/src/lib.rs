@@ -28,6 +28,9 @@
 //! # Ok::<(), Box<dyn std::error::Error>>(())
 //! ```
 //!
+//! `slots`, 2 above, is how many lanes there may be at one time. A lane that was closed takes a slot until its sender is
+//! dropped, and registrations pass that slot over: see [`register_sender`](Channel::register_sender).
+//!
 //! # When a receiver may sleep
 //!
 //! No call waits; a host with threads puts the [`Channel`] behind a lock, and does its own waking.
@@ -100,6 +103,10 @@
 //!   number of other lanes' items (`lanes-wait-bounded`);
 //! - an accepted send says how many further sends its lane takes with no other call between (`free-places-said`), and
 //!   whatever calls come between, none is refused as full before so many more were accepted (`not-full-before`);
+//! - a registration takes the most recently freed slot without a living older sender, else the next unused one; the
+//!   other free slots keep their places (`takes-first-clear`, `takes-next-unused`, `freed-on-top`); and it is refused as
+//!   `NoFreeSlot` or `OlderSenderLives` exactly as the table below says, where 6 and 7 do not apply (`eight-exactly`,
+//!   `nine-exactly`);
 //! - an id with another opening number than the opening's is refused, at every point from an accepted opening on, and
 //!   the id of every item has the opening's (`openings-told-apart`).
 //!
@@ -122,7 +129,7 @@
 //! | 6 | receiver closed | [`ReceiverClosed`]; [`TryRecvError::ReceiverClosed`], [`LaneControlError::ReceiverClosed`], [`TryRegisterBoundedError::Disconnected`] |
 //! | 7 | as many registered lanes as the caller allows, or more | [`TryRegisterBoundedError::AtCapacity`] |
 //! | 8 | no slot free, and none unused | [`TryRegisterBoundedError::NoFreeSlot`] |
-//! | 9 | every free slot has a living older sender, and none is unused | [`TryRegisterBoundedError::OlderSenderLives`] |
+//! | 9 | slots free, but each with a living older sender, and none unused | [`TryRegisterBoundedError::OlderSenderLives`] |
 //! | 10 | no living sender has this key | [`TrySendError::NoSuchSender`], [`NoSuchSender`] |
 //! | 11 | ring full | [`TrySendError::Full`] |
 //! | 12 | lane closed, or the receiver | [`TrySendError::Disconnected`] |

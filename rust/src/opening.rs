@@ -13,6 +13,8 @@ pub const MAX_SLOTS: usize = 8_192;
 
 /// Open a channel with one bounded ring per sender, and room for `slots` lanes at one time.
 ///
+/// A lane that was closed takes a slot until its sender is dropped.
+///
 /// Unlike fanring's, the channel has no sender yet: see [`Channel::register_sender`].
 ///
 /// # Panics
@@ -29,6 +31,8 @@ pub fn channel(capacity_per_sender: usize, slots: usize) -> Channel {
 }
 
 /// Try to open a channel with one bounded ring per sender, and room for `slots` lanes at one time.
+///
+/// A lane that was closed takes a slot until its sender is dropped.
 ///
 /// # Errors
 ///

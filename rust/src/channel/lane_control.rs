@@ -59,7 +59,8 @@ impl Channel {
     ///
     /// Its sender's sends are refused from then on. A sender not dropped yet still counts as living, and must be
     /// dropped: until then [`register_sender`](Self::register_sender) passes the slot over, and untargeted receives do not
-    /// answer [`Disconnected`](crate::TryRecvError::Disconnected).
+    /// answer [`Disconnected`](crate::TryRecvError::Disconnected). A sender is only a key: whoever has it may drop the
+    /// sender, and sends by it are then refused as [`NoSuchSender`](crate::TrySendError::NoSuchSender).
     ///
     /// # Errors
     ///

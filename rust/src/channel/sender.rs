@@ -22,7 +22,7 @@ impl Channel {
     /// [`AtCapacity`](TryRegisterBoundedError::AtCapacity) when the limit is reached,
     /// [`NoFreeSlot`](TryRegisterBoundedError::NoFreeSlot) when no slot is free and none is unused, and
     /// [`OlderSenderLives`](TryRegisterBoundedError::OlderSenderLives) when slots are free, but each has a living older
-    /// sender, and none is unused: drop one of these senders.
+    /// sender, and none is unused: to drop one of these senders helps.
     ///
     /// ```
     /// use proved_fanring::{channel, LaneKey, TryRegisterBoundedError};
