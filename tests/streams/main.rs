@@ -4,7 +4,7 @@
 //!     streams text < FILE        the records of a stored stream
 //!     streams expected < FILE    the lines that it expects
 //!
-//! A stream is a row of openings, each in a style of its own; the first has style SEED modulo the number of styles. The rules run
+//! A stream is a row of openings, each in a style of its own; the first has style SEED modulo the number of those that take turns. The rules run
 //! along, so that a style can aim at a state; on the way their free places are held to the sends that follow, their answers to
 //! ids to the opening's record, and their registrations to the free list before and after.
 //! --slots N makes every opening wide: up to N lanes, for stores that hold them. --deep gives every opening a
@@ -194,7 +194,7 @@ const STYLES: &[Style] = &[
             (Resume, 5), (Close, 2), (Release, 1), (PollAll, 1), (Held, 1), (Stale, 1), (Drain, 1), (Churn, 2), (Zero, 1), (Aim, 2),
         ],
     },
-    // The rest only by name: the streams of a seed stay as they were.
+    // The rest only by name: the styles of a seed stay as they were.
     // Lines longer than their records, so that the replay program's text is full before its buffer is used up.
     Style {
         name: "idle",
@@ -205,8 +205,8 @@ const STYLES: &[Style] = &[
     },
     // Headboxes unplugged, whose drivers hold their senders on: the free list has slots with living older senders and clear ones among each other.
     // Of 100 calls 25 are registrations: 9 pass slots over (7 take a freed slot, mostly below two or more, and 2 an unused one), 7 pass none over, 4 are
-    // refused 9, 3 refused 8 and 2 refused 7; and 11 are sends refused 12. 90 come after their opening's first slot passed over, where the original has no
-    // answer.
+    // refused 9, 3 refused 8 and 2 refused 7; and 11 are sends refused 12. 89 come after their opening's first slot passed over, and the original has no
+    // answer to 98: one opening in eight has a first generation that it lacks, and in others a refusal 8 or 9 comes before.
     Style {
         name: "unplugged",
         capacities: &[1, 2, 4, 8],
@@ -225,11 +225,12 @@ const IN_TURN: usize = STYLES.len() - 2;
 /// `pass_one_in` of openings that the original is compared in.
 const FOR_THE_ORIGINAL: u64 = 300;
 
-/// The free slots, the one freed last first, and whether the older sender of each lives; and how many slots are issued.
-type FreeList = (Vec<(usize, bool)>, usize);
+/// The free slots, the one freed last first, with the generation of each and whether its older sender lives; and how many slots are issued.
+type FreeList = (Vec<(usize, u64, bool)>, usize);
 
 fn free_list(state: &State) -> FreeList {
-    (state.free.iter().rev().map(|&x| (x, state.slots[x].living)).collect(), state.slots.len())
+    let of = |&x: &usize| (x, state.slots[x].generation, state.slots[x].living);
+    (state.free.iter().rev().map(of).collect(), state.slots.len())
 }
 
 struct Stream<W: Write> {
@@ -252,8 +253,9 @@ struct Stream<W: Write> {
     numbered: bool,
     /// The number of the next opening; 0 if they have none.
     next_number: u64,
-    /// Channel and number of the last accepted opening, as its record had them.
+    /// Channel and number of the last accepted opening, as its record had them; and its first generation.
     opened: [u64; 2],
+    first_generation: u64,
     /// Ids of lanes that were registered, of this opening and of earlier ones.
     saved: Vec<[u64; 4]>,
     /// Of so many registrations that would find the older sender of the slot freed last living, one is made as it is.
@@ -282,7 +284,7 @@ impl<W: Write> Stream<W> {
             assert_eq!(refusal, due, "{record:?}: the refusal due to its id");
         }
         match answer {
-            Answer::Done if kind == OPEN => self.opened = [fields[2], fields[5]],
+            Answer::Done if kind == OPEN => (self.opened, self.first_generation) = ([fields[2], fields[5]], fields[4]),
             Answer::Lane(slot, generation) if self.numbered => self.save([self.opened[0], slot, generation, self.opened[1]]),
             _ => {}
         }
@@ -333,19 +335,20 @@ impl<W: Write> Stream<W> {
     }
 
     /// What a registration does, by document 02's sentences (N4) in other words than the rules': a free slot that it takes is clear, and those freed later are
-    /// not; if it takes an unused one, or is refused 9, no free slot is clear; if it is refused 8 none is free. The others stay in their order.
+    /// not, and its generation is one more; if it takes an unused one, which gets the opening's generation, or is refused 9, no free slot is clear; if it is
+    /// refused 8 none is free. The others stay in their order.
     fn hold_to_list(&self, (free, issued): &FreeList, answer: &Answer) {
         let state = self.state();
-        let none_clear = free.iter().all(|&(_, lives)| lives);
-        let taken = if let Answer::Lane(slot, _) = *answer { Some(slot as usize) } else { None };
+        let none_clear = free.iter().all(|&(.., lives)| lives);
+        let taken = if let Answer::Lane(slot, generation) = *answer { Some((slot as usize, generation)) } else { None };
         let right = match (taken, answer) {
-            (Some(x), _) if x == *issued => none_clear,
-            (Some(x), _) => free.iter().find(|&&(y, lives)| y == x || !lives) == Some(&(x, false)),
+            (Some((x, generation)), _) if x == *issued => none_clear && generation == self.first_generation,
+            (Some((x, generation)), _) => free.iter().find(|&&(y, _, lives)| y == x || !lives) == Some(&(x, generation.wrapping_sub(1), false)),
             (None, Answer::Refused(8)) => free.is_empty() && *issued == state.most_slots,
             (None, Answer::Refused(9)) => !free.is_empty() && none_clear && *issued == state.most_slots,
             (None, _) => true,
         };
-        let left = free.iter().map(|&(x, _)| x).filter(|&x| Some(x) != taken);
+        let left = free.iter().map(|&(x, ..)| x).filter(|&x| taken.is_none_or(|(y, _)| x != y));
         assert!(right && left.eq(state.free.iter().rev().copied()), "a registration that finds {free:?} answers {answer}");
     }
 
@@ -1091,6 +1094,7 @@ fn main() -> io::Result<()> {
         numbered,
         next_number: 0,
         opened: [0; 2],
+        first_generation: 0,
         saved: Vec::new(),
         pass_one_in: 1,
     };
