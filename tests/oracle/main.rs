@@ -2,9 +2,12 @@
 //! the published files, unchanged; what they lack is in stubs/ and yring/. tests/build puts the tree together.
 //!
 //! A line `outside` is printed where the original has no answer, and for every later record up to the next opening:
-//! refusals 8 and 9, the subtraction from a zero budget, an opening whose first cursor, generation or number is not 0, a
-//! receive before the first registration, and a registration that passes over a slot: the original takes the slot freed last, whether its older sender
-//! lives or not. With `--go-on` refusals 8 and 9 are `outside` alone: that call is not made, and the run goes on.
+//! refusals 8 and 9, the subtraction from a zero budget, an opening whose first cursor, generation or number is not 0, and a
+//! receive before the first registration.
+//!
+//! So is a registration that by document 02 (N4) passes over a slot: the original takes the slot freed last, whether its older sender lives or not.
+//! With `--ask` the original is asked there all the same, and for refusals 8 and 9; its own answer is printed, and the line is `outside` from the next
+//! record on: tests/oracle/asked.txt.
 
 #[allow(dead_code)]
 mod records;
@@ -61,6 +64,8 @@ struct Channel {
     senders: Vec<Option<Sender<Item>>>,
     /// By slot: accepted sends less items handed out.
     held: Vec<u64>,
+    /// `--ask`
+    ask: bool,
 }
 
 enum State {
@@ -69,14 +74,14 @@ enum State {
     Outside,
 }
 
-/// What a call comes to: an answer, or why the original has none.
+/// What a call comes to: an answer; one that is the last up to the next opening; or none of the original's.
 enum Reply {
     Answer(Answer),
-    PlusRefusal,
+    Last(Answer),
     Beyond,
 }
 
-use Reply::{Beyond, PlusRefusal};
+use Reply::{Beyond, Last};
 
 fn say(answer: Answer) -> Reply {
     Reply::Answer(answer)
@@ -87,7 +92,7 @@ fn refuse(number: u64) -> Reply {
 }
 
 impl Channel {
-    fn new(capacity: u64, slots: u64, channel: u64) -> Self {
+    fn new(capacity: u64, slots: u64, channel: u64, ask: bool) -> Self {
         let (sender, receiver) = mpsc::channel(capacity as usize);
         Self {
             slots: slots as usize,
@@ -97,10 +102,21 @@ impl Channel {
             first: Some(sender),
             senders: Vec::new(),
             held: Vec::new(),
+            ask,
         }
     }
 
+    /// Whether a registration gets the original's slot by document 02 (N4) too, once 6 and 7 do not apply: "goes down the free list, most recently freed
+    /// first, and takes the first slot without a living older sender; failing that, the next unused slot". With neither it is refused 8 or 9.
+    fn takes_the_same_slot(&self) -> bool {
+        let (free, unused) = self.shared.due_slots();
+        let clear = free.iter().rev().find(|&&slot| self.senders[slot].is_none());
+        let due = clear.copied().or((unused < self.slots).then_some(unused));
+        due == Some(*free.last().unwrap_or(&unused))
+    }
+
     fn register(&mut self, most: u64) -> Reply {
+        let mut the_same = true;
         let sender = match self.first.take() {
             // The constructor's own registration: refusals 6 and 7 are the driver's.
             Some(sender) if self.receiver.is_none() || most == 0 => {
@@ -111,15 +127,9 @@ impl Channel {
             None => {
                 let most = most as usize;
                 if self.shared.would_register(most) {
-                    let (free, unused) = self.shared.due_slots();
-                    let clear = |&slot: &usize| self.senders[slot].is_none();
-                    let used_up = unused >= self.slots;
-                    match free.last() {
-                        // Refusal 8.
-                        None if used_up => return PlusRefusal,
-                        // Refusal 9, if there is no slot to pass on to.
-                        Some(last) if !clear(last) => return if used_up && !free.iter().any(clear) { PlusRefusal } else { Beyond },
-                        _ => {}
+                    the_same = self.takes_the_same_slot();
+                    if !the_same && !self.ask {
+                        return Beyond;
                     }
                 }
                 match self.shared.register(most) {
@@ -137,7 +147,9 @@ impl Channel {
         }
         self.senders[slot] = Some(sender);
         self.held[slot] = 0;
-        say(Answer::Lane(slot as u64, lane.generation() as u64))
+        let answer = Answer::Lane(slot as u64, lane.generation() as u64);
+        // Asked all the same, the original goes where the driver, with one sender to a slot, does not follow.
+        if the_same { say(answer) } else { Last(answer) }
     }
 
     /// The place of the living sender with this key.
@@ -323,7 +335,7 @@ fn guarded<R>(
     })
 }
 
-fn answer(state: &mut State, record: &Record, lent: &Lent, go_on: bool) -> Answer {
+fn answer(state: &mut State, record: &Record, lent: &Lent, ask: bool) -> Answer {
     if record.kind == records::OPEN {
         let [capacity, slots, channel, cursor, generation, number] = record.fields;
         if capacity == 0 || capacity > 65_536 {
@@ -339,7 +351,7 @@ fn answer(state: &mut State, record: &Record, lent: &Lent, go_on: bool) -> Answe
             return Answer::Refused(4);
         }
         *state = if [cursor, generation, number] == [0; 3] {
-            State::Open(Box::new(Channel::new(capacity, slots, channel)))
+            State::Open(Box::new(Channel::new(capacity, slots, channel, ask)))
         } else {
             State::Outside
         };
@@ -352,8 +364,11 @@ fn answer(state: &mut State, record: &Record, lent: &Lent, go_on: bool) -> Answe
     };
     match channel.reply(record, lent.output) {
         Reply::Answer(answer) => answer,
-        PlusRefusal if go_on => Answer::Outside,
-        PlusRefusal | Beyond => {
+        Last(answer) => {
+            *state = State::Outside;
+            answer
+        }
+        Beyond => {
             *state = State::Outside;
             Answer::Outside
         }
@@ -362,16 +377,16 @@ fn answer(state: &mut State, record: &Record, lent: &Lent, go_on: bool) -> Answe
 
 fn main() -> std::io::Result<()> {
     let (lent, others) = Lent::from_arguments(std::env::args().skip(1));
-    let go_on = others == ["--go-on"];
-    if !go_on && !others.is_empty() {
-        panic!("options: --go-on, --rings N, --table N, --output N");
+    let ask = others == ["--ask"];
+    if !ask && !others.is_empty() {
+        panic!("options: --ask, --rings N, --table N, --output N");
     }
     panic::set_hook(Box::new(|info| {
         *PANIC.lock().expect("not poisoned") = info.to_string();
     }));
     let mut state = State::Unopened;
     let result = panic::catch_unwind(AssertUnwindSafe(|| {
-        records::answer_all(|record| answer(&mut state, record, &lent, go_on))
+        records::answer_all(|record| answer(&mut state, record, &lent, ask))
     }));
     result.unwrap_or_else(|_| {
         eprintln!("panic: {}", PANIC.lock().expect("not poisoned"));
