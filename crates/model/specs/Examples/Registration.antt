@@ -265,11 +265,13 @@ not-passed-at = (
         let f : oneClear .slotOf 0 .living ≡ true = subst (λ (y : ℕ). oneClear .slotOf y .living ≡ true) (sym same) h in
         let z : _≡_ {A = ℕ} 0 1 = cc in omega arith
 
--- by any rule for registrations: the whole outcome where none is passed over
-before-forced : (register : State → ℕ → Outcome) → ElseAsBefore register
-    → register oneClear 2 ≡ ([], (lane 0 1, withFree [] (put 0 (newLane 1 (oneClear .slotOf 0)) oneClear)))
+-- by any rule for registrations: the answer and what is left where none is passed over
+before-forced : (register : State → ℕ → Outcome) → ElseAsBefore register → let o = register oneClear 2 in
+    (o .1 .0 ≡ lane 0 1) × (o .1 .1 .free ≡ []) × (o .1 .1 .slotOf 0 .registered ≡ true) × (o .1 .1 .slotOf 1 .registered ≡ true)
 unfolding computeStates oneClear
-before-forced register claim = claim oneClear 2 distinct (not-passed-at .3)
+before-forced register claim =
+    let e = claim oneClear 2 distinct (not-passed-at .3) in
+    (ap (λ (o : Outcome). o .1 .0) e, ap (λ (o : Outcome). o .1 .1 .free) e, ap (λ (o : Outcome). o .1 .1 .slotOf 0 .registered) e, ap (λ (o : Outcome). o .1 .1 .slotOf 1 .registered) e)
 
 -- document 01's registration: refused 9 where a slot is passed over now; else the one freed last, which leaves the list
 before : ((registerFreedLast (twoToPass 5) 2) .1 .0 ≡ Refused OlderSenderLives) × ((registerFreedLast (afterList theRules (twoToPass 5) (drops 3 ∷ [])) 2) .1 .0 ≡ lane 3 1)
