@@ -8,7 +8,7 @@ use Rattle.model.specs.declared.LaneKey.{LaneKey}
 use Rattle.model.specs.declared.Refusal.{Refusal}
 use Rattle.model.specs.declared.Refusal.the-variants.{CapacityOutOfRange, SlotsOutOfRange, RingStoreShort, TableStoreShort, StoreNotInOrder, ReceiverClosed, AtCapacity, NoFreeSlot, OlderSenderLives, NoSuchSender, LaneClosed, Full, OutputShort, NoSuchLane, Malformed}
 use Rattle.model.specs.declared.Answer.{Answer}
-use Rattle.model.specs.declared.Answer.the-variants.{Done, Registered, Taken, Item, Items, Empty, Disconnected, Held, Refused}
+use Rattle.model.specs.declared.Answer.the-variants.{Done, Registered, Taken, Item, Items, Stopped, Empty, Disconnected, Held, Refused}
 
 -- "| Place, in this order | No. | When, and only then |"
 unfoldable pub number : Refusal → ℕ
@@ -43,14 +43,15 @@ number NoSuchLane = 13
 -- "malformed record; it stops"
 number Malformed = 15
 
--- The words that stand first on the lines of "Replay program".
+-- The words that stand on the lines of "Replay program": `stopped` last, the others first.
 pub data Word : Type 0 where
-  done lane taken item items empty disconnected held refused : Word
+  done lane taken item items empty disconnected held refused stopped : Word
 
--- A line: its word, and the numbers after it.
+-- A line: its word, the numbers after it, and the words after them.
 pub record Line : Type 0 where
   pub word : Word
   pub numbers : List ℕ
+  pub after : List Word
 
 -- "woken: 1 or 0"
 abbrev pub bit : Bool → ℕ
@@ -60,18 +61,20 @@ bit false = 0
 -- The line of an answer; `out` is the output as the call leaves it.
 unfoldable pub line : Answer → List ℕ → Line
 -- "Calls without a value print `done`."
-line Done out = record { word = done; numbers = [] }
+line Done out = record { word = done; numbers = []; after = [] }
 -- "`lane 0 0` (slot, generation)"
-line (Registered k) out = record { word = lane; numbers = k .slot ∷ k .generation ∷ [] }
+line (Registered k) out = record { word = lane; numbers = k .slot ∷ k .generation ∷ []; after = [] }
 -- "`taken W F`, W as before and F that number" (document 02, N1); before: "`taken 1` (woken: 1 or 0; unsignalled always 0)"
-line (Taken w f) out = record { word = taken; numbers = bit w ∷ f ∷ [] }
+line (Taken w f) out = record { word = taken; numbers = bit w ∷ f ∷ []; after = [] }
 -- "`item 11 0 0` (item, key)"
-line (Item v i) out = record { word = item; numbers = v ∷ i .key .slot ∷ i .key .generation ∷ [] }
+line (Item v i) out = record { word = item; numbers = v ∷ i .key .slot ∷ i .key .generation ∷ []; after = [] }
 -- "`items N` and the N values on that line"
-line (Items n) out = record { word = items; numbers = n ∷ take n out }
+line (Items n) out = record { word = items; numbers = n ∷ take n out; after = [] }
+-- Document 02, N2: "the line `items N` followed by the items and `stopped` where it was"
+line (Stopped n) out = record { word = items; numbers = n ∷ take n out; after = stopped ∷ [] }
 -- "`empty`", "`disconnected`"
-line Empty out = record { word = empty; numbers = [] }
-line Disconnected out = record { word = disconnected; numbers = [] }
+line Empty out = record { word = empty; numbers = []; after = [] }
+line Disconnected out = record { word = disconnected; numbers = []; after = [] }
 -- "`held N`; `refused N`"
-line (Held n) out = record { word = held; numbers = n ∷ [] }
-line (Refused r) out = record { word = refused; numbers = number r ∷ [] }
+line (Held n) out = record { word = held; numbers = n ∷ []; after = [] }
+line (Refused r) out = record { word = refused; numbers = number r ∷ []; after = [] }

@@ -7,7 +7,7 @@ use Prim.Native.Nat.{ℕ, _+_, _-_, _≤_}
 use lib.ListN.{length}
 use Rattle.model.specs.declared.Opening.{Opening}
 use Rattle.model.specs.declared.ReceiveCall.{ReceiveCall}
-use Rattle.model.specs.declared.ReceiveCall.the-variants.{TryRecv, TryRecvFair, TryRecvFrom, TryRecvBatchInto}
+use Rattle.model.specs.declared.ReceiveCall.the-variants.{TryRecv, TryRecvFair, TryRecvFrom, TryRecvBatchInto, TryRecvBatchIntoWhile}
 use Rattle.model.specs.declared.Call.{Call}
 use Rattle.model.specs.declared.Call.the-variants.{Receive}
 use Rattle.model.specs.declared.Answer.the-variants.{Done}
@@ -43,6 +43,7 @@ isTargeted (TryRecvFrom i) = true
 isTargeted TryRecv = false
 isTargeted TryRecvFair = false
 isTargeted (TryRecvBatchInto limit room) = false
+isTargeted (TryRecvBatchIntoWhile limit bound room) = false
 
 -- The items of a call's events are the items that it hands out, lane by lane and in order, and so are as many.
 -- "Targeted: counts in neither burst nor budget": its events have no item.

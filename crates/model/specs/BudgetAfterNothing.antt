@@ -7,12 +7,14 @@ use mathlib.Core.List.{List, [], _∷_}
 use Prim.Native.Nat.{ℕ, zero, suc}
 use lib.Dec.{leb}
 use Rattle.model.specs.declared.ReceiveCall.{ReceiveCall}
-use Rattle.model.specs.declared.ReceiveCall.the-variants.{TryRecv, TryRecvFair, TryRecvFrom, TryRecvBatchInto}
+use Rattle.model.specs.declared.ReceiveCall.the-variants.{TryRecv, TryRecvFair, TryRecvFrom, TryRecvBatchInto, TryRecvBatchIntoWhile}
 use Rattle.model.specs.declared.Call.the-variants.{Receive}
 use Rattle.model.specs.Lists.{if}
 use Rattle.model.specs.State.{State}
 use Rattle.model.specs.Ready.{collectReady}
+use Rattle.model.specs.Turn.{refill}
 use Rattle.model.specs.Runs.{accepted}
+use Rattle.model.specs.Stretch.{saysStopped}
 use Rattle.model.specs.Events.{Event, budgetSet, collected, noneMarked, foundEmpty, itemTaken, wentToBack, callEvents, countEvents}
 use Rattle.model.specs.Viewed.{Viewed}
 
@@ -37,9 +39,11 @@ budgetLeft s TryRecv = budgetLeftBy (s .budget) (s .queue) ((collectReady s) .qu
 budgetLeft s TryRecvFair = 64
 budgetLeft s (TryRecvBatchInto zero room) = s .budget
 budgetLeft s (TryRecvBatchInto (suc n) room) = budgetLeftBy (s .budget) (s .queue) ((collectReady s) .queue)
+budgetLeft s (TryRecvBatchIntoWhile zero bound room) = s .budget
+budgetLeft s (TryRecvBatchIntoWhile (suc n) bound room) = budgetLeftBy (s .budget) (s .queue) ((collectReady s) .queue)
 budgetLeft s (TryRecvFrom i) = s .budget
 
--- A receive that is not refused hands out nothing: those that answer Empty or Disconnected, and a batch of limit 0.
+-- A receive that is not refused hands out nothing: those that answer Empty or Disconnected, a batch of limit 0, and one that stops at count 0.
 pub record HandsNothing (W : Viewed) (w : W .rules .State) (r : ReceiveCall) : Type 0 where
   pub in-order : W .Ok w
   pub no-item : W .rules .hands w r ≡ []
@@ -48,8 +52,14 @@ pub record HandsNothing (W : Viewed) (w : W .rules .State) (r : ReceiveCall) : T
 -- "a call that answers Empty or Disconnected leaves the Rust's budget"
 unfoldable pub BudgetAfterNothing : Viewed → Type 0
 BudgetAfterNothing W =
-    (w : W .rules .State) (r : ReceiveCall) → HandsNothing W w r
+    (w : W .rules .State) (r : ReceiveCall) → HandsNothing W w r → saysStopped ((W .rules .step w (Receive r)) .0) ≡ false
     → W .view ((W .rules .step w (Receive r)) .1) .budget ≡ budgetLeft (W .view w) r
+
+-- Document 02, N2: a stop at count 0 leaves a budget of 0 at 64, as an item's turn would find it, and any other as it was.
+unfoldable pub BudgetAfterStop : Viewed → Type 0
+BudgetAfterStop W =
+    (w : W .rules .State) (r : ReceiveCall) → HandsNothing W w r → saysStopped ((W .rules .step w (Receive r)) .0) ≡ true
+    → W .view ((W .rules .step w (Receive r)) .1) .budget ≡ refill (W .view w .budget)
 
 -- ---- by what happens
 
@@ -62,7 +72,7 @@ setsBudget (itemTaken j) = false
 setsBudget (wentToBack j) = false
 
 -- The budget is 64 if one of the call's events sets it, and else as it was. Where nothing is handed out, these events are of a fair receive,
--- or of "a non-empty queue [that] met a budget of 0, before the poll loop or in it" (`collectIfDueEvents`, `beforeNextTurnEvents` in Events.antt).
+-- of "a non-empty queue [that] met a budget of 0, before the poll loop or in it" (`collectIfDueEvents`, `beforeNextTurnEvents` in Events.antt), or of a stop.
 unfoldable pub BudgetAsEventsSet : Viewed → Type 0
 BudgetAsEventsSet W =
     (w : W .rules .State) (r : ReceiveCall) → HandsNothing W w r

@@ -9,12 +9,12 @@ use Rattle.model.specs.declared.LaneKey.{LaneKey}
 use Rattle.model.specs.declared.Opening.{Opening}
 use Rattle.model.specs.declared.SenderCall.the-variants.{RegisterSender, TrySend, TrySendUnsignaled, DropSender}
 use Rattle.model.specs.declared.ReceiveCall.{ReceiveCall}
-use Rattle.model.specs.declared.ReceiveCall.the-variants.{TryRecv, TryRecvFair, TryRecvFrom, TryRecvBatchInto}
+use Rattle.model.specs.declared.ReceiveCall.the-variants.{TryRecv, TryRecvFair, TryRecvFrom, TryRecvBatchInto, TryRecvBatchIntoWhile}
 use Rattle.model.specs.declared.ControlCall.the-variants.{Pause, Resume, CloseLane, ReleaseConsumed, PollAllLanes, CloseReceiver, CountHeld}
 use Rattle.model.specs.declared.Call.{Call}
 use Rattle.model.specs.declared.Call.the-variants.{Sender, Receive, Control}
 use Rattle.model.specs.declared.Answer.{Answer}
-use Rattle.model.specs.declared.Answer.the-variants.{Done, Registered, Taken, Item, Items, Empty, Disconnected, Held, Refused}
+use Rattle.model.specs.declared.Answer.the-variants.{Done, Registered, Taken, Item, Items, Stopped, Empty, Disconnected, Held, Refused}
 use Rattle.model.specs.Lists.{if, both}
 use Rattle.model.specs.Runs.{Rules, RunsOf, allRuns, accepted, Tick, gives, ends, trace, afterList, sameKey, countTicks}
 
@@ -72,6 +72,7 @@ Demand2 R ring = Demand2In R (allRuns R) ring
 unfoldable pub Tells : Answer → List (LaneKey × ℕ) → Type 0
 Tells (Item v i) l = l ≡ (i .key, v) ∷ []
 Tells (Items n) l = length l ≡ n
+Tells (Stopped n) l = length l ≡ n
 Tells Done l = l ≡ []
 Tells (Registered k) l = l ≡ []
 Tells (Taken w f) l = l ≡ []
@@ -89,6 +90,7 @@ pub record OutputInOrder (n : ℕ) (l : List (LaneKey × ℕ)) (out now : List �
 -- Every answer but that of a batch with items leaves the output: "a refusal leaves state, both stores and the output unchanged".
 unfoldable pub Writes : Answer → List (LaneKey × ℕ) → List ℕ → List ℕ → Type 0
 Writes (Items n) l out now = OutputInOrder n l out now
+Writes (Stopped n) l out now = OutputInOrder n l out now
 Writes (Item v i) l out now = now ≡ out
 Writes Done l out now = now ≡ out
 Writes (Registered k) l out now = now ≡ out
@@ -105,6 +107,7 @@ pub record AsAnswered (a : Answer) (l : List (LaneKey × ℕ)) (out now : List �
 -- The output that a batch is lent has the length that the call gives as its room.
 unfoldable pub HasRoom : ReceiveCall → List ℕ → Type 0
 HasRoom (TryRecvBatchInto limit room) out = length out ≡ room
+HasRoom (TryRecvBatchIntoWhile limit bound room) out = length out ≡ room
 HasRoom TryRecv out = Unit {0}
 HasRoom TryRecvFair out = Unit {0}
 HasRoom (TryRecvFrom i) out = Unit {0}

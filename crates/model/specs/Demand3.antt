@@ -10,7 +10,7 @@ use Rattle.model.specs.declared.Call.{Call}
 use Rattle.model.specs.declared.Answer.the-variants.{Done}
 use Rattle.model.specs.Runs.{Rules, RunsOf, allRuns, Tick, trace, sameKey, countTicks, ofLane}
 use Rattle.model.specs.Ledger.{Ledger, atOpening, ledgerAfter, waits}
-use Rattle.model.specs.Stretch.{stretch, looksInVain, untargetedOfOther, notFair, mostLive, groupsAt}
+use Rattle.model.specs.Stretch.{stretch, looksInVain, untargetedOfOther, notFair, stopped, mostLive, groupsAt}
 
 -- "64 × (G + R - 1)"
 unfoldable pub bound : ℕ → ℕ → ℕ
@@ -34,6 +34,16 @@ Demand3In R runs =
     → (calls : List Call) → runs o lent calls
     → (before rest : List Tick) → trace R ((R .opens o lent) .1) calls ≡ before ++ rest
     → (k : LaneKey) → waits k (ledgerAfter atOpening before) ≡ true
+    → Promise k (ledgerAfter atOpening before) (stretch k rest)
+
+-- Document 02, N2: "demand 3's bounds cover stretches in which no batch was stopped". Demand 3 as it stands above covers the others too, and so says more.
+unfoldable pub Demand3UnstoppedIn : (R : Rules) → RunsOf R → Type 0
+Demand3UnstoppedIn R runs =
+    (o : Opening) (lent : R .Stores) → (R .opens o lent) .0 ≡ Done
+    → (calls : List Call) → runs o lent calls
+    → (before rest : List Tick) → trace R ((R .opens o lent) .1) calls ≡ before ++ rest
+    → (k : LaneKey) → waits k (ledgerAfter atOpening before) ≡ true
+    → countTicks stopped (stretch k rest) ≡ 0
     → Promise k (ledgerAfter atOpening before) (stretch k rest)
 
 unfoldable pub Demand3 : Rules → Type 0

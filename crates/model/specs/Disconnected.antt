@@ -16,7 +16,7 @@ use Rattle.model.specs.declared.Answer.the-variants.{Done, Empty, Discon
 use Rattle.model.specs.State.{Slot, State, hasLaneId}
 use Rattle.model.specs.Runs.{accepted}
 use Rattle.model.specs.Viewed.{Viewed, openingAnswer, stateAfterRun, itemsOf, answerOf, viewAfter}
-use Rattle.model.specs.Stretch.{looks}
+use Rattle.model.specs.Stretch.{looks, saysStopped}
 
 -- ---- of the rules' states
 
@@ -69,6 +69,11 @@ module _ (W : Viewed) where
     pub no-sender : NoSenderLives (viewAfter W s (Receive r))
     pub no-lane : NoLaneRegistered (viewAfter W s (Receive r))
 
+  -- Nothing is handed out, and not because of a stop. Document 02, N2: "A stop at count 0 is never Empty", and it retires no paused lane.
+  pub record FindsNone (s : W .rules .State) (r : ReceiveCall) : Type 0 where
+    pub no-item : itemsOf W s r ≡ []
+    pub not-stopped : saysStopped (answerOf W s (Receive r)) ≡ false
+
   -- "Disconnected: no living sender and no registered lane": then, and only then.
   unfoldable pub DisconnectedExactly : Type 0
   DisconnectedExactly =
@@ -78,13 +83,13 @@ module _ (W : Viewed) where
   -- "after empty paused lanes are retired"
   unfoldable pub RetiresEmptyPaused : Type 0
   RetiresEmptyPaused =
-      (s : W .rules .State) (r : ReceiveCall) → Looks s r → itemsOf W s r ≡ [] → NoSenderLives (viewAfter W s (Receive r))
+      (s : W .rules .State) (r : ReceiveCall) → Looks s r → FindsNone s r → NoSenderLives (viewAfter W s (Receive r))
       → EmptyOnesRetired (W .view s) (viewAfter W s (Receive r))
 
   -- "With no living sender but a paused lane holding items: Empty."
   unfoldable pub EmptyWithPausedItems : Type 0
   EmptyWithPausedItems =
-      (s : W .rules .State) (r : ReceiveCall) → Looks s r → itemsOf W s r ≡ [] → NoSenderLives (viewAfter W s (Receive r))
+      (s : W .rules .State) (r : ReceiveCall) → Looks s r → FindsNone s r → NoSenderLives (viewAfter W s (Receive r))
       → (x : ℕ) → let l = W .view s .slotOf x in l .registered ≡ true → l .paused ≡ true → l .ring ≢ []
       → (answerOf W s (Receive r) ≡ Empty) × SameLane l (viewAfter W s (Receive r) .slotOf x)
 
@@ -95,7 +100,7 @@ module _ (W : Viewed) where
       (o : Opening) (lent : W .rules .Stores) → openingAnswer W o lent ≡ Done
       → (calls : List Call) → W .runs o lent calls
       → (s : W .rules .State) → stateAfterRun W o lent calls ≡ s
-      → (r : ReceiveCall) → Looks s r → itemsOf W s r ≡ [] → NoSenderLives (viewAfter W s (Receive r))
+      → (r : ReceiveCall) → Looks s r → FindsNone s r → NoSenderLives (viewAfter W s (Receive r))
       → (x : ℕ) → viewAfter W s (Receive r) .slotOf x .registered ≡ true → PausedWithItems (viewAfter W s (Receive r) .slotOf x)
 
   -- A targeted receive answers Disconnected exactly if its lane is known, empty, and its sender dropped.

@@ -6,7 +6,7 @@ use mathlib.Core.List.{List, [], _∷_, _++_}
 use Prim.Native.Nat.{_+_, _≤_}
 use Rattle.model.specs.declared.LaneKey.{LaneKey}
 use Rattle.model.specs.declared.Opening.{Opening}
-use Rattle.model.specs.declared.ReceiveCall.the-variants.{TryRecv, TryRecvFair, TryRecvFrom, TryRecvBatchInto}
+use Rattle.model.specs.declared.ReceiveCall.the-variants.{TryRecv, TryRecvFair, TryRecvFrom, TryRecvBatchInto, TryRecvBatchIntoWhile}
 use Rattle.model.specs.declared.Call.{Call}
 use Rattle.model.specs.declared.Answer.the-variants.{Done}
 use Rattle.model.specs.Lists.{both, either}
@@ -21,6 +21,7 @@ outOfTurn a b (gives TryRecvFair j v) = false
 outOfTurn a b (gives (TryRecvFrom i) j v) = either (sameKey (i .key) a) (sameKey (i .key) b)
 outOfTurn a b (gives TryRecv j v) = true
 outOfTurn a b (gives (TryRecvBatchInto limit room) j v) = true
+outOfTurn a b (gives (TryRecvBatchIntoWhile limit bound room) j v) = true
 outOfTurn a b (ends c x) = false
 
 -- p holds just before each thing in a list happens, as "never without" asks. What the last one leaves is not asked.

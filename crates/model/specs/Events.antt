@@ -4,11 +4,12 @@
 use mathlib.Core.Bool.{Bool, true, false}
 use mathlib.Core.List.{List, [], _∷_, _++_}
 use Prim.Native.Nat.{ℕ, zero, suc, _+_}
-use lib.Dec.{leb}
+use lib.ListN.{length}
+use lib.Dec.{leb, ltb}
 use Rattle.model.specs.declared.LaneKey.{LaneKey}
 use Rattle.model.specs.declared.Opening.{Opening}
 use Rattle.model.specs.declared.ReceiveCall.{ReceiveCall}
-use Rattle.model.specs.declared.ReceiveCall.the-variants.{TryRecv, TryRecvFair, TryRecvFrom, TryRecvBatchInto}
+use Rattle.model.specs.declared.ReceiveCall.the-variants.{TryRecv, TryRecvFair, TryRecvFrom, TryRecvBatchInto, TryRecvBatchIntoWhile}
 use Rattle.model.specs.declared.Call.{Call}
 use Rattle.model.specs.declared.Call.the-variants.{Sender, Receive, Control}
 use Rattle.model.specs.Lists.{if, either, nonEmpty, keep, from}
@@ -16,6 +17,7 @@ use Rattle.model.specs.State.{State, keyOf}
 use Rattle.model.specs.Changes.{withBudget}
 use Rattle.model.specs.Ready.{collectReady}
 use Rattle.model.specs.Turn.{settleEmpty, beforeNextTurn, runDown, collectIfDue, polled, takeOne}
+use Rattle.model.specs.Receive.{takeUpTo, admitted}
 use Rattle.model.specs.Runs.{accepted, sameKey}
 use Rattle.model.specs.Rules.{outcome}
 use Rattle.model.specs.Viewed.{Viewed}
@@ -114,6 +116,16 @@ unfoldable pub takeUpToEvents : ℕ → State → List Event
 takeUpToEvents zero s = []
 takeUpToEvents (suc m) s = let t = takeOne s in takeOneEvents s ++ andMoreEvents (t .0) (takeUpToEvents m (t .1))
 
+-- Document 02, N2: "it stops in front of the first item not admitted, after any collection due there": n items, the poll, and a budget of 0 set to 64.
+unfoldable pub haltedEvents : ℕ → State → List Event
+haltedEvents n s = let u = (takeUpTo n s) .1 in takeUpToEvents n s ++ (polledEvents u ++ refillEvents ((polled u) .budget))
+
+unfoldable pub takeWhileEvents : ℕ → ℕ → State → List Event
+takeWhileEvents bound limit s =
+    let l = (takeUpTo limit s) .0 in
+    let n = admitted bound l in
+    if (ltb n (length l)) (haltedEvents n s) (takeUpToEvents limit s)
+
 -- "Targeted: counts in neither burst nor budget". A lane that it finds empty settles.
 unfoldable pub takeFromEvents : List ℕ → ℕ → State → List Event
 takeFromEvents [] x s = foundEmpty (keyOf s x) ∷ []
@@ -124,6 +136,7 @@ receiveEvents s TryRecv = takeOneEvents s
 receiveEvents s TryRecvFair = takeFairEvents s
 receiveEvents s (TryRecvFrom i) = takeFromEvents (s .slotOf (i .key .slot) .ring) (i .key .slot) s
 receiveEvents s (TryRecvBatchInto limit room) = takeUpToEvents limit s
+receiveEvents s (TryRecvBatchIntoWhile limit bound room) = takeWhileEvents bound limit s
 
 -- The events of a call. One that is refused has none: "a refusal leaves state, both stores and the output unchanged".
 unfoldable pub callEvents : State → Call → List Event

@@ -3,6 +3,7 @@
 pub mod Pairs
 pub mod Answers
 pub mod Example
+pub mod Stops
 pub mod Table
 pub mod Calls
 pub mod Ready

@@ -13,7 +13,7 @@ use Rattle.model.specs.declared.Call.{Call}
 use Rattle.model.specs.declared.Call.the-variants.{Sender}
 use Rattle.model.specs.declared.Refusal.the-variants.{Full}
 use Rattle.model.specs.declared.Answer.{Answer}
-use Rattle.model.specs.declared.Answer.the-variants.{Done, Registered, Taken, Item, Items, Empty, Disconnected, Held, Refused}
+use Rattle.model.specs.declared.Answer.the-variants.{Done, Registered, Taken, Item, Items, Stopped, Empty, Disconnected, Held, Refused}
 use Rattle.model.specs.Runs.{Rules, RunsOf, allRuns, Tick, ends, trace, afterList}
 use Rattle.model.specs.Opening.{nextPowerOfTwo}
 use Rattle.model.specs.Demand2.{values, into}
@@ -34,6 +34,7 @@ takenWith n Done = false
 takenWith n (Registered k) = false
 takenWith n (Item v i) = false
 takenWith n (Items m) = false
+takenWith n (Stopped m) = false
 takenWith n Empty = false
 takenWith n Disconnected = false
 takenWith n (Held m) = false

@@ -9,7 +9,7 @@ use Rattle.model.specs.declared.LaneKey.{LaneKey}
 use Rattle.model.specs.declared.Opening.{Opening}
 use Rattle.model.specs.declared.Call.{Call}
 use Rattle.model.specs.declared.Answer.{Answer}
-use Rattle.model.specs.declared.Answer.the-variants.{Done, Registered, Taken, Item, Items, Empty, Disconnected, Held, Refused}
+use Rattle.model.specs.declared.Answer.the-variants.{Done, Registered, Taken, Item, Items, Stopped, Empty, Disconnected, Held, Refused}
 use Rattle.model.specs.Runs.{Rules, RunsOf, allRuns, Tick, gives, ends, trace, afterList, sameKey, countTicks}
 use Rattle.model.specs.Ledger.{atOpening, ledgerAfter}
 
@@ -20,6 +20,7 @@ registersAs p Done = false
 registersAs p (Taken w f) = false
 registersAs p (Item v i) = false
 registersAs p (Items n) = false
+registersAs p (Stopped n) = false
 registersAs p Empty = false
 registersAs p Disconnected = false
 registersAs p (Held n) = false

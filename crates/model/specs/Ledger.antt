@@ -9,7 +9,7 @@ use Rattle.model.specs.declared.ControlCall.the-variants.{Pause, Resume,
 use Rattle.model.specs.declared.Call.{Call}
 use Rattle.model.specs.declared.Call.the-variants.{Sender, Receive, Control}
 use Rattle.model.specs.declared.Answer.{Answer}
-use Rattle.model.specs.declared.Answer.the-variants.{Done, Registered, Taken, Item, Items, Empty, Disconnected, Held, Refused}
+use Rattle.model.specs.declared.Answer.the-variants.{Done, Registered, Taken, Item, Items, Stopped, Empty, Disconnected, Held, Refused}
 use Rattle.model.specs.Lists.{if, both, either, nonEmpty}
 use Rattle.model.specs.Runs.{accepted, Tick, gives, ends, sameKey}
 
@@ -74,6 +74,7 @@ addRegistered Done L = L
 addRegistered (Taken w f) L = L
 addRegistered (Item v i) L = L
 addRegistered (Items n) L = L
+addRegistered (Stopped n) L = L
 addRegistered Empty L = L
 addRegistered Disconnected L = L
 addRegistered (Held n) L = L

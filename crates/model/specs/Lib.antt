@@ -32,6 +32,7 @@ pub mod Collections
 pub mod Disconnected
 pub mod ShutOut
 pub mod PollLoop
+pub mod Stops
 pub mod Signals
 pub mod Registration
 pub mod ReceivesEnd

@@ -3,7 +3,7 @@
 -- Assumes nothing.
 use mathlib.Core.Path.{_≡_}
 use mathlib.Core.Logic.{_⊎_}
-use mathlib.Core.Bool.{false}
+use mathlib.Core.Bool.{true, false}
 use mathlib.Core.List.{List, [], _∷_}
 use Prim.Native.Nat.{ℕ, zero, suc}
 use lib.ListN.{length}
@@ -11,7 +11,7 @@ use Rattle.model.specs.State.{State}
 use Rattle.model.specs.Changes.{withBudget}
 use Rattle.model.specs.Ready.{collectReadyGroup, collectReady}
 use Rattle.model.specs.Turn.{Took, settleEmpty, runDown, polled, takeOne, takeFair}
-use Rattle.model.specs.Receive.{takeUpTo}
+use Rattle.model.specs.Receive.{takeUpTo, takeWhile}
 use Rattle.model.specs.Order.{InOrder}
 
 -- No page bit is set: "nothing is ready".
@@ -37,6 +37,12 @@ FairUnlessNothingLeft = (s : State) → InOrder s → TakesUnlessNothingLeft 1 (
 -- "Batch: until the limit, or until nothing is queued and nothing is ready"
 unfoldable pub BatchUnlessNothingLeft : Type 0
 BatchUnlessNothingLeft = (limit : ℕ) (s : State) → InOrder s → TakesUnlessNothingLeft limit (takeUpTo limit s)
+
+-- Document 02, N2: "The batch is the plain one, but below its limit it stops": the limit is reached, or nothing is left, or it stopped.
+unfoldable pub WhileUnlessNothingLeft : Type 0
+WhileUnlessNothingLeft =
+    (bound limit : ℕ) (s : State) → InOrder s
+    → ((takeWhile bound limit s) .0 ≡ true) ⊎ TakesUnlessNothingLeft limit ((takeWhile bound limit s) .1)
 
 -- What the Rust does before each turn, in `try_recv_inner` and in `refresh_active`: all groups are collected where nothing is queued;
 -- one group, with a budget of 64 from then on, where a non-empty queue meets a budget of 0.

@@ -1,20 +1,20 @@
--- The receives: plain, fair, targeted and batch.
+-- The receives: plain, fair, targeted, batch, and the batch that stops in front of an item.
 -- Assumes nothing.
 use mathlib.Core.Bool.{Bool, true, false, not}
 use mathlib.Core.List.{List, [], _∷_, _++_, map}
 use Prim.Native.Nat.{ℕ, zero, suc}
-use lib.ListN.{length, drop}
+use lib.ListN.{length, take, drop}
 use lib.Dec.{leb, ltb}
 use Rattle.model.specs.declared.LaneKey.{LaneKey}
 use Rattle.model.specs.declared.LaneId.{LaneId}
 use Rattle.model.specs.declared.ReceiveCall.{ReceiveCall}
-use Rattle.model.specs.declared.ReceiveCall.the-variants.{TryRecv, TryRecvFair, TryRecvFrom, TryRecvBatchInto}
+use Rattle.model.specs.declared.ReceiveCall.the-variants.{TryRecv, TryRecvFair, TryRecvFrom, TryRecvBatchInto, TryRecvBatchIntoWhile}
 use Rattle.model.specs.declared.Refusal.the-variants.{ReceiverClosed, OutputShort, NoSuchLane}
-use Rattle.model.specs.declared.Answer.the-variants.{Item, Items, Empty, Disconnected}
+use Rattle.model.specs.declared.Answer.the-variants.{Item, Items, Stopped, Empty, Disconnected}
 use Rattle.model.specs.Lists.{if, both, nonEmpty, without, from}
 use Rattle.model.specs.State.{State, mayQueue, registeredLanes, livingSenders, keyOf, idOf, hasLaneId}
-use Rattle.model.specs.Changes.{withSlots, withQueue, put, signalled, popped, credited}
-use Rattle.model.specs.Turn.{retireLaneIf, settleEmpty, unreleasedAfterOne, Took, takeOne, takeFair}
+use Rattle.model.specs.Changes.{withSlots, withQueue, withBudget, put, signalled, popped, credited}
+use Rattle.model.specs.Turn.{retireLaneIf, settleEmpty, refill, unreleasedAfterOne, Took, polled, takeOne, takeFair}
 use Rattle.model.specs.Outcome.{Outcome, says, unless}
 
 -- "after empty paused lanes are retired". Reading: by ascending slot.
@@ -90,6 +90,34 @@ tryRecvBatchInto s limit room =
     unless ((not (s .isOpen), ReceiverClosed) ∷ (ltb room limit, OutputShort) ∷ []) s
     (let t = takeUpTo limit s in answerItems limit (t .0) (releaseAll (t .1)))
 
+-- Document 02, N2: "an item is admitted if it is at most a bound given with the call": how many items come before the first that is not.
+unfoldable pub admitted : ℕ → List (LaneKey × ℕ) → ℕ
+admitted bound [] = 0
+admitted bound (g ∷ l) = if (leb (g .1) bound) (suc (admitted bound l)) 0
+
+-- The stop in front of an item, where the poll is done. Reading: a budget of 0 is then set to 64, as before an item that is taken.
+unfoldable pub halted : State → State
+halted s = withBudget (refill (s .budget)) s
+
+-- "The batch is the plain one, but below its limit it stops in front of the first item not admitted, after any collection due there, in the lane
+-- whose turn it is, which stays in front with its burst". Whether it stopped, what it took, and the state then.
+unfoldable pub takeWhile : ℕ → ℕ → State → Bool × Took
+takeWhile bound limit s =
+    let l = (takeUpTo limit s) .0 in
+    let n = admitted bound l in
+    if (ltb n (length l)) (true, (take n l, halted (polled ((takeUpTo n s) .1)))) (false, takeUpTo limit s)
+
+-- "it answers the count and whether it stopped so. A stop at count 0 is never Empty."
+unfoldable pub answerWhile : ℕ → Bool → List (LaneKey × ℕ) → State → Outcome
+answerWhile limit true l s = (l, (Stopped (length l), s))
+answerWhile limit false l s = answerItems limit l s
+
+-- "Credit and refusals are as in the plain batch."
+unfoldable pub tryRecvBatchIntoWhile : State → ℕ → ℕ → ℕ → Outcome
+tryRecvBatchIntoWhile s limit bound room =
+    unless ((not (s .isOpen), ReceiverClosed) ∷ (ltb room limit, OutputShort) ∷ []) s
+    (let t = takeWhile bound limit s in answerWhile limit (t .0) (t .1 .0) (releaseAll (t .1 .1)))
+
 -- "A batch hands out its output in order": the output begins with the items handed out, and the words after them are as they were.
 unfoldable pub writtenTo : List (LaneKey × ℕ) → List ℕ → List ℕ
 writtenTo l out = map (λ g. g .1) l ++ drop (length l) out
@@ -99,6 +127,7 @@ receiveOutcome s TryRecv = tryRecv s
 receiveOutcome s TryRecvFair = tryRecvFair s
 receiveOutcome s (TryRecvFrom i) = tryRecvFrom s i
 receiveOutcome s (TryRecvBatchInto limit room) = tryRecvBatchInto s limit room
+receiveOutcome s (TryRecvBatchIntoWhile limit bound room) = tryRecvBatchIntoWhile s limit bound room
 
 -- The lent output as a receive leaves it. A batch that hands out nothing, a refused one too, leaves it as it was; the other receives are lent none.
 unfoldable pub outputAfter : State → ReceiveCall → List ℕ → List ℕ
@@ -106,3 +135,4 @@ outputAfter s TryRecv out = out
 outputAfter s TryRecvFair out = out
 outputAfter s (TryRecvFrom i) out = out
 outputAfter s (TryRecvBatchInto limit room) out = writtenTo ((tryRecvBatchInto s limit room) .0) out
+outputAfter s (TryRecvBatchIntoWhile limit bound room) out = writtenTo ((tryRecvBatchIntoWhile s limit bound room) .0) out

@@ -10,13 +10,13 @@ use Rattle.model.specs.declared.OpenedChannel.{OpenedChannel}
 use Rattle.model.specs.declared.LaneId.{LaneId}
 use Rattle.model.specs.declared.Opening.{Opening}
 use Rattle.model.specs.declared.ReceiveCall.{ReceiveCall}
-use Rattle.model.specs.declared.ReceiveCall.the-variants.{TryRecv, TryRecvFair, TryRecvFrom, TryRecvBatchInto}
+use Rattle.model.specs.declared.ReceiveCall.the-variants.{TryRecv, TryRecvFair, TryRecvFrom, TryRecvBatchInto, TryRecvBatchIntoWhile}
 use Rattle.model.specs.declared.ControlCall.{ControlCall}
 use Rattle.model.specs.declared.ControlCall.the-variants.{Pause, Resume, CloseLane, ReleaseConsumed, PollAllLanes, CloseReceiver, CountHeld}
 use Rattle.model.specs.declared.Call.{Call}
 use Rattle.model.specs.declared.Call.the-variants.{Sender, Receive, Control}
 use Rattle.model.specs.declared.Answer.{Answer}
-use Rattle.model.specs.declared.Answer.the-variants.{Done, Registered, Taken, Item, Items, Empty, Disconnected, Held, Refused}
+use Rattle.model.specs.declared.Answer.the-variants.{Done, Registered, Taken, Item, Items, Stopped, Empty, Disconnected, Held, Refused}
 use Rattle.model.specs.Runs.{Rules, RunsOf, allRuns, Tick, gives, ends, trace, afterList}
 use Rattle.model.specs.Demand2.{HasRoom}
 
@@ -38,6 +38,7 @@ module _ (f : ℕ → ℕ) where
   renumberedReceive TryRecvFair = TryRecvFair
   renumberedReceive (TryRecvFrom i) = TryRecvFrom (renumberedId i)
   renumberedReceive (TryRecvBatchInto limit room) = TryRecvBatchInto limit room
+  renumberedReceive (TryRecvBatchIntoWhile limit bound room) = TryRecvBatchIntoWhile limit bound room
 
   unfoldable pub renumberedControl : ControlCall → ControlCall
   renumberedControl (Pause i) = Pause (renumberedId i)
@@ -59,6 +60,7 @@ module _ (f : ℕ → ℕ) where
   renumberedAnswer (Registered k) = Registered k
   renumberedAnswer (Taken w n) = Taken w n
   renumberedAnswer (Items n) = Items n
+  renumberedAnswer (Stopped n) = Stopped n
   renumberedAnswer Empty = Empty
   renumberedAnswer Disconnected = Disconnected
   renumberedAnswer (Held n) = Held n

@@ -10,7 +10,7 @@ use Rattle.model.specs.declared.ReceiveCall.{ReceiveCall}
 use Rattle.model.specs.declared.Call.{Call}
 use Rattle.model.specs.declared.Call.the-variants.{Sender, Receive, Control}
 use Rattle.model.specs.declared.Answer.{Answer}
-use Rattle.model.specs.declared.Answer.the-variants.{Done, Registered, Taken, Item, Items, Empty, Disconnected, Held, Refused}
+use Rattle.model.specs.declared.Answer.the-variants.{Done, Registered, Taken, Item, Items, Stopped, Empty, Disconnected, Held, Refused}
 use Rattle.model.specs.Lists.{if, both}
 
 -- The lengths of the two stores that an opening is lent.
@@ -44,6 +44,7 @@ accepted (Registered k) = true
 accepted (Taken w f) = true
 accepted (Item v i) = true
 accepted (Items n) = true
+accepted (Stopped n) = true
 accepted Empty = true
 accepted Disconnected = true
 accepted (Held n) = true

@@ -11,14 +11,14 @@ use Rattle.model.specs.declared.LaneId.{LaneId}
 use Rattle.model.specs.declared.SenderCall.{SenderCall}
 use Rattle.model.specs.declared.SenderCall.the-variants.{RegisterSender, TrySend, TrySendUnsignaled, DropSender}
 use Rattle.model.specs.declared.ReceiveCall.{ReceiveCall}
-use Rattle.model.specs.declared.ReceiveCall.the-variants.{TryRecv, TryRecvFair, TryRecvFrom, TryRecvBatchInto}
+use Rattle.model.specs.declared.ReceiveCall.the-variants.{TryRecv, TryRecvFair, TryRecvFrom, TryRecvBatchInto, TryRecvBatchIntoWhile}
 use Rattle.model.specs.declared.ControlCall.{ControlCall}
 use Rattle.model.specs.declared.ControlCall.the-variants.{Pause, Resume, CloseLane, ReleaseConsumed, PollAllLanes, CloseReceiver, CountHeld}
 use Rattle.model.specs.declared.Call.{Call}
 use Rattle.model.specs.declared.Call.the-variants.{Sender, Receive, Control}
 use Rattle.model.specs.declared.Refusal.the-variants.{StoreNotInOrder, ReceiverClosed, OutputShort, Full}
 use Rattle.model.specs.declared.Answer.{Answer}
-use Rattle.model.specs.declared.Answer.the-variants.{Done, Registered, Taken, Item, Items, Empty, Disconnected, Held, Refused}
+use Rattle.model.specs.declared.Answer.the-variants.{Done, Registered, Taken, Item, Items, Stopped, Empty, Disconnected, Held, Refused}
 use Rattle.model.specs.Lists.{if, both, without}
 use Rattle.model.specs.State.{State, keyOf, hasLaneId, freePlaces}
 use Rattle.model.specs.Changes.{withQueue, withFree, withIssued, withBudget, put, withRing, newLane}
@@ -43,6 +43,7 @@ outputBy TryRecv l out = out
 outputBy TryRecvFair l out = out
 outputBy (TryRecvFrom i) l out = out
 outputBy (TryRecvBatchInto limit room) l out = writtenTo l out
+outputBy (TryRecvBatchIntoWhile limit bound room) l out = writtenTo l out
 
 abbrev pub rulesBy : (State → SenderCall → Outcome) → (State → ReceiveCall → Outcome) → (State → ControlCall → Outcome) → Rules
 rulesBy sending receiving controlling = record {
@@ -61,6 +62,7 @@ receiveBeforeLooking s TryRecv = unless ((not (s .isOpen), ReceiverClosed) ∷ [
 receiveBeforeLooking s TryRecvFair = receiveOutcome s TryRecvFair
 receiveBeforeLooking s (TryRecvFrom i) = receiveOutcome s (TryRecvFrom i)
 receiveBeforeLooking s (TryRecvBatchInto limit room) = receiveOutcome s (TryRecvBatchInto limit room)
+receiveBeforeLooking s (TryRecvBatchIntoWhile limit bound room) = receiveOutcome s (TryRecvBatchIntoWhile limit bound room)
 
 abbrev pub emptyBeforeLooking : Rules
 emptyBeforeLooking = rulesBy senderOutcome receiveBeforeLooking controlOutcome
@@ -73,6 +75,7 @@ receiveOfFront s TryRecvFair =
 receiveOfFront s TryRecv = receiveOutcome s TryRecv
 receiveOfFront s (TryRecvFrom i) = receiveOutcome s (TryRecvFrom i)
 receiveOfFront s (TryRecvBatchInto limit room) = receiveOutcome s (TryRecvBatchInto limit room)
+receiveOfFront s (TryRecvBatchIntoWhile limit bound room) = receiveOutcome s (TryRecvBatchIntoWhile limit bound room)
 
 abbrev pub fairServesFrontOnly : Rules
 fairServesFrontOnly = rulesBy senderOutcome receiveOfFront controlOutcome
@@ -100,6 +103,7 @@ sendStoresNothing = rulesBy sendUnstored receiveOutcome controlOutcome
 -- A batch with another outcome where it is not refused.
 unfoldable pub batchBy : (ℕ → State → Outcome) → State → ReceiveCall → Outcome
 batchBy batch s (TryRecvBatchInto limit room) = unless ((not (s .isOpen), ReceiverClosed) ∷ (ltb room limit, OutputShort) ∷ []) s (batch limit s)
+batchBy batch s (TryRecvBatchIntoWhile limit bound room) = receiveOutcome s (TryRecvBatchIntoWhile limit bound room)
 batchBy batch s TryRecv = receiveOutcome s TryRecv
 batchBy batch s TryRecvFair = receiveOutcome s TryRecvFair
 batchBy batch s (TryRecvFrom i) = receiveOutcome s (TryRecvFrom i)
@@ -132,6 +136,7 @@ receiveLeavesItem s TryRecv =
 receiveLeavesItem s TryRecvFair = receiveOutcome s TryRecvFair
 receiveLeavesItem s (TryRecvFrom i) = receiveOutcome s (TryRecvFrom i)
 receiveLeavesItem s (TryRecvBatchInto limit room) = receiveOutcome s (TryRecvBatchInto limit room)
+receiveLeavesItem s (TryRecvBatchIntoWhile limit bound room) = receiveOutcome s (TryRecvBatchIntoWhile limit bound room)
 
 abbrev pub itemForEver : Rules
 itemForEver = rulesBy senderOutcome receiveLeavesItem controlOutcome
@@ -188,6 +193,7 @@ receiveTurnsRound s (TryRecvFrom i) =
 receiveTurnsRound s TryRecv = receiveOutcome s TryRecv
 receiveTurnsRound s TryRecvFair = receiveOutcome s TryRecvFair
 receiveTurnsRound s (TryRecvBatchInto limit room) = receiveOutcome s (TryRecvBatchInto limit room)
+receiveTurnsRound s (TryRecvBatchIntoWhile limit bound room) = receiveOutcome s (TryRecvBatchIntoWhile limit bound room)
 
 abbrev pub targetedTurnsRound : Rules
 targetedTurnsRound = rulesBy senderOutcome receiveTurnsRound controlOutcome
@@ -296,6 +302,7 @@ receiveOtherwise f s (TryRecvFrom i) = f s i (λ j. receiveOutcome s (TryRecvFro
 receiveOtherwise f s TryRecv = receiveOutcome s TryRecv
 receiveOtherwise f s TryRecvFair = receiveOutcome s TryRecvFair
 receiveOtherwise f s (TryRecvBatchInto limit room) = receiveOutcome s (TryRecvBatchInto limit room)
+receiveOtherwise f s (TryRecvBatchIntoWhile limit bound room) = receiveOutcome s (TryRecvBatchIntoWhile limit bound room)
 
 unfoldable pub controlOtherwise : Otherwise → Otherwise → Otherwise → State → ControlCall → Outcome
 controlOtherwise f g h s (Pause i) = f s i (λ j. controlOutcome s (Pause j))
@@ -319,6 +326,7 @@ itemNamed f Done = Done
 itemNamed f (Registered k) = Registered k
 itemNamed f (Taken w n) = Taken w n
 itemNamed f (Items n) = Items n
+itemNamed f (Stopped n) = Stopped n
 itemNamed f Empty = Empty
 itemNamed f Disconnected = Disconnected
 itemNamed f (Held n) = Held n
@@ -329,6 +337,7 @@ receiveNaming f g h s TryRecv = let o = receiveOutcome s TryRecv in (o .0, (item
 receiveNaming f g h s TryRecvFair = let o = receiveOutcome s TryRecvFair in (o .0, (itemNamed g (o .1 .0), o .1 .1))
 receiveNaming f g h s (TryRecvFrom i) = let o = receiveOutcome s (TryRecvFrom i) in (o .0, (itemNamed h (o .1 .0), o .1 .1))
 receiveNaming f g h s (TryRecvBatchInto limit room) = receiveOutcome s (TryRecvBatchInto limit room)
+receiveNaming f g h s (TryRecvBatchIntoWhile limit bound room) = receiveOutcome s (TryRecvBatchIntoWhile limit bound room)
 
 abbrev pub namesItems : (plain fair targeted : LaneId → LaneId) → Rules
 namesItems plain fair targeted = rulesBy senderOutcome (receiveNaming plain fair targeted) controlOutcome

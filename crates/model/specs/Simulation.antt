@@ -7,7 +7,7 @@ use Rattle.model.specs.declared.LaneId.{LaneId}
 use Rattle.model.specs.declared.Opening.{Opening}
 use Rattle.model.specs.declared.SenderCall.the-variants.{RegisterSender, TrySend, TrySendUnsignaled, DropSender}
 use Rattle.model.specs.declared.ReceiveCall.{ReceiveCall}
-use Rattle.model.specs.declared.ReceiveCall.the-variants.{TryRecv, TryRecvFair, TryRecvFrom, TryRecvBatchInto}
+use Rattle.model.specs.declared.ReceiveCall.the-variants.{TryRecv, TryRecvFair, TryRecvFrom, TryRecvBatchInto, TryRecvBatchIntoWhile}
 use Rattle.model.specs.declared.ControlCall.the-variants.{Pause, Resume, CloseLane, ReleaseConsumed, PollAllLanes, CloseReceiver, CountHeld}
 use Rattle.model.specs.declared.Call.{Call}
 use Rattle.model.specs.declared.Call.the-variants.{Sender, Receive, Control}
@@ -55,6 +55,7 @@ numbersOfCall (Receive TryRecv) = []
 numbersOfCall (Receive TryRecvFair) = []
 numbersOfCall (Receive (TryRecvFrom i)) = numbersOfId i
 numbersOfCall (Receive (TryRecvBatchInto limit room)) = limit ∷ room ∷ []
+numbersOfCall (Receive (TryRecvBatchIntoWhile limit bound room)) = limit ∷ bound ∷ room ∷ []
 numbersOfCall (Control (Pause i)) = numbersOfId i
 numbersOfCall (Control (Resume i)) = numbersOfId i
 numbersOfCall (Control (CloseLane i)) = numbersOfId i

@@ -5,12 +5,12 @@ use mathlib.Core.List.{List, [], _∷_}
 use Prim.Native.Nat.{ℕ, zero, suc, max}
 use Rattle.model.specs.declared.LaneKey.{LaneKey}
 use Rattle.model.specs.declared.ReceiveCall.{ReceiveCall}
-use Rattle.model.specs.declared.ReceiveCall.the-variants.{TryRecv, TryRecvFair, TryRecvFrom, TryRecvBatchInto}
+use Rattle.model.specs.declared.ReceiveCall.the-variants.{TryRecv, TryRecvFair, TryRecvFrom, TryRecvBatchInto, TryRecvBatchIntoWhile}
 use Rattle.model.specs.declared.ControlCall.the-variants.{Pause, Resume, CloseLane, ReleaseConsumed, PollAllLanes, CloseReceiver, CountHeld}
 use Rattle.model.specs.declared.Call.{Call}
 use Rattle.model.specs.declared.Call.the-variants.{Sender, Receive, Control}
 use Rattle.model.specs.declared.Answer.{Answer}
-use Rattle.model.specs.declared.Answer.the-variants.{Done, Registered, Taken, Item, Items, Empty, Disconnected, Held, Refused}
+use Rattle.model.specs.declared.Answer.the-variants.{Done, Registered, Taken, Item, Items, Stopped, Empty, Disconnected, Held, Refused}
 use Rattle.model.specs.Lists.{if, both}
 use Rattle.model.specs.Ready.{groupsIn}
 use Rattle.model.specs.Runs.{accepted, Tick, gives, ends, sameKey}
@@ -44,6 +44,8 @@ looks (Receive TryRecv) = true
 looks (Receive TryRecvFair) = true
 looks (Receive (TryRecvBatchInto zero room)) = false
 looks (Receive (TryRecvBatchInto (suc n) room)) = true
+looks (Receive (TryRecvBatchIntoWhile zero bound room)) = false
+looks (Receive (TryRecvBatchIntoWhile (suc n) bound room)) = true
 looks (Receive (TryRecvFrom i)) = false
 looks (Sender c) = false
 looks (Control c) = false
@@ -56,6 +58,8 @@ findsNothing (Registered k) = false
 findsNothing (Taken w f) = false
 findsNothing (Item v i) = false
 findsNothing (Items n) = false
+-- Document 02, N2: "A stop at count 0 is never Empty."
+findsNothing (Stopped n) = false
 findsNothing (Held n) = false
 findsNothing (Refused r) = false
 
@@ -69,6 +73,7 @@ unfoldable pub untargeted : Tick → Bool
 untargeted (gives TryRecv j v) = true
 untargeted (gives TryRecvFair j v) = true
 untargeted (gives (TryRecvBatchInto n room) j v) = true
+untargeted (gives (TryRecvBatchIntoWhile n bound room) j v) = true
 untargeted (gives (TryRecvFrom i) j v) = false
 untargeted (ends c a) = false
 
@@ -86,6 +91,7 @@ unfoldable pub otherReceive : ReceiveCall → Bool
 otherReceive TryRecv = true
 otherReceive TryRecvFair = false
 otherReceive (TryRecvBatchInto n room) = true
+otherReceive (TryRecvBatchIntoWhile n bound room) = true
 otherReceive (TryRecvFrom i) = true
 
 -- "If the stretch's receives, refused ones aside, are all fair": one that is neither fair nor refused.
@@ -94,6 +100,23 @@ notFair (gives r j v) = otherReceive r
 notFair (ends (Receive r) a) = both (accepted a) (otherReceive r)
 notFair (ends (Sender c) a) = false
 notFair (ends (Control c) a) = false
+
+-- The batch was stopped in front of an item.
+unfoldable pub saysStopped : Answer → Bool
+saysStopped (Stopped n) = true
+saysStopped Done = false
+saysStopped (Registered k) = false
+saysStopped (Taken w f) = false
+saysStopped (Item v i) = false
+saysStopped (Items n) = false
+saysStopped Empty = false
+saysStopped Disconnected = false
+saysStopped (Held n) = false
+saysStopped (Refused r) = false
+
+unfoldable pub stopped : Tick → Bool
+stopped (gives c j v) = false
+stopped (ends c a) = saysStopped a
 
 -- The most live lanes after any call of a list.
 unfoldable pub afterCalls : Ledger → List Tick → ℕ

@@ -8,12 +8,12 @@ use lib.Dec.{ltb}
 use Rattle.model.specs.declared.LaneKey.{LaneKey}
 use Rattle.model.specs.declared.Opening.{Opening}
 use Rattle.model.specs.declared.SenderCall.the-variants.{RegisterSender, TrySend, TrySendUnsignaled, DropSender}
-use Rattle.model.specs.declared.ReceiveCall.the-variants.{TryRecv, TryRecvFair, TryRecvFrom, TryRecvBatchInto}
+use Rattle.model.specs.declared.ReceiveCall.the-variants.{TryRecv, TryRecvFair, TryRecvFrom, TryRecvBatchInto, TryRecvBatchIntoWhile}
 use Rattle.model.specs.declared.ControlCall.the-variants.{Pause, Resume, CloseLane, ReleaseConsumed, PollAllLanes, CloseReceiver, CountHeld}
 use Rattle.model.specs.declared.Call.{Call}
 use Rattle.model.specs.declared.Call.the-variants.{Sender, Receive, Control}
 use Rattle.model.specs.declared.Answer.{Answer}
-use Rattle.model.specs.declared.Answer.the-variants.{Done, Registered, Taken, Item, Items, Empty, Disconnected, Held, Refused}
+use Rattle.model.specs.declared.Answer.the-variants.{Done, Registered, Taken, Item, Items, Stopped, Empty, Disconnected, Held, Refused}
 use Rattle.model.specs.Lists.{if, both, either}
 use Rattle.model.specs.Runs.{Rules, RunsOf, allRuns, accepted, Tick, gives, ends, trace, sameKey, countTicks}
 use Rattle.model.specs.Ledger.{Lane, atOpening, ledgerAfter, waits}
@@ -22,6 +22,8 @@ use Rattle.model.specs.Stretch.{looksInVain}
 -- "fewer items than its limit"
 unfoldable pub itemsBelow : ℕ → Answer → Bool
 itemsBelow limit (Items n) = ltb n limit
+-- Document 02, N2: a batch that stopped is not such a one, as an item is next.
+itemsBelow limit (Stopped n) = false
 itemsBelow limit Done = false
 itemsBelow limit (Registered k) = false
 itemsBelow limit (Taken w f) = false
@@ -34,6 +36,7 @@ itemsBelow limit (Refused r) = false
 -- "a batch that answered fewer items than its limit"
 unfoldable pub belowLimit : Call → Answer → Bool
 belowLimit (Receive (TryRecvBatchInto limit room)) a = itemsBelow limit a
+belowLimit (Receive (TryRecvBatchIntoWhile limit bound room)) a = itemsBelow limit a
 belowLimit (Receive TryRecv) a = false
 belowLimit (Receive TryRecvFair) a = false
 belowLimit (Receive (TryRecvFrom i)) a = false
@@ -77,6 +80,7 @@ saysWoken Done = false
 saysWoken (Registered k) = false
 saysWoken (Item v i) = false
 saysWoken (Items n) = false
+saysWoken (Stopped n) = false
 saysWoken Empty = false
 saysWoken Disconnected = false
 saysWoken (Held n) = false

@@ -47,6 +47,8 @@ pub enum ReceiveCall {
     TryRecvFrom { id: LaneId },
     // `room` is the length of the lent output.
     TryRecvBatchInto { limit: u64, room: u64 },
+    // An item is admitted if it is at most `bound`.
+    TryRecvBatchIntoWhile { limit: u64, bound: u64, room: u64 },
 }
 
 pub enum ControlCall {
@@ -109,7 +111,7 @@ impl Refusal {
     }
 }
 
-// What a call answers. The items of a batch are the first `count` words of its output.
+// What a call answers. The items of a batch are the first `count` words of its output; `Stopped` is a batch that stopped in front of an item.
 pub enum Answer {
     Done,
     Registered { key: LaneKey },
@@ -117,6 +119,7 @@ pub enum Answer {
     Taken { woken: bool, free: u64 },
     Item { item: u64, lane: LaneId },
     Items { count: u64 },
+    Stopped { count: u64 },
     Empty,
     Disconnected,
     Held { count: u64 },

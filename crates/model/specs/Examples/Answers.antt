@@ -7,7 +7,7 @@ use Prim.Native.Nat.{ℕ}
 use Rattle.model.specs.declared.LaneKey.{LaneKey}
 use Rattle.model.specs.declared.LaneId.{LaneId}
 use Rattle.model.specs.declared.Refusal.the-variants.{CapacityOutOfRange, SlotsOutOfRange, RingStoreShort, TableStoreShort, StoreNotInOrder, ReceiverClosed, AtCapacity, NoFreeSlot, OlderSenderLives, NoSuchSender, LaneClosed, Full, OutputShort, NoSuchLane, Malformed}
-use Rattle.model.specs.declared.Answer.the-variants.{Done, Registered, Taken, Item, Items, Empty, Disconnected, Held, Refused}
+use Rattle.model.specs.declared.Answer.the-variants.{Done, Registered, Taken, Item, Items, Stopped, Empty, Disconnected, Held, Refused}
 use Rattle.model.specs.Answers.{number, Line, Word, line}
 use Rattle.model.specs.Examples.Pairs.{Reads}
 
@@ -40,7 +40,10 @@ id : LaneId
 id = record { channel = record { id = 7; opening = 6 }; key = record { slot = 3; generation = 8 } }
 
 says : Word → List ℕ → Line
-says w ns = record { word = w; numbers = ns }
+says w ns = record { word = w; numbers = ns; after = [] }
+
+stopsAfter : List ℕ → Line
+stopsAfter ns = record { word = Word.items; numbers = ns; after = Word.stopped ∷ [] }
 
 -- each kind of answer with its line, beside an output of 21, 22, 23
 lines-written :
@@ -54,8 +57,10 @@ lines-written :
     ∷ (Disconnected, says Word.disconnected [])
     ∷ (Items 2, says Word.items (2 ∷ 21 ∷ 22 ∷ []))
     ∷ (Items 0, says Word.items (0 ∷ []))
+    ∷ (Stopped 2, stopsAfter (2 ∷ 21 ∷ 22 ∷ []))
+    ∷ (Stopped 0, stopsAfter (0 ∷ []))
     ∷ (Held 5, says Word.held (5 ∷ []))
     ∷ (Refused Full, says Word.refused (11 ∷ []))
     ∷ [])
-unfolding key id says line number
+unfolding key id says stopsAfter line number
 lines-written = refl

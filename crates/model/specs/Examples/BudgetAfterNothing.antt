@@ -7,7 +7,7 @@ use Prim.Native.Nat.{ℕ}
 use lib.Dec.{leb}
 use Rattle.model.specs.declared.LaneKey.{LaneKey}
 use Rattle.model.specs.declared.ReceiveCall.{ReceiveCall}
-use Rattle.model.specs.declared.ReceiveCall.the-variants.{TryRecv, TryRecvFair, TryRecvFrom, TryRecvBatchInto}
+use Rattle.model.specs.declared.ReceiveCall.the-variants.{TryRecv, TryRecvFair, TryRecvFrom, TryRecvBatchInto, TryRecvBatchIntoWhile}
 use Rattle.model.specs.declared.Call.the-variants.{Receive}
 use Rattle.model.specs.declared.Answer.{Answer}
 use Rattle.model.specs.declared.Answer.the-variants.{Items, Empty, Disconnected}
@@ -56,6 +56,9 @@ dropped b q ready = lanes false (0 ∷ []) b q ready
 batch : ℕ → ReceiveCall
 batch limit = TryRecvBatchInto limit 9
 
+batchWhile : ℕ → ReceiveCall
+batchWhile limit = TryRecvBatchIntoWhile limit 5 9
+
 targeted : ReceiveCall
 targeted = TryRecvFrom record { channel = record { id = 7; opening = 0 }; key = record { slot = 0; generation = 0 } }
 
@@ -88,6 +91,10 @@ cases =
     ∷ ((at 0 (0 ∷ []) [], batch 3), 64)
     ∷ ((at 0 [] (1 ∷ 2 ∷ []), batch 1), 64)
     ∷ ((at 0 (0 ∷ []) (1 ∷ 2 ∷ []), batch 0), 0)
+    ∷ ((at 60 (0 ∷ []) (1 ∷ []), batchWhile 3), 60)
+    ∷ ((at 0 [] (1 ∷ []), batchWhile 3), 0)
+    ∷ ((at 0 [] (1 ∷ 2 ∷ []), batchWhile 1), 64)
+    ∷ ((at 0 (0 ∷ []) (1 ∷ 2 ∷ []), batchWhile 0), 0)
     -- targeted: as it was
     ∷ ((at 60 (0 ∷ []) [], targeted), 60)
     ∷ ((at 0 (0 ∷ 1 ∷ []) (2 ∷ []), targeted), 0)
@@ -116,7 +123,7 @@ byEvents : State × ReceiveCall → ℕ
 byEvents c = if (leb 1 (countEvents setsBudget (callEvents (c .0) (Receive (c .1))))) 64 (c .0 .budget)
 
 computeCases : Unit {0}
-unfolding computeEvents lanes at dropped batch targeted cases items after byState byEvents countEvents budgetLeftBy budgetLeft setsBudget
+unfolding computeEvents lanes at dropped batch batchWhile targeted cases items after byState byEvents countEvents budgetLeftBy budgetLeft setsBudget
 computeCases = tt
 
 nothing-handed : Always items [] (map (λ c. c .0) cases)

@@ -9,12 +9,12 @@ use Prim.Native.Nat.{ℕ}
 use native.Mathlib.Omega.{arith}
 use Rattle.model.specs.declared.LaneKey.{LaneKey}
 use Rattle.model.specs.declared.Opening.{Opening}
-use Rattle.model.specs.declared.ReceiveCall.the-variants.{TryRecv, TryRecvFair, TryRecvFrom, TryRecvBatchInto}
+use Rattle.model.specs.declared.ReceiveCall.the-variants.{TryRecv, TryRecvFair, TryRecvFrom, TryRecvBatchInto, TryRecvBatchIntoWhile}
 use Rattle.model.specs.declared.ControlCall.the-variants.{ReleaseConsumed, CloseReceiver}
 use Rattle.model.specs.declared.Call.{Call}
-use Rattle.model.specs.declared.Call.the-variants.{Control}
+use Rattle.model.specs.declared.Call.the-variants.{Receive, Control}
 use Rattle.model.specs.declared.Refusal.the-variants.{ReceiverClosed, AtCapacity, NoSuchSender, NoSuchLane, Full, OutputShort}
-use Rattle.model.specs.declared.Answer.the-variants.{Done, Taken, Items, Empty, Disconnected, Held, Refused}
+use Rattle.model.specs.declared.Answer.the-variants.{Done, Taken, Items, Stopped, Empty, Disconnected, Held, Refused}
 use Rattle.model.specs.Lists.{if, both, nonEmpty}
 use Rattle.model.specs.State.{State}
 use Rattle.model.specs.Runs.{Lent, accepted, Tick, gives, ends, handed, ticks, trace, afterList, answers, sameKey, countTicks, ofLane}
@@ -60,6 +60,8 @@ out-of-turn-read :
     ∷ (gives (TryRecvBatchInto 2 2) (keyAt 0 0) 5, true)
     ∷ (gives (TryRecvBatchInto 2 2) (keyAt 1 0) 5, true)
     ∷ (gives (TryRecvBatchInto 2 2) (keyAt 2 0) 5, true)
+    ∷ (gives (TryRecvBatchIntoWhile 2 5 2) (keyAt 0 0) 5, true)
+    ∷ (gives (TryRecvBatchIntoWhile 2 5 2) (keyAt 2 0) 5, true)
     ∷ [])
 unfolding computeTurns
 out-of-turn-read = refl
@@ -81,6 +83,7 @@ ends-in-turn :
     ∷ ends plain (Refused ReceiverClosed)
     ∷ ends (batch 0 2) (Items 0)
     ∷ ends (batch 2 2) (Items 2)
+    ∷ ends (Receive (TryRecvBatchIntoWhile 2 5 2)) (Stopped 0)
     ∷ ends (batch 3 2) (Refused OutputShort)
     ∷ ends (targeted 0) (gave 5 0)
     ∷ ends (targeted 2) Empty
@@ -336,6 +339,7 @@ ofAnyLane (gives (TryRecvFrom i) j v) = false
 ofAnyLane (gives TryRecv j v) = true
 ofAnyLane (gives TryRecvFair j v) = false
 ofAnyLane (gives (TryRecvBatchInto limit room) j v) = true
+ofAnyLane (gives (TryRecvBatchIntoWhile limit bound room) j v) = true
 ofAnyLane (ends c x) = false
 
 byAny : Tick → Bool

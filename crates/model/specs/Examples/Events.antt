@@ -8,13 +8,13 @@ use Prim.Native.Nat.{ℕ, zero, suc}
 use Rattle.model.specs.declared.LaneKey.{LaneKey}
 use Rattle.model.specs.declared.Opening.{Opening}
 use Rattle.model.specs.declared.SenderCall.the-variants.{RegisterSender, TrySend}
-use Rattle.model.specs.declared.ReceiveCall.the-variants.{TryRecv, TryRecvFair, TryRecvFrom, TryRecvBatchInto}
+use Rattle.model.specs.declared.ReceiveCall.the-variants.{TryRecv, TryRecvFair, TryRecvFrom, TryRecvBatchInto, TryRecvBatchIntoWhile}
 use Rattle.model.specs.declared.ControlCall.the-variants.{Pause}
 use Rattle.model.specs.declared.Call.{Call}
 use Rattle.model.specs.declared.Call.the-variants.{Sender, Receive, Control}
 use Rattle.model.specs.Runs.{Lent, accepted, afterList, sameKey}
 use Rattle.model.specs.Viewed.{rulesViewed}
-use Rattle.model.specs.Events.{Event, budgetSet, collected, noneMarked, foundEmpty, itemTaken, wentToBack, anyMarked, collectEvent, refillEvents, beforeNextTurnEvents, runDownFromEvents, runDownEvents, backEvents, giveOldestEvents, giveFrontEvents, collectIfDueEvents, collectIfNoneQueuedEvents, polledEvents, takeOneEvents, takeFairEvents, andMoreEvents, takeUpToEvents, takeFromEvents, receiveEvents, callEvents, eventsFrom, runEvents, collects, findsNoneMarked, takesItem, takesItemOf, findsEmpty, countEvents}
+use Rattle.model.specs.Events.{Event, budgetSet, collected, noneMarked, foundEmpty, itemTaken, wentToBack, anyMarked, collectEvent, refillEvents, beforeNextTurnEvents, runDownFromEvents, runDownEvents, backEvents, giveOldestEvents, giveFrontEvents, collectIfDueEvents, collectIfNoneQueuedEvents, polledEvents, takeOneEvents, takeFairEvents, andMoreEvents, takeUpToEvents, haltedEvents, takeWhileEvents, takeFromEvents, receiveEvents, callEvents, eventsFrom, runEvents, collects, findsNoneMarked, takesItem, takesItemOf, findsEmpty, countEvents}
 use Rattle.model.specs.OneTurn.{endsTurnOf}
 use Rattle.model.specs.Budget.{itemsCountedFrom, itemsSinceSet}
 use Rattle.model.specs.Examples.Pairs.{Reads}
@@ -44,7 +44,7 @@ unfoldable pub plain : Call
 plain = Receive TryRecv
 
 unfoldable pub computeEvents : Unit {0}
-unfolding compute twoSlots lent lane repeat registers sends plain accepted afterList anyMarked collectEvent refillEvents beforeNextTurnEvents runDownFromEvents runDownEvents backEvents giveOldestEvents giveFrontEvents collectIfDueEvents collectIfNoneQueuedEvents polledEvents takeOneEvents takeFairEvents andMoreEvents takeUpToEvents takeFromEvents receiveEvents callEvents eventsFrom runEvents
+unfolding compute twoSlots lent lane repeat registers sends plain accepted afterList anyMarked collectEvent refillEvents beforeNextTurnEvents runDownFromEvents runDownEvents backEvents giveOldestEvents giveFrontEvents collectIfDueEvents collectIfNoneQueuedEvents polledEvents takeOneEvents takeFairEvents andMoreEvents takeUpToEvents haltedEvents takeWhileEvents takeFromEvents receiveEvents callEvents eventsFrom runEvents
 computeEvents = tt
 
 -- lane 0 has 65 items, and lane 1 gets one after the first of them is taken: lane 0 gives 64 in one turn, all between two collections
@@ -83,6 +83,22 @@ fair-and-targeted :
     ≡ budgetSet ∷ collected ∷ budgetSet ∷ itemTaken (lane 0) ∷ wentToBack (lane 0) ∷ noneMarked ∷ budgetSet ∷ itemTaken (lane 1) ∷ wentToBack (lane 1) ∷ []
 unfolding computeEvents
 fair-and-targeted = refl
+
+-- Document 02, N2: "it stops in front of the first item not admitted, after any collection due there": after 64 items of lane 0 one is due, which finds lane 1's bit; no item is taken
+stop-collects :
+    runEvents rulesViewed twoSlots lent (registers ∷ registers ∷ repeat 65 (sends 0) ++ (plain ∷ sends 1 ∷ repeat 63 plain ++ (Receive (TryRecvBatchIntoWhile 3 4 3) ∷ [])))
+    ≡ budgetSet ∷ collected ∷ repeat 64 (itemTaken (lane 0)) ++ (wentToBack (lane 0) ∷ collected ∷ budgetSet ∷ [])
+unfolding computeEvents
+stop-collects = refl
+
+-- with nothing queued and a budget of 0 all groups are collected, and the budget is set at the stop; then the item, and a batch that does not stop
+stop-sets-budget :
+    runEvents rulesViewed twoSlots lent
+    (registers ∷ registers ∷ repeat 64 (sends 0) ++ (Receive (TryRecvBatchInto 64 64) ∷ Control (Pause record { channel = record { id = 7; opening = 0 }; key = lane 0 }) ∷ sends 1
+    ∷ Receive (TryRecvBatchIntoWhile 3 4 3) ∷ plain ∷ Receive (TryRecvBatchIntoWhile 3 5 3) ∷ []))
+    ≡ budgetSet ∷ collected ∷ repeat 64 (itemTaken (lane 0)) ++ (wentToBack (lane 0) ∷ collected ∷ budgetSet ∷ itemTaken (lane 1) ∷ foundEmpty (lane 1) ∷ noneMarked ∷ [])
+unfolding computeEvents
+stop-sets-budget = refl
 
 -- ---- which event is what, on one of each kind, of lane 0 and of lane 1
 

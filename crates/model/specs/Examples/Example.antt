@@ -8,12 +8,12 @@ use Rattle.model.specs.declared.LaneKey.{LaneKey}
 use Rattle.model.specs.declared.LaneId.{LaneId}
 use Rattle.model.specs.declared.Opening.{Opening}
 use Rattle.model.specs.declared.SenderCall.the-variants.{RegisterSender, TrySend, TrySendUnsignaled, DropSender}
-use Rattle.model.specs.declared.ReceiveCall.the-variants.{TryRecv, TryRecvFair, TryRecvFrom, TryRecvBatchInto}
+use Rattle.model.specs.declared.ReceiveCall.the-variants.{TryRecv, TryRecvFair, TryRecvFrom, TryRecvBatchInto, TryRecvBatchIntoWhile}
 use Rattle.model.specs.declared.ControlCall.the-variants.{Pause, Resume, CloseLane, PollAllLanes, CountHeld}
 use Rattle.model.specs.declared.Call.{Call}
 use Rattle.model.specs.declared.Call.the-variants.{Sender, Receive, Control}
 use Rattle.model.specs.declared.Answer.{Answer}
-use Rattle.model.specs.declared.Answer.the-variants.{Done, Registered, Taken, Item, Items, Empty, Disconnected, Held, Refused}
+use Rattle.model.specs.declared.Answer.the-variants.{Done, Registered, Taken, Item, Items, Stopped, Empty, Disconnected, Held, Refused}
 
 -- An example: an opening with its first generation, what document 01 says comes of calls after it, and the poll budget at the end.
 -- Each line of it is how many times in a row a call comes, the call, and the answer to each: (64, plain, gave 5 0). Of sends that are accepted in a row each says
@@ -42,6 +42,7 @@ inARow (suc n) Done = Done ∷ inARow n Done
 inARow (suc n) (Registered k) = Registered k ∷ inARow n (Registered k)
 inARow (suc n) (Item v i) = Item v i ∷ inARow n (Item v i)
 inARow (suc n) (Items m) = Items m ∷ inARow n (Items m)
+inARow (suc n) (Stopped m) = Stopped m ∷ inARow n (Stopped m)
 inARow (suc n) Empty = Empty ∷ inARow n Empty
 inARow (suc n) Disconnected = Disconnected ∷ inARow n Disconnected
 inARow (suc n) (Held m) = Held m ∷ inARow n (Held m)
@@ -94,6 +95,10 @@ fair = Receive TryRecvFair
 unfoldable pub batch : ℕ → ℕ → Call
 batch limit room = Receive (TryRecvBatchInto limit room)
 
+-- with as much room as the limit
+unfoldable pub batchWhile : ℕ → ℕ → Call
+batchWhile limit bound = Receive (TryRecvBatchIntoWhile limit bound limit)
+
 unfoldable pub targeted : ℕ → Call
 targeted x = Receive (TryRecvFrom (idAt x 0))
 
@@ -120,7 +125,7 @@ gave v x = Item v (idAt x 0)
 
 -- All of these, for computing with examples.
 unfoldable pub computeExamples : Unit {0}
-unfolding openingOf repeat inARow callsOf answersOf saidCalls saidAnswers keyAt idOn idAt registers sends sendsUnsignalled drops plain fair batch targeted pauses resumes closes pollsAll held lane gave
+unfolding openingOf repeat inARow callsOf answersOf saidCalls saidAnswers keyAt idOn idAt registers sends sendsUnsignalled drops plain fair batch batchWhile targeted pauses resumes closes pollsAll held lane gave
 computeExamples = tt
 
 -- lines once, twice and not at all; two sends in a row

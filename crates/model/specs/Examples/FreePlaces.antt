@@ -10,7 +10,7 @@ use Rattle.model.specs.declared.Call.{Call}
 use Rattle.model.specs.declared.Call.the-variants.{Sender}
 use Rattle.model.specs.declared.Refusal.the-variants.{NoSuchSender, Full}
 use Rattle.model.specs.declared.Answer.{Answer}
-use Rattle.model.specs.declared.Answer.the-variants.{Done, Registered, Taken, Item, Items, Empty, Disconnected, Held, Refused}
+use Rattle.model.specs.declared.Answer.the-variants.{Done, Registered, Taken, Item, Items, Stopped, Empty, Disconnected, Held, Refused}
 use Rattle.model.specs.Lists.{if}
 use Rattle.model.specs.Runs.{accepted, answers, afterList}
 use Rattle.model.specs.Opening.{openedState}
@@ -39,6 +39,7 @@ taken-read :
     ∷ (Registered (keyAt 2 2), false)
     ∷ (Item 2 (idAt 2 2), false)
     ∷ (Items 2, false)
+    ∷ (Stopped 2, false)
     ∷ (Empty, false)
     ∷ (Disconnected, false)
     ∷ (Held 2, false)

@@ -7,12 +7,12 @@ use Prim.Native.Nat.{ℕ}
 use Rattle.model.specs.declared.LaneKey.{LaneKey}
 use Rattle.model.specs.declared.LaneId.{LaneId}
 use Rattle.model.specs.declared.SenderCall.the-variants.{RegisterSender, TrySend, DropSender}
-use Rattle.model.specs.declared.ReceiveCall.the-variants.{TryRecv, TryRecvBatchInto}
+use Rattle.model.specs.declared.ReceiveCall.the-variants.{TryRecv, TryRecvBatchInto, TryRecvBatchIntoWhile}
 use Rattle.model.specs.declared.ControlCall.the-variants.{CountHeld}
 use Rattle.model.specs.declared.Call.{Call}
 use Rattle.model.specs.declared.Call.the-variants.{Sender, Receive, Control}
 use Rattle.model.specs.declared.Refusal.the-variants.{NoFreeSlot}
-use Rattle.model.specs.declared.Answer.the-variants.{Done, Registered, Taken, Item, Items, Empty, Disconnected, Held, Refused}
+use Rattle.model.specs.declared.Answer.the-variants.{Done, Registered, Taken, Item, Items, Stopped, Empty, Disconnected, Held, Refused}
 use Rattle.model.specs.Runs.{accepted, Tick, gives, ends, handed, ticks, trace, afterList, sameKey, countTicks}
 use Rattle.model.specs.Opening.{openedState}
 use Rattle.model.specs.Rules.{theRules}
@@ -53,6 +53,7 @@ answers-read :
     ∷ (ends plain Empty, (false, false))
     ∷ (ends plain Disconnected, (false, false))
     ∷ (ends (Receive (TryRecvBatchInto 1 1)) (Items 1), (false, false))
+    ∷ (ends (Receive (TryRecvBatchIntoWhile 1 5 1)) (Stopped 0), (false, false))
     ∷ (ends (Control CountHeld) (Held 1), (false, false))
     ∷ (gives TryRecv (key 1 2) 5, (false, false))
     ∷ [])

@@ -5,7 +5,7 @@ use mathlib.Core.List.{[], _∷_}
 use Rattle.model.specs.declared.LaneKey.{LaneKey}
 use Rattle.model.specs.declared.LaneId.{LaneId}
 use Rattle.model.specs.declared.SenderCall.the-variants.{RegisterSender, TrySend, TrySendUnsignaled, DropSender}
-use Rattle.model.specs.declared.ReceiveCall.the-variants.{TryRecv, TryRecvFair, TryRecvFrom, TryRecvBatchInto}
+use Rattle.model.specs.declared.ReceiveCall.the-variants.{TryRecv, TryRecvFair, TryRecvFrom, TryRecvBatchInto, TryRecvBatchIntoWhile}
 use Rattle.model.specs.declared.ControlCall.the-variants.{Pause, Resume, CloseLane, ReleaseConsumed, PollAllLanes, CloseReceiver, CountHeld}
 use Rattle.model.specs.declared.Call.the-variants.{Sender, Receive, Control}
 use Rattle.model.specs.Simulation.{numbersOfId, numbersOfCall}
@@ -28,6 +28,7 @@ numbers-read :
     ∷ (Receive TryRecvFair, [])
     ∷ (Receive (TryRecvFrom id), 7 ∷ 1 ∷ 2 ∷ 8 ∷ [])
     ∷ (Receive (TryRecvBatchInto 3 64), 3 ∷ 64 ∷ [])
+    ∷ (Receive (TryRecvBatchIntoWhile 3 5 64), 3 ∷ 5 ∷ 64 ∷ [])
     ∷ (Control (Pause id), 7 ∷ 1 ∷ 2 ∷ 8 ∷ [])
     ∷ (Control (Resume id), 7 ∷ 1 ∷ 2 ∷ 8 ∷ [])
     ∷ (Control (CloseLane id), 7 ∷ 1 ∷ 2 ∷ 8 ∷ [])

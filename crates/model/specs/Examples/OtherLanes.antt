@@ -5,7 +5,7 @@ use mathlib.Core.Bool.{true, false}
 use mathlib.Core.List.{[], _∷_}
 use Prim.Native.Nat.{ℕ}
 use Rattle.model.specs.declared.LaneKey.{LaneKey}
-use Rattle.model.specs.declared.ReceiveCall.the-variants.{TryRecv, TryRecvFair, TryRecvFrom, TryRecvBatchInto}
+use Rattle.model.specs.declared.ReceiveCall.the-variants.{TryRecv, TryRecvFair, TryRecvFrom, TryRecvBatchInto, TryRecvBatchIntoWhile}
 use Rattle.model.specs.declared.Call.the-variants.{Receive}
 use Rattle.model.specs.declared.Answer.the-variants.{Item, Empty}
 use Rattle.model.specs.Runs.{gives, ends, sameKey}
@@ -39,6 +39,7 @@ untargeted-of-other-read :
     ((gives TryRecv (lane 0 0) 5, true)
     ∷ (gives TryRecvFair (lane 0 0) 5, true)
     ∷ (gives (TryRecvBatchInto 3 3) (lane 0 0) 5, true)
+    ∷ (gives (TryRecvBatchIntoWhile 3 5 3) (lane 0 0) 5, true)
     ∷ (gives (TryRecvFrom record { channel = record { id = 7; opening = 0 }; key = lane 0 0 }) (lane 0 0) 5, false)
     ∷ (gives TryRecv (lane 1 1) 5, true)
     ∷ (gives TryRecv (lane 1 0) 5, false)

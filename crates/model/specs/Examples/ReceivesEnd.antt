@@ -10,7 +10,7 @@ use Rattle.model.specs.declared.LaneKey.{LaneKey}
 use Rattle.model.specs.declared.LaneId.{LaneId}
 use Rattle.model.specs.declared.SenderCall.the-variants.{RegisterSender, TrySend, DropSender}
 use Rattle.model.specs.declared.ReceiveCall.{ReceiveCall}
-use Rattle.model.specs.declared.ReceiveCall.the-variants.{TryRecv, TryRecvFair, TryRecvFrom, TryRecvBatchInto}
+use Rattle.model.specs.declared.ReceiveCall.the-variants.{TryRecv, TryRecvFair, TryRecvFrom, TryRecvBatchInto, TryRecvBatchIntoWhile}
 use Rattle.model.specs.declared.ControlCall.the-variants.{Pause}
 use Rattle.model.specs.declared.Call.{Call}
 use Rattle.model.specs.declared.Call.the-variants.{Sender, Receive, Control}
@@ -65,6 +65,7 @@ items-asked-read :
     ∷ (TryRecvFair, 1)
     ∷ (TryRecvFrom (laneId 0), 1)
     ∷ (TryRecvBatchInto 3 9, 3)
+    ∷ (TryRecvBatchIntoWhile 3 5 9, 3)
     ∷ [])
 unfolding computeEnds
 items-asked-read = refl
@@ -85,6 +86,9 @@ ended-read :
     -- a batch to its limit, and one that finds less
     ∷ ((registers ∷ sends 0 ∷ sends 0 ∷ sends 0 ∷ [], TryRecvBatchInto 2 2), (2, 0 ∷ [], []))
     ∷ ((registers ∷ registers ∷ sends 0 ∷ sends 1 ∷ [], TryRecvBatchInto 3 3), (2, [], []))
+    -- one with a bound: before an item above it, and to its limit
+    ∷ ((registers ∷ registers ∷ sends 0 ∷ sends 1 ∷ [], TryRecvBatchIntoWhile 3 4 3), (0, 0 ∷ 1 ∷ [], []))
+    ∷ ((registers ∷ registers ∷ sends 0 ∷ sends 1 ∷ [], TryRecvBatchIntoWhile 1 5 3), (1, 0 ∷ 1 ∷ [], []))
     -- a paused lane is ready and not queued: its page bit is taken
     ∷ ((registers ∷ sends 0 ∷ pauses 0 ∷ [], TryRecv), (0, [], []))
     -- lanes retire: an empty one whose sender is dropped, and an empty paused one

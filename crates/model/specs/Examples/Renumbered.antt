@@ -10,12 +10,12 @@ use lib.Dec.{eqb}
 use borrow.Author.Tests.{eqb-true, eqb-false, eq-eqb}
 use Rattle.model.specs.declared.Opening.{Opening}
 use Rattle.model.specs.declared.SenderCall.the-variants.{RegisterSender, TrySend, TrySendUnsignaled, DropSender}
-use Rattle.model.specs.declared.ReceiveCall.the-variants.{TryRecv, TryRecvFrom, TryRecvBatchInto}
+use Rattle.model.specs.declared.ReceiveCall.the-variants.{TryRecv, TryRecvFrom, TryRecvBatchInto, TryRecvBatchIntoWhile}
 use Rattle.model.specs.declared.ControlCall.the-variants.{Pause, Resume, CloseLane, ReleaseConsumed, CloseReceiver}
 use Rattle.model.specs.declared.Call.{Call}
 use Rattle.model.specs.declared.Call.the-variants.{Sender, Receive, Control}
 use Rattle.model.specs.declared.Refusal.the-variants.{NoSuchLane}
-use Rattle.model.specs.declared.Answer.the-variants.{Done, Registered, Taken, Item, Items, Empty, Disconnected, Held, Refused}
+use Rattle.model.specs.declared.Answer.the-variants.{Done, Registered, Taken, Item, Items, Stopped, Empty, Disconnected, Held, Refused}
 use Rattle.model.specs.Answers.{number, line}
 use Rattle.model.specs.Lists.{if, total}
 use Rattle.model.specs.Runs.{Rules, accepted, Tick, gives, ends, handed, ticks, trace, afterList}
@@ -66,6 +66,7 @@ others =
     ∷ plain
     ∷ fair
     ∷ batch 2 2
+    ∷ Receive (TryRecvBatchIntoWhile 2 2 2)
     ∷ Control ReleaseConsumed
     ∷ pollsAll
     ∷ Control CloseReceiver
@@ -83,6 +84,7 @@ answers-read :
     ∷ (Registered (keyAt 2 2), Registered (keyAt 2 2))
     ∷ (Taken true 2, Taken true 2)
     ∷ (Items 2, Items 2)
+    ∷ (Stopped 2, Stopped 2)
     ∷ (Empty, Empty)
     ∷ (Disconnected, Disconnected)
     ∷ (Held 2, Held 2)

@@ -7,15 +7,15 @@ use Prim.Native.Nat.{ℕ}
 use Rattle.model.specs.declared.LaneKey.{LaneKey}
 use Rattle.model.specs.declared.LaneId.{LaneId}
 use Rattle.model.specs.declared.SenderCall.the-variants.{RegisterSender, TrySend, TrySendUnsignaled, DropSender}
-use Rattle.model.specs.declared.ReceiveCall.the-variants.{TryRecv, TryRecvFair, TryRecvFrom, TryRecvBatchInto}
+use Rattle.model.specs.declared.ReceiveCall.the-variants.{TryRecv, TryRecvFair, TryRecvFrom, TryRecvBatchInto, TryRecvBatchIntoWhile}
 use Rattle.model.specs.declared.ControlCall.the-variants.{Pause, Resume, CloseLane, ReleaseConsumed, PollAllLanes, CloseReceiver, CountHeld}
 use Rattle.model.specs.declared.Call.the-variants.{Sender, Receive, Control}
 use Rattle.model.specs.declared.Refusal.the-variants.{ReceiverClosed, NoSuchLane, Full}
-use Rattle.model.specs.declared.Answer.the-variants.{Done, Registered, Taken, Item, Items, Empty, Disconnected, Held, Refused}
+use Rattle.model.specs.declared.Answer.the-variants.{Done, Registered, Taken, Item, Items, Stopped, Empty, Disconnected, Held, Refused}
 use Rattle.model.specs.Ready.{groupsIn}
 use Rattle.model.specs.Runs.{accepted, Tick, gives, ends, sameKey}
 use Rattle.model.specs.Ledger.{Lane, Ledger, atOpening, changeLane, addItem, removeOldest, setPaused, setClosed, setDropped, addRegistered, applyCall, note, ledgerAfter, anyOrdinary, waitsIn, waits, isLive, liveLanes}
-use Rattle.model.specs.Stretch.{endsWait, endsStretch, looks, findsNothing, looksInVain, untargeted, otherReceive, notFair, afterCalls, mostLive, groupsAt}
+use Rattle.model.specs.Stretch.{endsWait, endsStretch, looks, findsNothing, looksInVain, untargeted, otherReceive, notFair, saysStopped, stopped, afterCalls, mostLive, groupsAt}
 use Rattle.model.specs.Demand2.{outOf, into, shuts, HasRoom}
 use Rattle.model.specs.Demand3.{bound}
 use Rattle.model.specs.Examples.Pairs.{Reads, Always}
@@ -28,10 +28,10 @@ laneId x = record { channel = record { id = 7; opening = 0 }; key = lane x }
 
 -- the words of the demands, for computing with them
 computeStretch : Unit {0}
-unfolding lane laneId accepted sameKey endsWait endsStretch looks findsNothing looksInVain untargeted otherReceive notFair outOf into shuts
+unfolding lane laneId accepted sameKey endsWait endsStretch looks findsNothing looksInVain untargeted otherReceive notFair saysStopped stopped outOf into shuts
 computeStretch = tt
 
--- ---- items that are given, four of lane 0 and one of lane 1
+-- ---- items that are given, five of lane 0 and one of lane 1
 
 -- "until the lane's next item is handed out": lane 1's
 given-ends-stretch :
@@ -40,6 +40,7 @@ given-ends-stretch :
     ∷ (gives TryRecvFair (lane 0) 5, false)
     ∷ (gives (TryRecvFrom (laneId 0)) (lane 0) 5, false)
     ∷ (gives (TryRecvBatchInto 2 2) (lane 0) 5, false)
+    ∷ (gives (TryRecvBatchIntoWhile 2 5 2) (lane 0) 5, false)
     ∷ (gives TryRecv (lane 1) 6, true)
     ∷ [])
 unfolding computeStretch
@@ -52,6 +53,7 @@ given-untargeted :
     ∷ (gives TryRecvFair (lane 0) 5, true)
     ∷ (gives (TryRecvFrom (laneId 0)) (lane 0) 5, false)
     ∷ (gives (TryRecvBatchInto 2 2) (lane 0) 5, true)
+    ∷ (gives (TryRecvBatchIntoWhile 2 5 2) (lane 0) 5, true)
     ∷ (gives TryRecv (lane 1) 6, true)
     ∷ [])
 unfolding computeStretch
@@ -64,6 +66,7 @@ given-not-fair :
     ∷ (gives TryRecvFair (lane 0) 5, false)
     ∷ (gives (TryRecvFrom (laneId 0)) (lane 0) 5, true)
     ∷ (gives (TryRecvBatchInto 2 2) (lane 0) 5, true)
+    ∷ (gives (TryRecvBatchIntoWhile 2 5 2) (lane 0) 5, true)
     ∷ (gives TryRecv (lane 1) 6, true)
     ∷ [])
 unfolding computeStretch
@@ -76,6 +79,7 @@ given-out-of :
     ∷ (gives TryRecvFair (lane 0) 5, [])
     ∷ (gives (TryRecvFrom (laneId 0)) (lane 0) 5, [])
     ∷ (gives (TryRecvBatchInto 2 2) (lane 0) 5, [])
+    ∷ (gives (TryRecvBatchIntoWhile 2 5 2) (lane 0) 5, [])
     ∷ (gives TryRecv (lane 1) 6, (6 ∷ []))
     ∷ [])
 unfolding computeStretch
@@ -93,6 +97,10 @@ received-in-vain :
     ∷ (ends (Receive (TryRecvBatchInto 1 1)) Empty, true)
     ∷ (ends (Receive (TryRecvBatchInto 1 1)) Disconnected, true)
     ∷ (ends (Receive (TryRecvBatchInto 0 1)) (Items 0), false)
+    ∷ (ends (Receive (TryRecvBatchIntoWhile 1 5 1)) Empty, true)
+    ∷ (ends (Receive (TryRecvBatchIntoWhile 1 5 1)) Disconnected, true)
+    ∷ (ends (Receive (TryRecvBatchIntoWhile 1 5 1)) (Stopped 0), false)
+    ∷ (ends (Receive (TryRecvBatchIntoWhile 0 5 1)) (Items 0), false)
     ∷ (ends (Receive (TryRecvFrom (laneId 0))) Empty, false)
     ∷ (ends (Receive TryRecvFair) (Item 5 (laneId 0)), false)
     ∷ (ends (Receive TryRecv) (Refused ReceiverClosed), false)
@@ -110,6 +118,8 @@ received-not-fair :
     ∷ (ends (Receive (TryRecvBatchInto 1 1)) Empty, true)
     ∷ (ends (Receive (TryRecvBatchInto 1 1)) Disconnected, true)
     ∷ (ends (Receive (TryRecvBatchInto 0 1)) (Items 0), true)
+    ∷ (ends (Receive (TryRecvBatchIntoWhile 1 5 1)) Empty, true)
+    ∷ (ends (Receive (TryRecvBatchIntoWhile 1 5 1)) (Stopped 0), true)
     ∷ (ends (Receive (TryRecvFrom (laneId 0))) Empty, true)
     ∷ (ends (Receive TryRecvFair) (Item 5 (laneId 0)), false)
     ∷ (ends (Receive TryRecv) (Refused ReceiverClosed), false)
@@ -127,6 +137,8 @@ received-ends-none :
     ∷ ends (Receive (TryRecvBatchInto 1 1)) Empty
     ∷ ends (Receive (TryRecvBatchInto 1 1)) Disconnected
     ∷ ends (Receive (TryRecvBatchInto 0 1)) (Items 0)
+    ∷ ends (Receive (TryRecvBatchIntoWhile 1 5 1)) Empty
+    ∷ ends (Receive (TryRecvBatchIntoWhile 1 5 1)) (Stopped 0)
     ∷ ends (Receive (TryRecvFrom (laneId 0))) Empty
     ∷ ends (Receive TryRecvFair) (Item 5 (laneId 0))
     ∷ ends (Receive TryRecv) (Refused ReceiverClosed)

@@ -1,4 +1,4 @@
--- Document 01's examples about runs, those marked P and more, in one table.
+-- Document 01's examples about runs, those marked P and more, and document 02's of the batch that stops, in one table.
 -- Assumes nothing.
 use mathlib.Core.Bool.{true, false}
 use mathlib.Core.List.{List, [], _∷_}
@@ -9,6 +9,7 @@ use Rattle.model.specs.declared.ControlCall.the-variants.{Pause, Resume,
 use Rattle.model.specs.declared.Call.the-variants.{Sender, Receive, Control}
 use Rattle.model.specs.declared.Refusal.the-variants.{ReceiverClosed, AtCapacity, NoFreeSlot, OlderSenderLives, NoSuchSender, LaneClosed, Full, OutputShort, NoSuchLane}
 use Rattle.model.specs.declared.Answer.the-variants.{Done, Taken, Items, Empty, Disconnected, Held, Refused}
+use Rattle.model.specs.Examples.Stops.{stops}
 use Rattle.model.specs.Examples.Example.{Example, keyAt, idOn, idAt, registers, sends, sendsUnsignalled, drops, plain, fair, batch, targeted, pauses, resumes, closes, pollsAll, held, lane, gave}
 
 -- The release batch of a ring of C places, as calls show it. `sent` items are sent and `taken` of them received, fewer than the batch has. Then, and where
@@ -786,4 +787,5 @@ table =
           ∷ (1, plain, gave 5 0)
           ∷ [];
     }
-    ∷ []
+    -- document 02, N2
+    ∷ stops

@@ -8,13 +8,13 @@ use Prim.Native.Nat.{ℕ}
 use Rattle.model.specs.declared.LaneKey.{LaneKey}
 use Rattle.model.specs.declared.LaneId.{LaneId}
 use Rattle.model.specs.declared.SenderCall.the-variants.{RegisterSender, TrySend, TrySendUnsignaled, DropSender}
-use Rattle.model.specs.declared.ReceiveCall.the-variants.{TryRecv, TryRecvFair, TryRecvFrom, TryRecvBatchInto}
+use Rattle.model.specs.declared.ReceiveCall.the-variants.{TryRecv, TryRecvFair, TryRecvFrom, TryRecvBatchInto, TryRecvBatchIntoWhile}
 use Rattle.model.specs.declared.ControlCall.the-variants.{Pause, Resume, CloseLane, ReleaseConsumed, PollAllLanes, CloseReceiver, CountHeld}
 use Rattle.model.specs.declared.Call.{Call}
 use Rattle.model.specs.declared.Call.the-variants.{Sender, Receive, Control}
 use Rattle.model.specs.declared.Refusal.the-variants.{ReceiverClosed, AtCapacity, NoSuchSender, NoSuchLane, Full, OutputShort}
 use Rattle.model.specs.declared.Answer.{Answer}
-use Rattle.model.specs.declared.Answer.the-variants.{Done, Registered, Taken, Item, Items, Empty, Disconnected, Held, Refused}
+use Rattle.model.specs.declared.Answer.the-variants.{Done, Registered, Taken, Item, Items, Stopped, Empty, Disconnected, Held, Refused}
 use Rattle.model.specs.State.{State}
 use Rattle.model.specs.Runs.{accepted, gives, ends, sameKey}
 use Rattle.model.specs.Opening.{openedState}
@@ -54,6 +54,9 @@ fair = Receive TryRecvFair
 batch : ℕ → Call
 batch limit = Receive (TryRecvBatchInto limit 9)
 
+batchWhile : ℕ → Call
+batchWhile limit = Receive (TryRecvBatchIntoWhile limit 5 9)
+
 targeted : ℕ → Call
 targeted x = Receive (TryRecvFrom (id x))
 
@@ -70,7 +73,7 @@ held : Call
 held = Control CountHeld
 
 computeWake : Unit {0}
-unfolding compute key id registers sends unsignalled drops plain fair batch targeted pauses resumes closes held accepted sameKey atOpening changeLane addItem removeOldest setPaused setClosed setDropped addRegistered applyCall note ledgerAfter looks findsNothing looksInVain itemsBelow belowLimit maySleep whileAsleep endsSleep sendsTo saysWoken wakes pausedIn
+unfolding compute key id registers sends unsignalled drops plain fair batch batchWhile targeted pauses resumes closes held accepted sameKey atOpening changeLane addItem removeOldest setPaused setClosed setDropped addRegistered applyCall note ledgerAfter looks findsNothing looksInVain itemsBelow belowLimit maySleep whileAsleep endsSleep sendsTo saysWoken wakes pausedIn
 computeWake = tt
 
 -- ---- after which answers a receiver may sleep
@@ -94,6 +97,12 @@ sleeps-read :
     ∷ ((batch 200, Items 200), false)
     ∷ ((batch 3, Refused OutputShort), false)
     ∷ ((batch 0, Items 0), false)
+    -- N2: one that stopped has an item next
+    ∷ ((batchWhile 3, Items 2), true)
+    ∷ ((batchWhile 3, Items 3), false)
+    ∷ ((batchWhile 3, Empty), true)
+    ∷ ((batchWhile 3, Stopped 2), false)
+    ∷ ((batchWhile 3, Stopped 0), false)
     ∷ ((targeted 0, Empty), false)
     ∷ ((targeted 0, Disconnected), false)
     ∷ ((targeted 0, Item 5 (id 0)), false)
