@@ -1,9 +1,9 @@
 -- A lane's ring: which word of the ring store a cursor names, and what push, pop and pop_into do.
 -- Assumes nothing.
 use mathlib.Core.Bool.{cond}
-use mathlib.Core.List.{List}
-use Prim.Native.Nat.{ℕ, _+_, _-_, _*_, _%_, _≤_}
-use lib.Dec.{eqb}
+use mathlib.Core.List.{List, [], _∷_}
+use Prim.Native.Nat.{ℕ, suc, _+_, _-_, _*_, _%_, _≤_}
+use lib.Dec.{eqb, leb}
 use lib.ListN.{getD, set}
 use Rattle.yring.specs.Lists.{tab, written}
 use Rattle.yring.specs.Cursor.{after, distance, Capacity}
@@ -51,6 +51,11 @@ push ring cursor released = cond (eqb (distance cursor released) (ring .capacity
 -- an item's word stored at a cursor
 abbrev pub put : Ring → List ℕ → ℕ → ℕ → List ℕ
 put ring store cursor item = set store (index ring cursor) item
+
+-- Document 02, N2: "an item is admitted if it is at most a bound given with the call": how many items of a list stand before the first that is not
+unfoldable pub prefix : ℕ → List ℕ → ℕ
+prefix bound [] = 0
+prefix bound (v ∷ vs) = cond (leb v bound) (suc (prefix bound vs)) 0
 
 -- the output with the n items from the head on, from place `at` on
 unfoldable pub popInto : Ring → List ℕ → ℕ → ℕ → List ℕ → ℕ → List ℕ

@@ -4,7 +4,7 @@ ghost use Prim.Native.Nat.{_+_, _^_, _≤_, _<_};
 ghost use lib.ListN.{length, set};
 ghost use Rattle.yring.specs.Lists.{written};
 ghost use Rattle.yring.specs.Cursor.{after, distance, Capacity};
-ghost use Rattle.yring.specs.Ring.{Within, newRing, index, itemAt, run, push, put, popInto};
+ghost use Rattle.yring.specs.Ring.{Within, newRing, index, itemAt, items, run, push, put, popInto, prefix};
 
 // Where a lane's ring lies in the ring store.
 pub struct Ring {
@@ -90,6 +90,21 @@ impl Ring {
     {
         let at = self.index(cursor);
         store[at]
+    }
+
+    // How many of the `count` items from the head on stand before the first that is above `bound`.
+    pub fn accepted_prefix(self, store: &[u64], head: u64, count: u64, bound: u64) -> u64
+        requires { ⌜ Within self (length (now store)) ⌝ }
+        ensures { λ r. ⌜ (r ≡ prefix bound (items self (now (store .entry)) head count)) × (r ≤ count) ⌝ }
+    {
+        let mut accepted = 0;
+        while accepted < count {
+            if self.item_at(store, after(head, accepted)) > bound {
+                return accepted;
+            }
+            accepted += 1;
+        }
+        accepted
     }
 
     // Moves the `count` items from the head on to the output: up to the ring's end, then from its start.
