@@ -87,7 +87,7 @@ fn run_down(t: &mut [u64]) -> Front
 }
 
 // The lane whose turn it is. Collects ready lanes when that is due, and once when none is queued.
-fn refresh_active(t: &mut [u64]) -> Front
+pub fn refresh_active(t: &mut [u64]) -> Front
     requires { ⌜ Turning (now t) ⌝ }
     ensures { λ a. ⌜ (a, now (t .exit)) ≡ refreshActive (now (t .entry)) ⌝ }
 {
@@ -120,7 +120,7 @@ fn full_budget(budget: u64) -> u64
 }
 
 // The front lane gave so many items.
-fn gave_chunk(t: &mut [u64], moved: u64, l: Lane)
+pub fn gave_chunk(t: &mut [u64], moved: u64, l: Lane)
     requires { ⌜ Shaped (now t) × (l .key .slot < slots (now t)) × (0 < queueCount (now t)) × (moved ≤ fullBudget (budget (now t))) ⌝ }
     ensures { λ _. ⌜ now (t .exit) ≡ gaveChunk (now (t .entry)) moved l ⌝ }
 {
@@ -133,7 +133,7 @@ fn gave_chunk(t: &mut [u64], moved: u64, l: Lane)
 }
 
 // As many items as are left of the limit, as the budget has, and as the lane may give before credit is due or its turn ends.
-fn chunk_size(t: &[u64], left: u64, l: Lane) -> u64
+pub fn chunk_size(t: &[u64], left: u64, l: Lane) -> u64
     requires { ⌜ Shaped (now t) × Capacity (capacity (now t)) × InOrder (capacity (now t)) l ⌝ }
     ensures { λ n. ⌜ n ≡ chunkSize (now (t .entry)) left l ⌝ }
 {
@@ -188,7 +188,7 @@ fn room_verdict(limit: u64, room: u64) -> Verdict
 }
 
 // Refusals 6 and 14 of a batch.
-fn batch_verdict(t: &[u64], limit: u64, room: u64) -> Verdict
+pub fn batch_verdict(t: &[u64], limit: u64, room: u64) -> Verdict
     requires { ⌜ Shaped (now t) ⌝ }
     ensures { λ r. ⌜ r ≡ batchVerdict (now (t .entry)) limit room ⌝ }
 {
@@ -199,7 +199,7 @@ fn batch_verdict(t: &[u64], limit: u64, room: u64) -> Verdict
 }
 
 // The number of items; Empty or Disconnected where some were asked for and there were none.
-fn answer_items(t: &mut [u64], limit: u64, received: u64) -> Answer
+pub fn answer_items(t: &mut [u64], limit: u64, received: u64) -> Answer
     requires { ⌜ RestsAt limit received (now t) ⌝ }
     ensures { λ a. ⌜ (a, now (t .exit)) ≡ answerItems limit received (now (t .entry)) ⌝ }
 {
