@@ -1,0 +1,2 @@
+pub mod WhileLaws
+pub mod WhileBatchLaws
