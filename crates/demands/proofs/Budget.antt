@@ -2,14 +2,14 @@
 -- Assumes nothing.
 use mathlib.Core.Path.{_≡_, refl, ap, sym, _∙_}
 use mathlib.Core.Bool.{Bool, true, false}
-use mathlib.Core.List.{List, [], _∷_, _++_, map}
+use mathlib.Core.List.{List, [], _∷_, _++_, map, append-nil}
 use Prim.Native.Nat.{ℕ, zero, suc}
 use native.Mathlib.Omega.{arith}
 use lib.ListN.{length, length-map}
 use lib.Dec.{leb}
 use Rattle.model.specs.declared.LaneKey.{LaneKey}
 use Rattle.model.specs.declared.ReceiveCall.{ReceiveCall}
-use Rattle.model.specs.declared.ReceiveCall.the-variants.{TryRecv, TryRecvFair, TryRecvFrom, TryRecvBatchInto}
+use Rattle.model.specs.declared.ReceiveCall.the-variants.{TryRecv, TryRecvFair, TryRecvFrom, TryRecvBatchInto, TryRecvBatchIntoWhile}
 use Rattle.model.specs.declared.Call.the-variants.{Receive}
 use Rattle.model.specs.declared.Refusal.{Refusal}
 use Rattle.model.specs.declared.Answer.the-variants.{Refused}
@@ -20,14 +20,15 @@ use Rattle.model.specs.Ready.{collectReady}
 use Rattle.model.specs.Turn.{settleEmpty, beforeNextTurn, runDown, giveOldest, giveFront, polled, takeOne, takeFair}
 use Rattle.model.specs.Outcome.{Outcome}
 use Rattle.model.specs.Runs.{accepted}
-use Rattle.model.specs.Receive.{answerOne, andMore, takeUpTo, releaseAll, answerItems, tryRecv, tryRecvFair, tryRecvFrom, tryRecvBatchInto, receiveOutcome}
+use Rattle.model.specs.Receive.{answerOne, andMore, takeUpTo, releaseAll, answerItems, tryRecv, tryRecvFair, tryRecvFrom, tryRecvBatchInto, receiveOutcome, takeWhile, answerWhile, tryRecvBatchIntoWhile}
 use Rattle.model.specs.Rules.{outcome}
-use Rattle.model.specs.Events.{Event, budgetSet, collected, noneMarked, foundEmpty, itemTaken, wentToBack, anyMarked, collectEvent, refillEvents, beforeNextTurnEvents, runDownFromEvents, runDownEvents, backEvents, giveOldestEvents, giveFrontEvents, collectIfDueEvents, collectIfNoneQueuedEvents, polledEvents, takeOneEvents, takeFairEvents, andMoreEvents, takeUpToEvents, takeFromEvents, receiveEvents, callEvents, runEvents, takesItem, countEvents, lanesOfItems}
+use Rattle.model.specs.Events.{Event, budgetSet, collected, noneMarked, foundEmpty, itemTaken, wentToBack, anyMarked, collectEvent, refillEvents, beforeNextTurnEvents, runDownFromEvents, runDownEvents, backEvents, giveOldestEvents, giveFrontEvents, collectIfDueEvents, collectIfNoneQueuedEvents, polledEvents, takeOneEvents, takeFairEvents, andMoreEvents, takeUpToEvents, takeFromEvents, receiveEvents, callEvents, runEvents, takesItem, countEvents, lanesOfItems, haltedEvents, takeWhileEvents}
 use Rattle.model.specs.Budget.{itemsCountedFrom, itemsSinceSet, BudgetCountsItems, isTargeted, EventsTell}
 use Rattle.model.specs.Viewed.{rulesViewed, rulesOnAnyState}
 use Rattle.demands.proofs.Moves.{unless-law, nothing-taken-gives-none}
 use Rattle.demands.proofs.Events.{Tally, next, tally}
 use Rattle.demands.proofs.EventsOfRuns.{zeros, run-pass, answer-one-answered, answer-items-answered}
+use Rattle.demands.proofs.StopLaws.{while-law}
 
 pub counted-from : (k : LaneKey) (T : Tally) (es : List Event) → (tally k T es) .sinceSet ≡ itemsCountedFrom (T .sinceSet) es
 unfolding tally next itemsCountedFrom
@@ -152,6 +153,14 @@ take-up-to-lanes (suc m) s = lanes-append (takeOneEvents s) _ ∙ go (takeUpToEv
     go es t no-item e = refl
     go es t (one-item g) e = ap (λ (l : List LaneKey). g .0 ∷ l) e
 
+-- a stop hands out no item
+halted-lanes : (n : ℕ) (s : State) → lanesOfItems (haltedEvents n s) ≡ map (λ g. g .0) ((takeUpTo n s) .0)
+unfolding haltedEvents
+halted-lanes n s =
+    let u = (takeUpTo n s) .1 in
+    let none : lanesOfItems (polledEvents u ++ refillEvents ((polled u) .budget)) ≡ [] = none-then (polledEvents u) (refillEvents ((polled u) .budget)) (polled-none u) ∙ refill-none ((polled u) .budget) in
+    lanes-append (takeUpToEvents n s) (polledEvents u ++ refillEvents ((polled u) .budget)) ∙ ap (λ (l : List LaneKey). lanesOfItems (takeUpToEvents n s) ++ l) none ∙ append-nil (lanesOfItems (takeUpToEvents n s)) ∙ take-up-to-lanes n s
+
 -- the answer hands out what was taken
 Handed : List Event → Outcome → Type 0
 Handed es o = lanesOfItems (if (accepted (o .1 .0)) es []) ≡ map (λ g. g .0) (o .0)
@@ -177,6 +186,12 @@ answer-items-handed es m l s e = rw (answer-items-answered m l s .is-accepted) (
     go (suc m) [] = nothing-taken-gives-none (releaseAll s)
     go (suc m) (g ∷ l) = refl
 
+while-handed : (b m : ℕ) (s : State) → let t = takeWhile b m s in Handed (takeWhileEvents b m s) (answerWhile m (t .0) (t .1 .0) (releaseAll (t .1 .1)))
+unfolding answerWhile Handed accepted
+while-handed b m s =
+    while-law (λ t es. Handed es (answerWhile m (t .0) (t .1 .0) (releaseAll (t .1 .1)))) b m s
+    (λ all. answer-items-handed _ m _ _ (take-up-to-lanes m s)) (λ n w. halted-lanes n s)
+
 take-from-none : (s : State) (l : List ℕ) (x : ℕ) (b : Bool) → lanesOfItems (if b (takeFromEvents l x s) []) ≡ []
 unfolding lanesOfItems takeFromEvents
 take-from-none s l x false = refl
@@ -184,10 +199,11 @@ take-from-none s [] x true = refl
 take-from-none s (v ∷ vs) x true = refl
 
 items-as-handed : (s : State) (r : ReceiveCall) → lanesOfItems (callEvents s (Receive r)) ≡ if (isTargeted r) [] (map (λ g. g .0) ((receiveOutcome s r) .0))
-unfolding Handed isTargeted callEvents receiveEvents outcome receiveOutcome tryRecv tryRecvFair tryRecvBatchInto
+unfolding Handed isTargeted callEvents receiveEvents outcome receiveOutcome tryRecv tryRecvFair tryRecvBatchInto tryRecvBatchIntoWhile
 items-as-handed s TryRecv = unless-law (Handed (takeOneEvents s)) _ s _ (refused-handed _ s) (λ p. answer-one-handed _ _ _ (take-one-lanes s))
 items-as-handed s TryRecvFair = unless-law (Handed (takeFairEvents s)) _ s _ (refused-handed _ s) (λ p. answer-one-handed _ _ _ (take-fair-lanes s))
 items-as-handed s (TryRecvBatchInto m n) = unless-law (Handed (takeUpToEvents m s)) _ s _ (refused-handed _ s) (λ p. answer-items-handed _ m _ _ (take-up-to-lanes m s))
+items-as-handed s (TryRecvBatchIntoWhile m b n) = unless-law (Handed (takeWhileEvents b m s)) _ s _ (refused-handed _ s) (λ p. while-handed b m s)
 items-as-handed s (TryRecvFrom i) = take-from-none s (s .slotOf (i .key .slot) .ring) (i .key .slot) (accepted ((tryRecvFrom s i) .1 .0))
 
 count-lanes : (es : List Event) → countEvents takesItem es ≡ length (lanesOfItems es)

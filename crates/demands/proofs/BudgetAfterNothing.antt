@@ -11,7 +11,7 @@ use lib.Dec.{leb}
 use borrow.Author.Tests.{le-leb}
 use Rattle.model.specs.declared.LaneKey.{LaneKey}
 use Rattle.model.specs.declared.ReceiveCall.{ReceiveCall}
-use Rattle.model.specs.declared.ReceiveCall.the-variants.{TryRecv, TryRecvFair, TryRecvFrom, TryRecvBatchInto}
+use Rattle.model.specs.declared.ReceiveCall.the-variants.{TryRecv, TryRecvFair, TryRecvFrom, TryRecvBatchInto, TryRecvBatchIntoWhile}
 use Rattle.model.specs.declared.Call.the-variants.{Receive}
 use Rattle.model.specs.declared.Refusal.{Refusal}
 use Rattle.model.specs.declared.Answer.the-variants.{Refused}
@@ -22,15 +22,17 @@ use Rattle.model.specs.Ready.{collectReady, collectReadyGroup}
 use Rattle.model.specs.Turn.{Took, settleEmpty, refill, beforeNextTurn, runDownFrom, runDown, collectIfDue, collectIfNoneQueued, polled, takeOne, takeFair}
 use Rattle.model.specs.Outcome.{Outcome}
 use Rattle.model.specs.Runs.{accepted}
-use Rattle.model.specs.Receive.{answerOne, takeFrom, andMore, takeUpTo, releaseAll, answerItems, tryRecv, tryRecvFair, tryRecvFrom, tryRecvBatchInto, receiveOutcome}
+use Rattle.model.specs.Stretch.{saysStopped}
+use Rattle.model.specs.Receive.{answerOne, takeFrom, andMore, takeUpTo, releaseAll, answerItems, tryRecv, tryRecvFair, tryRecvFrom, tryRecvBatchInto, halted, takeWhile, answerWhile, tryRecvBatchIntoWhile, receiveOutcome}
 use Rattle.model.specs.Rules.{outcome}
 use Rattle.model.specs.Events.{Event, budgetSet, collected, noneMarked, foundEmpty, itemTaken, wentToBack, callEvents, takesItem, countEvents}
 use Rattle.model.specs.Budget.{itemsCountedFrom, isTargeted}
 use Rattle.model.specs.Viewed.{Viewed, rulesViewed}
-use Rattle.model.specs.BudgetAfterNothing.{budgetLeftBy, budgetLeft, HandsNothing, BudgetAfterNothing, setsBudget, BudgetAsEventsSet}
+use Rattle.model.specs.BudgetAfterNothing.{BudgetAfterStop, budgetLeftBy, budgetLeft, HandsNothing, BudgetAfterNothing, setsBudget, BudgetAsEventsSet}
 use Rattle.demands.proofs.Counting.{no}
 use Rattle.demands.proofs.WaitInReceive.{settle-empty-budget}
 use Rattle.demands.proofs.Quiet.{poll}
+use Rattle.demands.proofs.StopLaws.{while-law, answer-one-unstopped, answer-items-unstopped, take-from-unstopped}
 use Rattle.demands.proofs.WholeChunk.{refill-some}
 use Rattle.demands.proofs.Moves.{TakeResult, took-none, took-one, take-one-taken, take-fair-taken, unless-law}
 use Rattle.demands.proofs.Events.{Tally, collect-ready-alike}
@@ -149,41 +151,113 @@ batch-none m s n = go ((takeOne s) .0) refl n
     go [] e n = plain-none s e
     go (g ∷ l) e n = absurd (omega (arith, ap length n))
 
--- an outcome with no item, which is no refusal, leaves a budget of n
+-- an outcome with no item, which is no refusal and no stop, leaves a budget of n
 Leaves : ℕ → Outcome → Type 0
-Leaves n o = o .0 ≡ [] → accepted (o .1 .0) ≡ true → o .1 .1 .budget ≡ n
+Leaves n o = o .0 ≡ [] → accepted (o .1 .0) ≡ true → saysStopped (o .1 .0) ≡ false → o .1 .1 .budget ≡ n
 
 refused-leaves : (n : ℕ) (s : State) (why : Refusal) → Leaves n ([], (Refused why, s))
 unfolding Leaves accepted
-refused-leaves n s why e a = absurd (no a refl)
+refused-leaves n s why e a w = absurd (no a refl)
 
 answer-one-leaves : (n : ℕ) (l : List (LaneKey × ℕ)) (s : State) → (l ≡ [] → s .budget ≡ n) → Leaves n (answerOne l s)
 unfolding Leaves answerOne
-answer-one-leaves n [] s h e a = answer-one-answered [] s .is-alike .budgets ∙ h refl
-answer-one-leaves n (g ∷ l) s h e a = absurd (omega (arith, ap length e))
+answer-one-leaves n [] s h e a w = answer-one-answered [] s .is-alike .budgets ∙ h refl
+answer-one-leaves n (g ∷ l) s h e a w = absurd (omega (arith, ap length e))
 
 answer-items-leaves : (n m : ℕ) (l : List (LaneKey × ℕ)) (s : State) → (l ≡ [] → s .budget ≡ n) → Leaves n (answerItems m l (releaseAll s))
 unfolding Leaves answerItems
-answer-items-leaves n zero l s h e a = answer-items-answered zero l s .is-alike .budgets ∙ h e
-answer-items-leaves n (suc m) [] s h e a = answer-items-answered (suc m) [] s .is-alike .budgets ∙ h refl
-answer-items-leaves n (suc m) (g ∷ l) s h e a = absurd (omega (arith, ap length e))
+answer-items-leaves n zero l s h e a w = answer-items-answered zero l s .is-alike .budgets ∙ h e
+answer-items-leaves n (suc m) [] s h e a w = answer-items-answered (suc m) [] s .is-alike .budgets ∙ h refl
+answer-items-leaves n (suc m) (g ∷ l) s h e a w = absurd (omega (arith, ap length e))
 
 take-from-leaves : (l : List ℕ) (x : ℕ) (s : State) → Leaves (s .budget) (takeFrom l x s)
 unfolding Leaves takeFrom
-take-from-leaves [] x s e a = settle-empty-budget x (without x (s .queue)) s
-take-from-leaves (v ∷ vs) x s e a = absurd (omega (arith, ap length e))
+take-from-leaves [] x s e a w = settle-empty-budget x (without x (s .queue)) s
+take-from-leaves (v ∷ vs) x s e a w = absurd (omega (arith, ap length e))
+
+-- one that stopped is no outcome of this kind
+while-leaves : (n b m : ℕ) (s : State) → ((takeUpTo m s) .0 ≡ [] → (takeUpTo m s) .1 .budget ≡ n) → let t = takeWhile b m s in Leaves n (answerWhile m (t .0) (t .1 .0) (releaseAll (t .1 .1)))
+unfolding Leaves answerWhile saysStopped
+while-leaves n b m s h =
+    while-law (λ t es. Leaves n (answerWhile m (t .0) (t .1 .0) (releaseAll (t .1 .1)))) b m s
+    (λ all. answer-items-leaves n m ((takeUpTo m s) .0) ((takeUpTo m s) .1) h) (λ k w e a z. absurd (no refl z))
 
 receive-leaves : (s : State) (r : ReceiveCall) → Leaves (budgetLeft s r) (receiveOutcome s r)
-unfolding budgetLeft receiveOutcome tryRecv tryRecvFair tryRecvFrom tryRecvBatchInto takeUpTo
+unfolding budgetLeft receiveOutcome tryRecv tryRecvFair tryRecvFrom tryRecvBatchInto tryRecvBatchIntoWhile takeUpTo
 receive-leaves s TryRecv = unless-law (Leaves _) _ s _ (refused-leaves _ s) (λ p. answer-one-leaves _ _ _ (plain-none s))
 receive-leaves s TryRecvFair = unless-law (Leaves _) _ s _ (refused-leaves _ s) (λ p. answer-one-leaves _ _ _ (fair-none s))
 receive-leaves s (TryRecvBatchInto zero room) = unless-law (Leaves _) _ s _ (refused-leaves _ s) (λ p. answer-items-leaves _ zero [] s (λ e. refl))
 receive-leaves s (TryRecvBatchInto (suc m) room) = unless-law (Leaves _) _ s _ (refused-leaves _ s) (λ p. answer-items-leaves _ (suc m) _ _ (batch-none m s))
+receive-leaves s (TryRecvBatchIntoWhile zero bound room) = unless-law (Leaves _) _ s _ (refused-leaves _ s) (λ p. while-leaves _ bound zero s (λ e. refl))
+receive-leaves s (TryRecvBatchIntoWhile (suc m) bound room) = unless-law (Leaves _) _ s _ (refused-leaves _ s) (λ p. while-leaves _ bound (suc m) s (batch-none m s))
 receive-leaves s (TryRecvFrom i) = unless-law (Leaves _) _ s _ (refused-leaves _ s) (λ p. take-from-leaves _ _ s)
 
 pub budget-after-nothing : BudgetAfterNothing rulesViewed
 unfolding BudgetAfterNothing outcome Leaves
-budget-after-nothing s r h = receive-leaves s r (h .no-item) (h .not-refused)
+budget-after-nothing s r h w = receive-leaves s r (h .no-item) (h .not-refused) w
+
+-- ---- after a stop
+
+-- what a budget of 0 is set to is the same before the poll and after it
+refill-twice : (n : ℕ) → refill (refill n) ≡ refill n
+unfolding refill
+refill-twice zero = refl
+refill-twice (suc n) = refl
+
+next-refill : (q : List ℕ) (u : State) → refill ((beforeNextTurn q u) .budget) ≡ refill (u .budget)
+unfolding beforeNextTurn
+next-refill [] u = refl
+next-refill (x ∷ q) u = refill-twice (u .budget)
+
+run-down-refill : (q : List ℕ) (s : State) → refill ((runDownFrom q s) .budget) ≡ refill (s .budget)
+unfolding runDownFrom
+run-down-refill [] s = refl
+run-down-refill (y ∷ q) s = go (nonEmpty (s .slotOf y .ring)) (run-down-refill q (beforeNextTurn q m))
+  where
+    m : State
+    m = settleEmpty y q s
+
+    go : (b : Bool) → refill ((runDownFrom q (beforeNextTurn q m)) .budget) ≡ refill ((beforeNextTurn q m) .budget)
+        → refill ((if b s (runDownFrom q (beforeNextTurn q m))) .budget) ≡ refill (s .budget)
+    go true ih = refl
+    go false ih = ih ∙ next-refill q m ∙ ap refill (settle-empty-budget y q s)
+
+due-refill : (n : ℕ) (q : List ℕ) (s : State) → s .budget ≡ n → refill ((collectIfDue n q s) .budget) ≡ refill (s .budget)
+unfolding collectIfDue refill
+due-refill zero (y ∷ q) s e = sym (ap refill e)
+due-refill zero [] s e = refl
+due-refill (suc n) q s e = refl
+
+none-refill : (q : List ℕ) (s : State) → refill ((collectIfNoneQueued q s) .budget) ≡ refill (s .budget)
+unfolding collectIfNoneQueued runDown
+none-refill [] s = run-down-refill ((collectReady s) .queue) (collectReady s) ∙ ap refill (collect-ready-alike s .budgets)
+none-refill (y ∷ q) s = refl
+
+polled-refill : (s : State) → refill ((polled s) .budget) ≡ refill (s .budget)
+unfolding polled runDown
+polled-refill s =
+    let t = collectIfDue (s .budget) (s .queue) s in
+    none-refill _ (runDownFrom (t .queue) t) ∙ run-down-refill (t .queue) t ∙ due-refill (s .budget) (s .queue) s refl
+
+-- the budget after a stop at count k, which is 0
+stop-budget : (s : State) (k : ℕ) → k ≡ 0 → (releaseAll (halted (polled ((takeUpTo k s) .1)))) .budget ≡ refill (s .budget)
+unfolding releaseAll halted takeUpTo
+stop-budget s zero e = polled-refill s
+stop-budget s (suc k) e = absurd (omega (arith, e))
+
+pub budget-after-stop : BudgetAfterStop rulesViewed
+unfolding BudgetAfterStop outcome receiveOutcome tryRecv tryRecvFair tryRecvFrom tryRecvBatchInto tryRecvBatchIntoWhile answerWhile saysStopped
+budget-after-stop s TryRecv h w = absurd (no w (unless-law (λ o. saysStopped (o .1 .0) ≡ false) _ s _ (λ n. refl) (λ p. answer-one-unstopped _ _)))
+budget-after-stop s TryRecvFair h w = absurd (no w (unless-law (λ o. saysStopped (o .1 .0) ≡ false) _ s _ (λ n. refl) (λ p. answer-one-unstopped _ _)))
+budget-after-stop s (TryRecvFrom i) h w = absurd (no w (unless-law (λ o. saysStopped (o .1 .0) ≡ false) _ s _ (λ n. refl) (λ p. take-from-unstopped _ _ s)))
+budget-after-stop s (TryRecvBatchInto m n) h w = absurd (no w (unless-law (λ o. saysStopped (o .1 .0) ≡ false) _ s _ (λ n. refl) (λ p. answer-items-unstopped m _ _)))
+budget-after-stop s (TryRecvBatchIntoWhile m b n) h w =
+    unless-law After _ s _ (λ n e z. absurd (no z refl))
+    (λ p. while-law (λ t es. After (answerWhile m (t .0) (t .1 .0) (releaseAll (t .1 .1)))) b m s
+    (λ all e z. absurd (no z (answer-items-unstopped m _ _))) (λ k u e z. stop-budget s k (sym (u .all-there) ∙ ap length e))) (h .no-item) w
+  where
+    After : Outcome → Type 0
+    After o = o .0 ≡ [] → saysStopped (o .1 .0) ≡ true → o .1 .1 .budget ≡ refill (s .budget)
 
 -- ---- by what happens
 
@@ -241,7 +315,15 @@ module _ (W : Viewed) (sim : Simulation W) where
 
   pub words-budget-after-nothing : BudgetAfterNothing W
   unfolding BudgetAfterNothing
-  words-budget-after-nothing w r h = ap (λ (u : State). u .budget) (sim .leaves-alike w (Receive r) (h .in-order)) ∙ budget-after-nothing (W .view w) r (seen w r h)
+  words-budget-after-nothing w r h n =
+      ap (λ (u : State). u .budget) (sim .leaves-alike w (Receive r) (h .in-order))
+      ∙ budget-after-nothing (W .view w) r (seen w r h) (ap saysStopped (sym (sim .answers-alike w (Receive r) (h .in-order))) ∙ n)
+
+  pub words-budget-after-stop : BudgetAfterStop W
+  unfolding BudgetAfterStop
+  words-budget-after-stop w r h n =
+      ap (λ (u : State). u .budget) (sim .leaves-alike w (Receive r) (h .in-order))
+      ∙ budget-after-stop (W .view w) r (seen w r h) (ap saysStopped (sym (sim .answers-alike w (Receive r) (h .in-order))) ∙ n)
 
   pub words-budget-as-events-set : BudgetAsEventsSet W
   unfolding BudgetAsEventsSet

@@ -20,7 +20,8 @@ use Rattle.model.specs.Opening.{doubledUntil, openedState}
 use Rattle.model.specs.Order.{LaneFits, RingsFit}
 use Rattle.demands.proofs.Counting.{no, Same, equal, other, same?, self}
 use Rattle.demands.proofs.Quiet.{Quiet, stays, goes, Quietly, trans, poll, poll-quiet, release-all-quiet, settle-empty-quiet}
-use Rattle.demands.proofs.Moves.{Moves, stays-put, credits, registers-new, registers-old, sends, posts, drops-it, pauses-it, resumes, resumes-not, closes-it, polls-all, shuts-it, takes, stops, aims, aims-none}
+use Rattle.demands.proofs.Moves.{Moves, stays-put, credits, registers-new, registers-old, sends, posts, drops-it, pauses-it, resumes, resumes-not, closes-it, polls-all, shuts-it, takes, stops, halts, aims, aims-none}
+use Rattle.demands.proofs.StopLaws.{halts-quiet}
 use Rattle.demands.proofs.MovesKeepOrder.{has-lane-parts}
 use Rattle.demands.proofs.Demand2.{give-item-slot, queue-lane-slot}
 use Rattle.demands.proofs.LedgerAgrees.{retire-lane-slot, again-put}
@@ -118,6 +119,7 @@ move-rings-fit r (takes f w s y v q vs h e g) =
     let n = popped vs (unreleasedAfterOne p y) (if b 0 (p .slotOf y .burst + 1)) (p .slotOf y) in
     rings-fit-put p (giveItem p y q vs b) y n (give-item-slot p y q vs b) (give-item-capacity p y q vs b) (λ h. fits-pop p y v vs n (m .positive) g refl refl (m .each-fits y h)) m
 move-rings-fit r (stops f w s u a h e q k n) = rings-fit-quiet s u (trans (poll-quiet f s) q) r
+move-rings-fit r (halts s m b n j y q e h) = rings-fit-quiet s _ (halts-quiet s) r
 move-rings-fit r (aims s i v vs c g) =
     let x = i .key .slot in
     let n = popped vs (unreleasedAfterOne s x) (s .slotOf x .burst) (s .slotOf x) in

@@ -1,5 +1,5 @@
--- What is proved of the rules' runs and calls holds of all calls W that simulate them: those on 64, the budget, Disconnected, refusal 13, signals and where the
--- receives end.
+-- What is proved of the rules' runs and calls holds of all calls W that simulate them: those on 64, the budget, Disconnected, refusal 13, signals, where the
+-- receives end, and where a batch stops.
 -- Assumes nothing.
 use mathlib.Core.Path.{_≡_, sym, ap, _∙_, subst}
 use mathlib.Core.Logic.{_≢_, _⊎_, inl, inr}
@@ -9,7 +9,7 @@ use Prim.Native.Nat.{ℕ, _≤_}
 use lib.ListN.{length}
 use Rattle.model.specs.declared.LaneKey.{LaneKey}
 use Rattle.model.specs.declared.ReceiveCall.{ReceiveCall}
-use Rattle.model.specs.declared.ReceiveCall.the-variants.{TryRecvFrom}
+use Rattle.model.specs.declared.ReceiveCall.the-variants.{TryRecvFrom, TryRecvBatchInto, TryRecvBatchIntoWhile}
 use Rattle.model.specs.declared.SenderCall.the-variants.{RegisterSender}
 use Rattle.model.specs.declared.Call.{Call}
 use Rattle.model.specs.declared.Call.the-variants.{Sender, Receive}
@@ -24,12 +24,14 @@ use Rattle.model.specs.Events.{anyMarked}
 use Rattle.model.specs.Budget.{BudgetCountsItems, isTargeted, EventsTell}
 use Rattle.model.specs.OneTurn.{AtMost64InOneTurn}
 use Rattle.model.specs.Collections.{AtMost64BetweenCollections, TakesOneGroup, TakesAllGroups, StandsAfterLast, NothingToCollect, Collecting}
-use Rattle.model.specs.Disconnected.{NoSenderLives, NoLaneRegistered, EmptyOnesRetired, SameLane, PausedWithItems, Looks, Drained, DisconnectedExactly, RetiresEmptyPaused, EmptyWithPausedItems, OnlyPausedItemsLeft, TargetedDisconnectedExactly}
+use Rattle.model.specs.Disconnected.{NoSenderLives, NoLaneRegistered, EmptyOnesRetired, SameLane, PausedWithItems, Looks, Drained, FindsNone, DisconnectedExactly, RetiresEmptyPaused, EmptyWithPausedItems, OnlyPausedItemsLeft, TargetedDisconnectedExactly}
 use Rattle.model.specs.LaneIds.{ThirteenExactly, SixOrAccepted, ElseSixOrAccepted}
 use Rattle.model.specs.Signals.{dropsSender, FoundEmptyBy, IdleOnlyWhenEmpty, ClosedAfter, ClosedSignalKept}
 use Rattle.model.specs.Registration.{TakesFirstClear, TakesNextUnused, EightExactly, NineExactly, RefusedOnlyInVain, OnTop, FreedOnTop}
 use Rattle.model.specs.PollLoop.{NothingLeft}
 use Rattle.model.specs.ReceivesEnd.{itemsAsked, EndsWithNothingLeft}
+use Rattle.model.specs.Stretch.{saysStopped}
+use Rattle.model.specs.Stops.{StopsInFront, StoppedInFront, StopsExactly, StopAtZero, SameReceive, PlainWhereAdmitted, RefusedAsBatch}
 use Rattle.model.specs.Simulation.{Simulation}
 use Rattle.demands.proofs.Budget.{budget-counts-items, events-tell}
 use Rattle.demands.proofs.OneTurn.{at-most-64-in-one-turn}
@@ -41,6 +43,7 @@ use Rattle.demands.proofs.ClosedSignal.{closed-signal-kept}
 use Rattle.demands.proofs.Registration.{takes-first-clear, takes-next-unused, eight-exactly, nine-exactly, refused-only-in-vain}
 use Rattle.demands.proofs.FreedOnTop.{freed-on-top}
 use Rattle.demands.proofs.ReceivesEnd.{ends-with-nothing-left}
+use Rattle.demands.proofs.Stops.{stopped-in-front, stops-exactly, stop-at-zero, plain-where-admitted, refused-as-batch}
 use Rattle.demands.proofs.Simulation.{accepted-too, opened-after, opened-events}
 
 module _ (W : Viewed) (sim : Simulation W) where
@@ -85,6 +88,9 @@ module _ (W : Viewed) (sim : Simulation W) where
       nothing-seen : itemsOf W s r ≡ [] → itemsOf rulesViewed (W .view s) r ≡ []
       nothing-seen n = sym (sim .hands-alike s r o) ∙ n
 
+      finds-none-seen : FindsNone W s r → FindsNone rulesViewed (W .view s) r
+      finds-none-seen n = record { no-item = nothing-seen (n .no-item); not-stopped = ap saysStopped (sym (sim .answers-alike s (Receive r) o)) ∙ n .not-stopped }
+
       senders-seen : NoSenderLives (viewAfter W s (Receive r)) → NoSenderLives (viewAfter rulesViewed (W .view s) (Receive r))
       senders-seen n = subst NoSenderLives left n
 
@@ -110,13 +116,13 @@ module _ (W : Viewed) (sim : Simulation W) where
   unfolding RetiresEmptyPaused
   words-retires-empty-paused s r l n f =
       let o = l .in-order in
-      subst (EmptyOnesRetired (W .view s)) (sym (left s r o)) (retires-empty-paused (W .view s) r (looks-seen s r l) (nothing-seen s r o n) (senders-seen s r o f))
+      subst (EmptyOnesRetired (W .view s)) (sym (left s r o)) (retires-empty-paused (W .view s) r (looks-seen s r l) (finds-none-seen s r o n) (senders-seen s r o f))
 
   pub words-empty-with-paused-items : EmptyWithPausedItems W
   unfolding EmptyWithPausedItems
   words-empty-with-paused-items s r l n f x e p some =
       let o = l .in-order in
-      let d = empty-with-paused-items (W .view s) r (looks-seen s r l) (nothing-seen s r o n) (senders-seen s r o f) x e p some in
+      let d = empty-with-paused-items (W .view s) r (looks-seen s r l) (finds-none-seen s r o n) (senders-seen s r o f) x e p some in
       (sim .answers-alike s (Receive r) o ∙ d .0, subst (λ (u : State). SameLane (W .view s .slotOf x) (u .slotOf x)) (sym (left s r o)) (d .1))
 
   pub words-only-paused-items-left : OnlyPausedItemsLeft W
@@ -127,7 +133,7 @@ module _ (W : Viewed) (sim : Simulation W) where
       subst (λ (u : State). PausedWithItems (u .slotOf x)) back
       (only-paused-items-left o (W .rules .lengths lent) (accepted-too W sim o lent d) calls tt (W .view s)
       (sym (opened-after W sim o lent d calls f) ∙ ap (W .view) at)
-      r (looks-seen s r l) (nothing-seen s r k n) (senders-seen s r k g) x (ap (λ (u : State). u .slotOf x .registered) back ∙ e))
+      r (looks-seen s r l) (finds-none-seen s r k n) (senders-seen s r k g) x (ap (λ (u : State). u .slotOf x .registered) back ∙ e))
 
   pub words-targeted-disconnected-exactly : TargetedDisconnectedExactly W
   unfolding TargetedDisconnectedExactly
@@ -152,10 +158,57 @@ module _ (W : Viewed) (sim : Simulation W) where
   unfolding EndsWithNothingLeft
   words-ends-with-nothing-left s r l = go (ends-with-nothing-left (W .view s) r (looks-seen s r l))
     where
-      go : (length (itemsOf rulesViewed (W .view s) r) ≡ itemsAsked r) ⊎ NothingLeft (viewAfter rulesViewed (W .view s) (Receive r))
-          → (length (itemsOf W s r) ≡ itemsAsked r) ⊎ NothingLeft (viewAfter W s (Receive r))
-      go (inl h) = inl (ap length (sim .hands-alike s r (l .in-order)) ∙ h)
-      go (inr n) = inr (subst NothingLeft (sym (left s r (l .in-order))) n)
+      go : ((length (itemsOf rulesViewed (W .view s) r) ≡ itemsAsked r) ⊎ NothingLeft (viewAfter rulesViewed (W .view s) (Receive r))) ⊎ (saysStopped (answerOf rulesViewed (W .view s) (Receive r)) ≡ true)
+          → ((length (itemsOf W s r) ≡ itemsAsked r) ⊎ NothingLeft (viewAfter W s (Receive r))) ⊎ (saysStopped (answerOf W s (Receive r)) ≡ true)
+      go (inl (inl h)) = inl (inl (ap length (sim .hands-alike s r (l .in-order)) ∙ h))
+      go (inl (inr n)) = inl (inr (subst NothingLeft (sym (left s r (l .in-order))) n))
+      go (inr h) = inr (ap saysStopped (sim .answers-alike s (Receive r) (l .in-order)) ∙ h)
+
+  -- ---- a batch that stops
+
+  pub words-stopped-in-front : StoppedInFront W
+  unfolding StoppedInFront
+  words-stopped-in-front s o limit bound room n e =
+      let r = TryRecvBatchIntoWhile limit bound room in
+      subst (λ (u : State). StopsInFront bound limit n (W .view s) u (itemsOf W s r)) (sym (left s r o))
+      (subst (λ (l : List (LaneKey × ℕ)). StopsInFront bound limit n (W .view s) (viewAfter rulesViewed (W .view s) (Receive r)) l) (sym (sim .hands-alike s r o))
+      (stopped-in-front (W .view s) tt limit bound room n (sym (sim .answers-alike s (Receive r) o) ∙ e)))
+
+  pub words-stops-exactly : StopsExactly W
+  unfolding StopsExactly
+  words-stops-exactly s o limit bound room a =
+      let e = sim .answers-alike s (Receive (TryRecvBatchIntoWhile limit bound room)) o in
+      let d = stops-exactly (W .view s) tt limit bound room (ap accepted (sym e) ∙ a) in
+      (λ h. ap saysStopped e ∙ d .0 h, λ h. d .1 (ap saysStopped (sym e) ∙ h))
+
+  pub words-stop-at-zero : StopAtZero W
+  unfolding StopAtZero
+  words-stop-at-zero s o limit bound room a g l e h =
+      let r = TryRecvBatchIntoWhile limit bound room in
+      let k = sim .answers-alike s (Receive r) o in
+      let d = stop-at-zero (W .view s) tt limit bound room (ap accepted (sym k) ∙ a) g l e h in
+      (k ∙ d .0, sim .hands-alike s r o ∙ d .1)
+
+  same-receive : (s : W .rules .State) (r other : ReceiveCall) → W .Ok s → SameReceive rulesOnAnyState (W .view s) r other → SameReceive W s r other
+  same-receive s r other o k = record {
+    same-items = sim .hands-alike s r o ∙ k .same-items ∙ sym (sim .hands-alike s other o);
+    same-answer = sim .answers-alike s (Receive r) o ∙ k .same-answer ∙ sym (sim .answers-alike s (Receive other) o);
+    same-state = sim .leaves-alike s (Receive r) o ∙ k .same-state ∙ sym (sim .leaves-alike s (Receive other) o);
+  }
+
+  pub words-plain-where-admitted : PlainWhereAdmitted W
+  unfolding PlainWhereAdmitted
+  words-plain-where-admitted s o limit bound room h =
+      same-receive s (TryRecvBatchIntoWhile limit bound room) (TryRecvBatchInto limit room) o (plain-where-admitted (W .view s) tt limit bound room h)
+
+  pub words-refused-as-batch : RefusedAsBatch W
+  unfolding RefusedAsBatch
+  words-refused-as-batch s o limit bound room =
+      let r = TryRecvBatchIntoWhile limit bound room in
+      let plain = TryRecvBatchInto limit room in
+      let d = refused-as-batch (W .view s) tt limit bound room in
+      let k = sim .answers-alike s (Receive plain) o in
+      (ap accepted (sim .answers-alike s (Receive r) o) ∙ d .0 ∙ ap accepted (sym k), λ e. same-receive s r plain o (d .1 (ap accepted (sym k) ∙ e)))
 
   -- ---- signals
 

@@ -14,7 +14,8 @@ use Rattle.model.specs.Receive.{queueLaneIf}
 use Rattle.model.specs.Opening.{channelOf, openedState, openingOutcome}
 use Rattle.model.specs.Rules.{outcome, theRules}
 use Rattle.demands.proofs.Quiet.{poll, poll-quiet, release-all-quiet, settle-empty-quiet}
-use Rattle.demands.proofs.Moves.{Moves, stays-put, credits, registers-new, registers-old, sends, posts, drops-it, pauses-it, resumes, resumes-not, closes-it, polls-all, shuts-it, takes, stops, aims, aims-none, Chain, stay, move, call-chain, trace-chain}
+use Rattle.demands.proofs.Moves.{Moves, stays-put, credits, registers-new, registers-old, sends, posts, drops-it, pauses-it, resumes, resumes-not, closes-it, polls-all, shuts-it, takes, stops, halts, aims, aims-none, Chain, stay, move, call-chain, trace-chain}
+use Rattle.demands.proofs.StopLaws.{halts-quiet}
 use Rattle.demands.proofs.Demand2.{opens-as}
 
 queue-lane-channel : (b : Bool) (x : ℕ) (s : State) → (queueLaneIf b x s) .channel ≡ s .channel
@@ -43,6 +44,7 @@ move-channel (polls-all s) = refl
 move-channel (shuts-it s) = refl
 move-channel (takes f r s y v q vs h e i) = give-item-channel (poll f s) y q vs _ ∙ poll-quiet f s .channels
 move-channel (stops f r s u a h e q l n) = q .channels ∙ poll-quiet f s .channels
+move-channel (halts s m b n j y q e h) = halts-quiet s .channels
 move-channel (aims s i v vs c e) = queue-lane-channel (mayQueue s (i .key .slot)) (i .key .slot) _
 move-channel (aims-none s i a c e h) = settle-empty-quiet (i .key .slot) (without (i .key .slot) (s .queue)) s e .channels
 

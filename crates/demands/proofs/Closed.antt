@@ -24,7 +24,7 @@ use Rattle.model.specs.Closed.{NoneAfterCloseIn, NoneAfterClose}
 use Rattle.demands.proofs.Counting.{self, no}
 use Rattle.demands.proofs.OrderKept.{front-registered}
 use Rattle.demands.proofs.Quiet.{poll, poll-quiet, poll-ordered}
-use Rattle.demands.proofs.Moves.{Silent, Moves, stays-put, credits, registers-new, registers-old, sends, posts, drops-it, pauses-it, resumes, resumes-not, closes-it, polls-all, shuts-it, takes, stops, aims, aims-none, Chain, stay, move, trace-chain}
+use Rattle.demands.proofs.Moves.{Silent, Moves, stays-put, credits, registers-new, registers-old, sends, posts, drops-it, pauses-it, resumes, resumes-not, closes-it, polls-all, shuts-it, takes, stops, halts, aims, aims-none, Chain, stay, move, trace-chain}
 use Rattle.demands.proofs.Opened.{opened-ordered}
 use Rattle.demands.proofs.MovesKeepOrder.{has-lane-parts, move-ordered}
 use Rattle.demands.proofs.LedgerLaws.{alike, unlike, keys?}
@@ -72,6 +72,7 @@ move-silent k o g (polls-all s) = refl
 move-silent k o g (shuts-it s) = refl
 move-silent k o g (takes f r s y v q vs h e i) = not-gone k (poll f s) y (front-registered (poll f s) y q e (poll-ordered f s o)) (gone-on k s (poll f s) (grows-quiet s (poll f s) (poll-quiet f s)) g)
 move-silent k o g (stops f r s u a h e q l n) = refl
+move-silent k o g (halts s m b n j y q e h) = refl
 move-silent k o g (aims s i v vs c e) = not-gone k s (i .key .slot) (has-lane-parts s (i .key) c .0) g
 move-silent k o g (aims-none s i a c e h) = refl
 

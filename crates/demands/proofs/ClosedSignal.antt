@@ -12,7 +12,7 @@ use Rattle.model.specs.declared.LaneKey.{LaneKey}
 use Rattle.model.specs.declared.LaneId.{LaneId}
 use Rattle.model.specs.declared.SenderCall.the-variants.{RegisterSender, TrySend, TrySendUnsignaled, DropSender}
 use Rattle.model.specs.declared.ReceiveCall.{ReceiveCall}
-use Rattle.model.specs.declared.ReceiveCall.the-variants.{TryRecv, TryRecvFair, TryRecvFrom, TryRecvBatchInto}
+use Rattle.model.specs.declared.ReceiveCall.the-variants.{TryRecv, TryRecvFair, TryRecvFrom, TryRecvBatchInto, TryRecvBatchIntoWhile}
 use Rattle.model.specs.declared.ControlCall.{ControlCall}
 use Rattle.model.specs.declared.ControlCall.the-variants.{Pause, Resume, CloseLane, ReleaseConsumed, PollAllLanes, CloseReceiver, CountHeld}
 use Rattle.model.specs.declared.Call.{Call}
@@ -27,7 +27,7 @@ use Rattle.model.specs.Turn.{retireLane, retireLaneIf, settleEmpty, beforeNextT
 use Rattle.model.specs.Outcome.{Outcome, says, unless}
 use Rattle.model.specs.Runs.{sameKey}
 use Rattle.model.specs.Sender.{clearSlots, issueSlot, registerSender, trySend, trySendUnsignaled, dropSender, senderOutcome}
-use Rattle.model.specs.Receive.{retireEmptyPausedLanes, emptyOrDrained, nothingTaken, answerOne, queueLaneIf, takeFrom, andMore, takeUpTo, releaseAll, answerItems, receiveOutcome, tryRecv, tryRecvFair, tryRecvFrom, tryRecvBatchInto}
+use Rattle.model.specs.Receive.{retireEmptyPausedLanes, emptyOrDrained, nothingTaken, answerOne, queueLaneIf, takeFrom, andMore, takeUpTo, releaseAll, answerItems, receiveOutcome, tryRecv, tryRecvFair, tryRecvFrom, tryRecvBatchInto, takeWhile, answerWhile, tryRecvBatchIntoWhile, halted}
 use Rattle.model.specs.Control.{pause, resumeIf, resume, closeLane, releaseConsumed, pollAllLanes, closeReceiver, countHeld, controlOutcome}
 use Rattle.model.specs.Rules.{outcome}
 use Rattle.model.specs.Order.{InOrder}
@@ -37,6 +37,7 @@ use Rattle.demands.proofs.Counting.{equal, other, same?, self, no, both
 use Rattle.demands.proofs.LedgerLaws.{alike, unlike, keys?}
 use Rattle.demands.proofs.ClearSlots.{clear-slot}
 use Rattle.demands.proofs.Moves.{unless-law}
+use Rattle.demands.proofs.StopLaws.{while-law}
 
 module _ (x : ℕ) where
   -- no lane is registered in slot x, nor queued
@@ -290,12 +291,20 @@ module _ (x : ℕ) where
   abbrev Leaves : State → Outcome → Type 0
   Leaves s o = Kept s (o .1 .1)
 
+  while-keeps : (b m : ℕ) (s : State) → let t = takeWhile b m s in Keeps s ((answerWhile m (t .0) (t .1 .0) (releaseAll (t .1 .1))) .1 .1)
+  unfolding answerWhile halted
+  while-keeps b m s =
+      while-law (λ t es. Keeps s ((answerWhile m (t .0) (t .1 .0) (releaseAll (t .1 .1))) .1 .1)) b m s
+      (λ all. trans (trans (take-up-to-keeps m s) (release-all-keeps _)) (answer-items-keeps m _ _))
+      (λ k w. trans (trans (trans (take-up-to-keeps k s) (polled-keeps ((takeUpTo k s) .1))) (budget-keeps _ (polled ((takeUpTo k s) .1)))) (release-all-keeps _))
+
   receive-keeps : (s : State) (r : ReceiveCall) → Away s → Leaves s (receiveOutcome s r)
-  unfolding receiveOutcome tryRecv tryRecvFair tryRecvFrom tryRecvBatchInto
+  unfolding receiveOutcome tryRecv tryRecvFair tryRecvFrom tryRecvBatchInto tryRecvBatchIntoWhile
   receive-keeps s TryRecv a = unless-law (Leaves s) _ s _ (λ n. unchanged s a) (λ p. trans (take-one-keeps s) (answer-one-keeps _ _) a)
   receive-keeps s TryRecvFair a = unless-law (Leaves s) _ s _ (λ n. unchanged s a) (λ p. trans (take-fair-keeps s) (answer-one-keeps _ _) a)
   receive-keeps s (TryRecvFrom i) a = unless-law (Leaves s) _ s _ (λ n. unchanged s a) (λ p. take-from-keeps _ _ s (has-lane s i a (not-false (p .1 .0))) a)
   receive-keeps s (TryRecvBatchInto m n) a = unless-law (Leaves s) _ s _ (λ n. unchanged s a) (λ p. trans (trans (take-up-to-keeps m s) (release-all-keeps _)) (answer-items-keeps m _ _) a)
+  receive-keeps s (TryRecvBatchIntoWhile m b n) a = unless-law (Leaves s) _ s _ (λ n. unchanged s a) (λ p. while-keeps b m s a)
 
   control-keeps : (s : State) (c : ControlCall) → Away s → Leaves s (controlOutcome s c)
   unfolding controlOutcome pause resume resumeIf closeLane releaseConsumed pollAllLanes closeReceiver countHeld retireLane count

@@ -9,7 +9,7 @@ use Rattle.model.specs.declared.LaneKey.{LaneKey}
 use Rattle.model.specs.declared.SenderCall.{SenderCall}
 use Rattle.model.specs.declared.SenderCall.the-variants.{RegisterSender, TrySend, TrySendUnsignaled, DropSender}
 use Rattle.model.specs.declared.ReceiveCall.{ReceiveCall}
-use Rattle.model.specs.declared.ReceiveCall.the-variants.{TryRecv, TryRecvFair, TryRecvFrom, TryRecvBatchInto}
+use Rattle.model.specs.declared.ReceiveCall.the-variants.{TryRecv, TryRecvFair, TryRecvFrom, TryRecvBatchInto, TryRecvBatchIntoWhile}
 use Rattle.model.specs.declared.ControlCall.{ControlCall}
 use Rattle.model.specs.declared.ControlCall.the-variants.{Pause, Resume, CloseLane, ReleaseConsumed, PollAllLanes, CloseReceiver, CountHeld}
 use Rattle.model.specs.declared.Call.the-variants.{Sender, Receive, Control}
@@ -20,7 +20,7 @@ use Rattle.model.specs.State.{State, registeredLanes, livingSenders}
 use Rattle.model.specs.Outcome.{Outcome, says}
 use Rattle.model.specs.Runs.{accepted}
 use Rattle.model.specs.Sender.{issueSlot, registerSender, trySend, trySendUnsignaled, dropSender, senderOutcome}
-use Rattle.model.specs.Receive.{retireEmptyPausedLanes, emptyOrDrained, nothingTaken, answerOne, tryRecv, tryRecvFair, takeFrom, tryRecvFrom, answerItems, tryRecvBatchInto, receiveOutcome}
+use Rattle.model.specs.Receive.{retireEmptyPausedLanes, emptyOrDrained, nothingTaken, answerOne, tryRecv, tryRecvFair, takeFrom, tryRecvFrom, answerItems, tryRecvBatchInto, receiveOutcome, takeWhile, answerWhile, tryRecvBatchIntoWhile}
 use Rattle.model.specs.Control.{pause, resume, closeLane, releaseConsumed, pollAllLanes, closeReceiver, countHeld, controlOutcome}
 use Rattle.model.specs.Rules.{outcome, theRules}
 use Rattle.model.specs.Demand1.{RefusalChangesNothing}
@@ -59,6 +59,11 @@ answer-items-accepted zero l s = refl
 answer-items-accepted (suc m) [] s = nothing-taken-accepted s
 answer-items-accepted (suc m) (g ∷ l) s = refl
 
+pub answer-while-accepted : (m : ℕ) (c : Bool) (l : List (LaneKey × ℕ)) (s : State) → accepted ((answerWhile m c l s) .1 .0) ≡ true
+unfolding answerWhile accepted
+answer-while-accepted m true l s = refl
+answer-while-accepted m false l s = answer-items-accepted m l s
+
 pub take-from-accepted : (l : List ℕ) (x : ℕ) (s : State) → accepted ((takeFrom l x s) .1 .0) ≡ true
 unfolding takeFrom accepted
 take-from-accepted [] x s = go (s .slotOf x .living)
@@ -82,11 +87,12 @@ sender-leaves s (TrySendUnsignaled k v) = unless-law (RefusalLeaves s) _ s _ (re
 sender-leaves s (DropSender k) = unless-law (RefusalLeaves s) _ s _ (refused-leaves s) (λ p. accepted-leaves s _ refl)
 
 receive-leaves : (s : State) (r : ReceiveCall) → RefusalLeaves s (receiveOutcome s r)
-unfolding receiveOutcome tryRecv tryRecvFair tryRecvFrom tryRecvBatchInto
+unfolding receiveOutcome tryRecv tryRecvFair tryRecvFrom tryRecvBatchInto tryRecvBatchIntoWhile
 receive-leaves s TryRecv = unless-law (RefusalLeaves s) _ s _ (refused-leaves s) (λ p. accepted-leaves s _ (answer-one-accepted _ _))
 receive-leaves s TryRecvFair = unless-law (RefusalLeaves s) _ s _ (refused-leaves s) (λ p. accepted-leaves s _ (answer-one-accepted _ _))
 receive-leaves s (TryRecvFrom i) = unless-law (RefusalLeaves s) _ s _ (refused-leaves s) (λ p. accepted-leaves s _ (take-from-accepted _ _ s))
 receive-leaves s (TryRecvBatchInto m n) = unless-law (RefusalLeaves s) _ s _ (refused-leaves s) (λ p. accepted-leaves s _ (answer-items-accepted m _ _))
+receive-leaves s (TryRecvBatchIntoWhile m b n) = unless-law (RefusalLeaves s) _ s _ (refused-leaves s) (λ p. accepted-leaves s _ (answer-while-accepted m ((takeWhile b m s) .0) _ _))
 
 control-leaves : (s : State) (c : ControlCall) → RefusalLeaves s (controlOutcome s c)
 unfolding controlOutcome pause resume closeLane releaseConsumed pollAllLanes closeReceiver countHeld accepted

@@ -17,7 +17,8 @@ use Rattle.model.specs.declared.Call.{Call}
 use Rattle.model.specs.declared.Call.the-variants.{Receive}
 use Rattle.model.specs.declared.Refusal.{Refusal}
 use Rattle.model.specs.declared.Answer.{Answer}
-use Rattle.model.specs.declared.Answer.the-variants.{Done, Refused}
+use Rattle.model.specs.declared.ReceiveCall.the-variants.{TryRecvBatchIntoWhile}
+use Rattle.model.specs.declared.Answer.the-variants.{Done, Stopped, Refused}
 use Rattle.model.specs.Lists.{if, both, either, count, without}
 use Rattle.model.specs.State.{Slot, State, vacant, mayQueue, keyOf, senderLives, hasLane, ringOf}
 use Rattle.model.specs.Changes.{withQueue, put, newLane, signalled, pushed, senderDropped, popped, withPaused, credited, retired}
@@ -32,7 +33,8 @@ use Rattle.model.specs.Demand2.{outOf, into, shuts, values, Demand2In, Demand2}
 use Rattle.demands.proofs.Counting.{Same, equal, other, same?, self, no, both-true}
 use Rattle.demands.proofs.OrderKept.{first-own, front-registered}
 use Rattle.demands.proofs.Quiet.{Quiet, stays, goes, Quietly, trans, poll, poll-quiet, poll-ordered, release-all-quiet, settle-empty-quiet}
-use Rattle.demands.proofs.Moves.{Moves, stays-put, credits, registers-new, registers-old, sends, posts, drops-it, pauses-it, resumes, resumes-not, closes-it, polls-all, shuts-it, takes, stops, aims, aims-none, Chain, stay, move, trace-chain}
+use Rattle.demands.proofs.Moves.{Moves, stays-put, credits, registers-new, registers-old, sends, posts, drops-it, pauses-it, resumes, resumes-not, closes-it, polls-all, shuts-it, takes, stops, halts, aims, aims-none, Chain, stay, move, trace-chain}
+use Rattle.demands.proofs.StopLaws.{halts-quiet}
 use Rattle.demands.proofs.Opened.{opened-ordered}
 use Rattle.demands.proofs.MovesKeepOrder.{has-lane-parts, unissued, move-ordered}
 use Rattle.demands.proofs.LedgerLaws.{alike, unlike, keys?}
@@ -190,6 +192,7 @@ move-kept k o z (takes f r s y v q vs h e g) =
     kept-give k (keyOf p y) p (giveItem p y q vs back) y v vs m r g refl (rings p (giveItem p y q vs back) y m (keyOf p y) k (give-item-slot p y q vs back) refl (front-registered p y q e (poll-ordered f s o)) refl (front-registered p y q e (poll-ordered f s o)) refl) in
     w ∙ ap (λ (l : List ℕ). l ++ []) (ring-quiet s p k (poll-quiet f s))
 move-kept k o z (stops f r s u a h e q n m) = kept-quiet k s u (Receive r) a refl (ring-quiet s u k (trans (poll-quiet f s) q))
+move-kept k o z (halts s m b n j y q e h) = kept-quiet k s _ (Receive (TryRecvBatchIntoWhile m b n)) (Stopped j) refl (ring-quiet s _ k (halts-quiet s))
 move-kept k o z (aims s i v vs c g) =
     let x = i .key .slot in
     let r = has-lane-parts s (i .key) c in

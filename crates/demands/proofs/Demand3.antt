@@ -16,17 +16,17 @@ use Rattle.model.specs.Examples.BoundMet.{bound-met}
 use Rattle.model.specs.Lists.{if, both}
 use Rattle.model.specs.State.{State, vacant, keyOf}
 use Rattle.model.specs.Ready.{groupsIn}
-use Rattle.model.specs.Runs.{Lent, Tick, trace, afterList, ofLane, countTicks}
+use Rattle.model.specs.Runs.{Lent, Tick, trace, afterList, ofLane, countTicks, Rules, RunsOf}
 use Rattle.model.specs.Opening.{openedState, openingOutcome}
 use Rattle.model.specs.Rules.{theRules}
 use Rattle.model.specs.Order.{Ordered}
 use Rattle.model.specs.Ledger.{Lane, Ledger, atOpening, note, ledgerAfter, anyOrdinary, waitsIn, waits}
 use Rattle.model.specs.Stretch.{endsStretch, stretch, looks, looksInVain, untargeted, ofOtherLane, untargetedOfOther, notFair, mostLive, groupsAt}
-use Rattle.model.specs.Demand3.{bound, Promise, Demand3In, Demand3}
+use Rattle.model.specs.Demand3.{bound, Promise, Demand3In, Demand3, Demand3UnstoppedIn}
 use Rattle.demands.proofs.Counting.{no, both-true, both-3, not-true}
 use Rattle.demands.proofs.Quiet.{Hold, poll}
 use Rattle.demands.proofs.WaitInReceive.{Wait, On, Polled, polled-to, poll-on, wait-start}
-use Rattle.demands.proofs.Moves.{Moves, stays-put, credits, registers-new, registers-old, sends, posts, drops-it, pauses-it, resumes, resumes-not, closes-it, polls-all, shuts-it, takes, stops, aims, aims-none, Chain, stay, move, trace-chain}
+use Rattle.demands.proofs.Moves.{Moves, stays-put, credits, registers-new, registers-old, sends, posts, drops-it, pauses-it, resumes, resumes-not, closes-it, polls-all, shuts-it, takes, stops, halts, aims, aims-none, Chain, stay, move, trace-chain}
 use Rattle.demands.proofs.Opened.{opened-ordered}
 use Rattle.demands.proofs.MovesKeepOrder.{has-lane-parts, move-ordered}
 use Rattle.demands.proofs.LedgerLaws.{look}
@@ -116,6 +116,7 @@ move-sees {E} {R} {K} {k} w (stops f r s u a h e q o n) = absurd (go (poll-on E 
   where
     go : Polled E R (K .slot) (K .generation) k (poll f s) → ⊥
     go (polled-to o pd ne) = ne e
+move-sees w (halts s m b n j y q e h) = h .sees
 move-sees w (aims s i v vs c g) = refl
 move-sees w (aims-none s i a c g h) = h .sees
 
@@ -227,3 +228,8 @@ unfolding Demand3 Demand3In
 demand3 o lent a calls t before rest e K w =
     let p = agrees-at o lent a calls before rest e in
     promise (ledgerAfter atOpening before) (p .0) _ rest K (p .1 .0) (p .1 .1) (p .2) w
+
+-- N2's sentence, which leaves stretches with a stopped batch out, follows
+pub unstopped : (R : Rules) (runs : RunsOf R) → Demand3In R runs → Demand3UnstoppedIn R runs
+unfolding Demand3In Demand3UnstoppedIn
+unstopped R runs demand o lent a calls r before rest e k w none = demand o lent a calls r before rest e k w

@@ -13,11 +13,11 @@ use borrow.Author.Tests.{leb-true, leb-false}
 use Rattle.model.specs.declared.LaneKey.{LaneKey}
 use Rattle.model.specs.declared.LaneId.{LaneId}
 use Rattle.model.specs.declared.ReceiveCall.{ReceiveCall}
-use Rattle.model.specs.declared.ReceiveCall.the-variants.{TryRecv, TryRecvFair, TryRecvFrom, TryRecvBatchInto}
+use Rattle.model.specs.declared.ReceiveCall.the-variants.{TryRecv, TryRecvFair, TryRecvFrom, TryRecvBatchInto, TryRecvBatchIntoWhile}
 use Rattle.model.specs.declared.Call.the-variants.{Receive}
 use Rattle.model.specs.declared.Refusal.{Refusal}
 use Rattle.model.specs.declared.Answer.{Answer}
-use Rattle.model.specs.declared.Answer.the-variants.{Done, Registered, Taken, Item, Items, Empty, Disconnected, Held, Refused}
+use Rattle.model.specs.declared.Answer.the-variants.{Done, Registered, Taken, Item, Items, Stopped, Empty, Disconnected, Held, Refused}
 use Rattle.model.specs.Lists.{if, both, same, count, keep, from, nonEmpty}
 use Rattle.model.specs.State.{Slot, State, registeredLanes, livingSenders, hasLaneId}
 use Rattle.model.specs.Changes.{withQueue, withBudget, put, settledEmpty, retired, unmarked}
@@ -25,17 +25,18 @@ use Rattle.model.specs.Ready.{groupOf, marks, collectMarks, collectGroup, group
 use Rattle.model.specs.Turn.{retireLane, retireLaneIf, settleEmpty, beforeNextTurn, runDownFrom, runDown, Took, collectIfDue, collectIfNoneQueued, polled, takeOne, takeFair}
 use Rattle.model.specs.Outcome.{Outcome, says, unless}
 use Rattle.model.specs.Runs.{accepted}
-use Rattle.model.specs.Receive.{retireEmptyPausedLanes, emptyOrDrained, nothingTaken, answerOne, takeFrom, andMore, takeUpTo, releaseAll, answerItems, tryRecv, tryRecvFair, tryRecvFrom, tryRecvBatchInto, receiveOutcome}
+use Rattle.model.specs.Receive.{retireEmptyPausedLanes, emptyOrDrained, nothingTaken, answerOne, takeFrom, andMore, takeUpTo, releaseAll, answerItems, tryRecv, tryRecvFair, tryRecvFrom, tryRecvBatchInto, receiveOutcome, takeWhile, answerWhile, tryRecvBatchIntoWhile, halted}
 use Rattle.model.specs.Rules.{outcome}
 use Rattle.model.specs.Order.{Ordered}
 use Rattle.model.specs.Viewed.{rulesViewed, rulesOnAnyState}
-use Rattle.model.specs.Stretch.{looks}
-use Rattle.model.specs.Disconnected.{NoSenderLives, NoLaneRegistered, DisconnectedExactly, EmptyOnesRetired, RetiresEmptyPaused, SameLane, EmptyWithPausedItems, PausedWithItems, OnlyPausedItemsLeft, LaneDrained, TargetedDisconnectedExactly}
+use Rattle.model.specs.Stretch.{looks, saysStopped}
+use Rattle.model.specs.Disconnected.{NoSenderLives, NoLaneRegistered, DisconnectedExactly, EmptyOnesRetired, RetiresEmptyPaused, SameLane, EmptyWithPausedItems, PausedWithItems, OnlyPausedItemsLeft, LaneDrained, TargetedDisconnectedExactly, FindsNone}
 use Rattle.demands.proofs.Counting.{Same, equal, other, same?, no, not-true, not-false, keep-in, from-in}
-use Rattle.demands.proofs.OrderKept.{release-all-ordered, retire-empty-paused-ordered}
+use Rattle.demands.proofs.OrderKept.{release-all-ordered, retire-empty-paused-ordered, front-registered, polled-ordered, take-up-to-ordered}
 use Rattle.demands.proofs.Quiet.{Quiet, stays, goes, Quietly, trans, poll, poll-quiet, poll-ordered, release-all-quiet, retire-empty-paused-quiet}
 use Rattle.demands.proofs.Signals.{Signal, SignalsKept, poll-signals, release-all-signals, run-signals, poll-unmarked}
 use Rattle.demands.proofs.Moves.{NoneApplies, unless-law, TakeResult, took-none, took-one, take-one-taken, take-fair-taken}
+use Rattle.demands.proofs.StopLaws.{NextUp, Stops, while-law}
 
 -- what keeps the living flags, and retires only lanes whose sender is dropped
 record DroppedOnly (s u : State) : Type 0 where
@@ -273,6 +274,7 @@ release-none s p h = record {
 data Looked (s : State) : Outcome → Type 0 where
   turned-away : (n : Refusal) → Looked s ([], (Refused n, s))
   found : (g : LaneKey × ℕ) (l : List (LaneKey × ℕ)) (a : Answer) (t : State) → a ≢ Disconnected → Looked s (g ∷ l, (a, t))
+  stopped : (l : List (LaneKey × ℕ)) (n : ℕ) (t : State) (y : ℕ) → (Ordered s → t .slotOf y .registered ≡ true) → Looked s (l, (Stopped n, t))
   found-nothing : {p : State} {o : Outcome} → Polled s p → Nothing p o → Looked s o
 
 isDisconnected : Answer → Bool
@@ -282,6 +284,7 @@ isDisconnected (Registered k) = false
 isDisconnected (Taken w f) = false
 isDisconnected (Item v i) = false
 isDisconnected (Items n) = false
+isDisconnected (Stopped n) = false
 isDisconnected Empty = false
 isDisconnected (Held n) = false
 isDisconnected (Refused r) = false
@@ -304,12 +307,20 @@ batch-looked m s = go (takeOne s) (take-one-taken s)
     go t (took-none e) = found-nothing (release-none s (poll false s) (poll-none false s e)) (nothing (releaseAll (poll false s)))
     go t (took-one y v q vs e g) = found _ _ _ _ (not-disconnected refl)
 
+while-looked : (b m : ℕ) (s : State) → let t = takeWhile b (suc m) s in Looked s (answerWhile (suc m) (t .0) (t .1 .0) (releaseAll (t .1 .1)))
+unfolding answerWhile halted releaseAll
+while-looked b m s =
+    while-law (λ t es. Looked s (answerWhile (suc m) (t .0) (t .1 .0) (releaseAll (t .1 .1)))) b (suc m) s (λ all. batch-looked m s)
+    (λ n w. stopped _ _ _ (w .up .lane) (λ o. front-registered (polled ((takeUpTo n s) .1)) (w .up .lane) (w .up .others) (w .up .first) (polled-ordered ((takeUpTo n s) .1) (take-up-to-ordered n s o))))
+
 looked : (s : State) (r : ReceiveCall) → looks (Receive r) ≡ true → Looked s (receiveOutcome s r)
-unfolding receiveOutcome tryRecv tryRecvFair tryRecvBatchInto looks
+unfolding receiveOutcome tryRecv tryRecvFair tryRecvBatchInto tryRecvBatchIntoWhile looks
 looked s TryRecv e = unless-law (Looked s) _ s _ turned-away (λ p. one-looked false s (takeOne s) (take-one-taken s))
 looked s TryRecvFair e = unless-law (Looked s) _ s _ turned-away (λ p. one-looked true s (takeFair s) (take-fair-taken s))
 looked s (TryRecvBatchInto zero n) e = absurd (no e refl)
 looked s (TryRecvBatchInto (suc m) n) e = unless-law (Looked s) _ s _ turned-away (λ p. batch-looked m s)
+looked s (TryRecvBatchIntoWhile zero b n) e = absurd (no e refl)
+looked s (TryRecvBatchIntoWhile (suc m) b n) e = unless-law (Looked s) _ s _ turned-away (λ p. while-looked b m s)
 looked s (TryRecvFrom i) e = absurd (no e refl)
 
 -- the theorems, said of the outcome
@@ -325,6 +336,7 @@ disconnected-then : {s : State} {o : Outcome} → Ordered s → Looked s o → o
 unfolding isDisconnected
 disconnected-then o (turned-away n) e = absurd (not-disconnected {a = Refused n} refl e)
 disconnected-then o (found g l a t h) e = absurd (h e)
+disconnected-then o (stopped l n t y h) e = absurd (not-disconnected {a = Stopped n} refl e)
 disconnected-then o (found-nothing k (sender-lives z)) e = absurd (not-disconnected {a = Empty} refl e)
 disconnected-then o (found-nothing k (lane-left z l)) e = absurd (not-disconnected {a = Empty} refl e)
 disconnected-then o (found-nothing {p} k (none-left z l)) e =
@@ -335,19 +347,24 @@ disconnected-then o (found-nothing {p} k (none-left z l)) e =
       no-lane = no-lane-of _ (retire-empty-paused-ordered (from 0 (p .issued)) p (k .ordered o)) l;
     }
 
-only-then : {s : State} {o : Outcome} → Looked s o → accepted (o .1 .0) ≡ true → DrainedIn o → o .1 .0 ≡ Disconnected
+lane-there : (t : State) (y : ℕ) → t .slotOf y .registered ≡ true → NoLaneRegistered t → ⊥
+unfolding NoLaneRegistered
+lane-there t y r n = no r (n y)
+
+only-then : {s : State} {o : Outcome} → Ordered s → Looked s o → accepted (o .1 .0) ≡ true → DrainedIn o → o .1 .0 ≡ Disconnected
 unfolding accepted
-only-then (turned-away n) a d = absurd (no a refl)
-only-then (found g l b t h) a d = absurd (clash (d .no-item))
-only-then (found-nothing k (sender-lives z)) a d = absurd (omega (arith, senders-zero _ (d .no-sender)))
-only-then (found-nothing k (lane-left z l)) a d = absurd (omega (arith, lanes-zero _ (d .no-lane)))
-only-then (found-nothing k (none-left z l)) a d = refl
+only-then w (turned-away n) a d = absurd (no a refl)
+only-then w (found g l b t h) a d = absurd (clash (d .no-item))
+only-then w (stopped l n t y h) a d = absurd (lane-there t y (h w) (d .no-lane))
+only-then w (found-nothing k (sender-lives z)) a d = absurd (omega (arith, senders-zero _ (d .no-sender)))
+only-then w (found-nothing k (lane-left z l)) a d = absurd (omega (arith, lanes-zero _ (d .no-lane)))
+only-then w (found-nothing k (none-left z l)) a d = refl
 
 pub disconnected-exactly : DisconnectedExactly rulesViewed
 unfolding DisconnectedExactly outcome
 disconnected-exactly s r h = (
   λ e. let d = disconnected-then (h .in-order .ordered) (looked s r (h .untargeted)) e in record { no-item = d .no-item; no-sender = d .no-sender; no-lane = d .no-lane },
-  λ d. only-then (looked s r (h .untargeted)) (h .not-refused) record { no-item = d .no-item; no-sender = d .no-sender; no-lane = d .no-lane },
+  λ d. only-then (h .in-order .ordered) (looked s r (h .untargeted)) (h .not-refused) record { no-item = d .no-item; no-sender = d .no-sender; no-lane = d .no-lane },
 )
 
 -- the empty paused lanes are retired
@@ -377,37 +394,39 @@ module _ (s p : State) (quiet : Quietly s p) (only : DroppedOnly s p) (o : Order
       go (stays a) r h = absurd (no r (sym (a .registers) ∙ h))
       go (goes e f g) r h = e
 
-retires : {s : State} {o : Outcome} → Ordered s → Looked s o → accepted (o .1 .0) ≡ true → o .0 ≡ [] → NoSenderLives (o .1 .1) → EmptyOnesRetired s (o .1 .1)
-unfolding accepted left
-retires o (turned-away n) a e l = absurd (no a refl)
-retires o (found g k b t h) a e l = absurd (clash e)
-retires o (found-nothing k (sender-lives z)) a e l = absurd (omega (arith, senders-zero _ l))
-retires o (found-nothing {p} k (lane-left z r)) a e l = empty-ones-retired _ p (k .quiet) (k .only-dropped) (k .ordered o) (no-sender-of p (k .ordered o) z)
-retires o (found-nothing {p} k (none-left z r)) a e l = empty-ones-retired _ p (k .quiet) (k .only-dropped) (k .ordered o) (no-sender-of p (k .ordered o) z)
+retires : {s : State} {o : Outcome} → Ordered s → Looked s o → accepted (o .1 .0) ≡ true → o .0 ≡ [] → saysStopped (o .1 .0) ≡ false → NoSenderLives (o .1 .1) → EmptyOnesRetired s (o .1 .1)
+unfolding accepted left saysStopped
+retires o (turned-away n) a e w l = absurd (no a refl)
+retires o (found g k b t h) a e w l = absurd (clash e)
+retires o (stopped k n t y h) a e w l = absurd (no refl w)
+retires o (found-nothing k (sender-lives z)) a e w l = absurd (omega (arith, senders-zero _ l))
+retires o (found-nothing {p} k (lane-left z r)) a e w l = empty-ones-retired _ p (k .quiet) (k .only-dropped) (k .ordered o) (no-sender-of p (k .ordered o) z)
+retires o (found-nothing {p} k (none-left z r)) a e w l = empty-ones-retired _ p (k .quiet) (k .only-dropped) (k .ordered o) (no-sender-of p (k .ordered o) z)
 
 pub retires-empty-paused : RetiresEmptyPaused rulesViewed
 unfolding RetiresEmptyPaused outcome
-retires-empty-paused s r h e l = retires (h .in-order .ordered) (looked s r (h .untargeted)) (h .not-refused) e l
+retires-empty-paused s r h e l = retires (h .in-order .ordered) (looked s r (h .untargeted)) (h .not-refused) (e .no-item) (e .not-stopped) l
 
 -- a lane that holds an item stays
 same-lane : {l m : Slot} → Quiet l m → l .registered ≡ true → l .paused ≡ true → l .ring ≢ [] → SameLane l m
 same-lane (stays a) r p h = record { still-registered = a .registers ∙ r; still-paused = a .pauses ∙ p; same-generation = a .generations; same-items = a .rings }
 same-lane (goes e f g) r p h = absurd (h e)
 
-keeps-paused : {s : State} {o : Outcome} → Ordered s → Looked s o → accepted (o .1 .0) ≡ true → o .0 ≡ [] → NoSenderLives (o .1 .1)
+keeps-paused : {s : State} {o : Outcome} → Ordered s → Looked s o → accepted (o .1 .0) ≡ true → o .0 ≡ [] → saysStopped (o .1 .0) ≡ false → NoSenderLives (o .1 .1)
     → (x : ℕ) → s .slotOf x .registered ≡ true → s .slotOf x .paused ≡ true → s .slotOf x .ring ≢ [] → (o .1 .0 ≡ Empty) × SameLane (s .slotOf x) ((o .1 .1) .slotOf x)
-unfolding accepted left NoLaneRegistered
-keeps-paused o (turned-away n) a e l x r h i = absurd (no a refl)
-keeps-paused o (found g k b t f) a e l x r h i = absurd (clash e)
-keeps-paused o (found-nothing k (sender-lives z)) a e l x r h i = absurd (omega (arith, senders-zero _ l))
-keeps-paused o (found-nothing {p} k (lane-left z m)) a e l x r h i = (refl, same-lane (left-quiet _ p (k .quiet) (k .only-dropped) (k .ordered o) (no-sender-of p (k .ordered o) z) .each x) r h i)
-keeps-paused o (found-nothing {p} k (none-left z m)) a e l x r h i =
+unfolding accepted left NoLaneRegistered saysStopped
+keeps-paused o (turned-away n) a e w l x r h i = absurd (no a refl)
+keeps-paused o (found g k b t f) a e w l x r h i = absurd (clash e)
+keeps-paused o (stopped k n t y f) a e w l x r h i = absurd (no refl w)
+keeps-paused o (found-nothing k (sender-lives z)) a e w l x r h i = absurd (omega (arith, senders-zero _ l))
+keeps-paused o (found-nothing {p} k (lane-left z m)) a e w l x r h i = (refl, same-lane (left-quiet _ p (k .quiet) (k .only-dropped) (k .ordered o) (no-sender-of p (k .ordered o) z) .each x) r h i)
+keeps-paused o (found-nothing {p} k (none-left z m)) a e w l x r h i =
     let j = same-lane (left-quiet _ p (k .quiet) (k .only-dropped) (k .ordered o) (no-sender-of p (k .ordered o) z) .each x) r h i in
     absurd (no (j .still-registered) (no-lane-of _ (retire-empty-paused-ordered (from 0 (p .issued)) p (k .ordered o)) m x))
 
 pub empty-with-paused-items : EmptyWithPausedItems rulesViewed
 unfolding EmptyWithPausedItems outcome
-empty-with-paused-items s r h e l x g p i = keeps-paused (h .in-order .ordered) (looked s r (h .untargeted)) (h .not-refused) e l x g p i
+empty-with-paused-items s r h e l x g p i = keeps-paused (h .in-order .ordered) (looked s r (h .untargeted)) (h .not-refused) (e .no-item) (e .not-stopped) l x g p i
 
 left-paused : (s p : State) → Ordered s → ((y : ℕ) → Signal (s .slotOf y)) → Polled s p → livingSenders p ≡ 0
     → (x : ℕ) → (retireEmptyPausedLanes (from 0 (p .issued)) p) .slotOf x .registered ≡ true → PausedWithItems ((retireEmptyPausedLanes (from 0 (p .issued)) p) .slotOf x)
@@ -432,19 +451,20 @@ left-paused s p o g k z x r = go (slot-or-retired (from 0 (p .issued)) p x)
         record { is-paused = h; holds-items = empty-ones-retired s p (k .quiet) (k .only-dropped) (k .ordered o) none-lives .none-left x r h }
 
 -- in a run: an unpaused lane that is left would be pending, and so marked or queued
-paused-left : {s : State} {o : Outcome} → Ordered s → ((y : ℕ) → Signal (s .slotOf y)) → Looked s o → accepted (o .1 .0) ≡ true → o .0 ≡ [] → NoSenderLives (o .1 .1)
+paused-left : {s : State} {o : Outcome} → Ordered s → ((y : ℕ) → Signal (s .slotOf y)) → Looked s o → accepted (o .1 .0) ≡ true → o .0 ≡ [] → saysStopped (o .1 .0) ≡ false → NoSenderLives (o .1 .1)
     → (x : ℕ) → (o .1 .1) .slotOf x .registered ≡ true → PausedWithItems ((o .1 .1) .slotOf x)
-unfolding accepted
-paused-left o g (turned-away n) a e l x r = absurd (no a refl)
-paused-left o g (found j k b t f) a e l x r = absurd (clash e)
-paused-left o g (found-nothing k (sender-lives z)) a e l x r = absurd (omega (arith, senders-zero _ l))
-paused-left {s} o g (found-nothing {p} k (lane-left z m)) a e l x r = left-paused s p o g k z x r
-paused-left {s} o g (found-nothing {p} k (none-left z m)) a e l x r = left-paused s p o g k z x r
+unfolding accepted saysStopped
+paused-left o g (turned-away n) a e w l x r = absurd (no a refl)
+paused-left o g (found j k b t f) a e w l x r = absurd (clash e)
+paused-left o g (stopped k n t y f) a e w l x r = absurd (no refl w)
+paused-left o g (found-nothing k (sender-lives z)) a e w l x r = absurd (omega (arith, senders-zero _ l))
+paused-left {s} o g (found-nothing {p} k (lane-left z m)) a e w l x r = left-paused s p o g k z x r
+paused-left {s} o g (found-nothing {p} k (none-left z m)) a e w l x r = left-paused s p o g k z x r
 
 pub only-paused-items-left : OnlyPausedItemsLeft rulesViewed
 unfolding OnlyPausedItemsLeft outcome
 only-paused-items-left o lent a calls any s at r h e l x g =
-    paused-left (h .in-order .ordered) (λ y. rw (← at) (run-signals o lent calls y)) (looked s r (h .untargeted)) (h .not-refused) e l x g
+    paused-left (h .in-order .ordered) (λ y. rw (← at) (run-signals o lent calls y)) (looked s r (h .untargeted)) (h .not-refused) (e .no-item) (e .not-stopped) l x g
 
 -- targeted
 take-from-empty : (s : State) (x : ℕ) → (takeFrom [] x s) .1 .0 ≡ Disconnected → s .slotOf x .living ≡ false

@@ -8,7 +8,7 @@ use mathlib.Core.List.{List, [], _∷_, _++_}
 use Prim.Native.Nat.{ℕ, _+_, _*_, _-_, _≤_}
 use native.Mathlib.Omega.{arith}
 use Rattle.model.specs.declared.LaneKey.{LaneKey}
-use Rattle.model.specs.declared.ReceiveCall.the-variants.{TryRecv, TryRecvFair, TryRecvFrom, TryRecvBatchInto}
+use Rattle.model.specs.declared.ReceiveCall.the-variants.{TryRecv, TryRecvFair, TryRecvFrom, TryRecvBatchInto, TryRecvBatchIntoWhile}
 use Rattle.model.specs.declared.ControlCall.the-variants.{Pause, Resume, CloseLane, ReleaseConsumed, PollAllLanes, CloseReceiver, CountHeld}
 use Rattle.model.specs.declared.Call.{Call}
 use Rattle.model.specs.declared.Call.the-variants.{Sender, Receive, Control}
@@ -154,6 +154,7 @@ turn-swap a b (t ∷ ts) = rw (one t, turn-swap a b ts)
     one (gives TryRecv j v) = refl
     one (gives TryRecvFair j v) = refl
     one (gives (TryRecvBatchInto limit room) j v) = refl
+    one (gives (TryRecvBatchIntoWhile limit bound room) j v) = refl
     one (gives (TryRecvFrom i) j v) = either-swap (sameKey (i .key) b) (sameKey (i .key) a)
     one (ends c x) = refl
 

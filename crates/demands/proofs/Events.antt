@@ -15,10 +15,10 @@ use Rattle.model.specs.State.{Slot, State, keyOf}
 use Rattle.model.specs.Changes.{withQueue, withBudget, put, popped, settledEmpty, retired, unmarked}
 use Rattle.model.specs.Ready.{groupOf, marks, collectMarks, collectGroup, groupsRound, collectFirst, collectEach, collectReadyGroup, collectReady}
 use Rattle.model.specs.Turn.{retireLane, retireLaneIf, settleEmpty, refill, beforeNextTurn, runDownFrom, runDown, unreleasedAfterOne, giveItem, giveOldest, giveFront, collectIfDue, collectIfNoneQueued, polled, takeOne, takeFair}
-use Rattle.model.specs.Receive.{retireEmptyPausedLanes, andMore, takeUpTo, releaseAll}
+use Rattle.model.specs.Receive.{retireEmptyPausedLanes, andMore, takeUpTo, releaseAll, halted}
 use Rattle.model.specs.Runs.{sameKey}
 use Rattle.model.specs.Order.{Ordered}
-use Rattle.model.specs.Events.{Event, budgetSet, collected, noneMarked, foundEmpty, itemTaken, wentToBack, anyMarked, collectEvent, refillEvents, beforeNextTurnEvents, runDownFromEvents, runDownEvents, backEvents, giveOldestEvents, giveFrontEvents, collectIfDueEvents, collectIfNoneQueuedEvents, polledEvents, takeOneEvents, takeFairEvents, andMoreEvents, takeUpToEvents}
+use Rattle.model.specs.Events.{Event, budgetSet, collected, noneMarked, foundEmpty, itemTaken, wentToBack, anyMarked, collectEvent, refillEvents, beforeNextTurnEvents, runDownFromEvents, runDownEvents, backEvents, giveOldestEvents, giveFrontEvents, collectIfDueEvents, collectIfNoneQueuedEvents, polledEvents, takeOneEvents, takeFairEvents, andMoreEvents, takeUpToEvents, haltedEvents}
 use Rattle.demands.proofs.Counting.{equal, other, same?, no}
 use Rattle.demands.proofs.OrderKept.{front-registered, settle-empty-queue, before-next-turn-queue, polled-ordered, take-one-ordered, run-down-ordered, collect-ready-ordered, budget-ordered, back-room}
 use Rattle.demands.proofs.WaitInReceive.{settle-empty-budget}
@@ -408,6 +408,11 @@ take-fair-pass k T s o c =
     (λ U r. give-front-pass k true U (runDown full) (run-down-ordered full (budget-ordered 64 (collectReady s) (omega arith) (collect-ready-ordered s o))) r) in
     record { below = goes-below (small c) (goes-below (small d) (p .below)); at-end = p .at-end }
 
+-- a stop in front of an item: the poll, and a budget of 0 set to 64
+halt-pass : (k : LaneKey) (T : Tally) (s : State) (y : ℕ) (q : List ℕ) → (polled s) .queue ≡ y ∷ q → Counted k T s → Pass k (Counted k) T (polledEvents s ++ refillEvents ((polled s) .budget)) (halted (polled s))
+unfolding halted
+halt-pass k T s y q e c = bind (polled-pass k T s c) (λ U r. (let p = refill-pass k U (polled s) ((polled s) .budget) refl (r .counted) (r .unspent (ap nonEmpty e)) in record { below = p .below; at-end = p .at-end .counted }))
+
 pub take-up-to-pass : (k : LaneKey) (m : ℕ) (T : Tally) (s : State) → Ordered s → Counted k T s → Pass k (Counted k) T (takeUpToEvents m s) ((takeUpTo m s) .1)
 unfolding takeUpTo takeUpToEvents andMore andMoreEvents
 take-up-to-pass k zero T s o c = no-event c
@@ -419,3 +424,8 @@ take-up-to-pass k (suc m) T s o c = bind (take-one-pass k T s o c) (λ U d. go (
     go : {U : Tally} (l : List (LaneKey × ℕ)) → Counted k U t → Pass k (Counted k) U (takeUpToEvents m t) ((takeUpTo m t) .1) → Pass k (Counted k) U (andMoreEvents l (takeUpToEvents m t)) ((andMore l t (takeUpTo m t)) .1)
     go [] d p = no-event d
     go (g ∷ l) d p = p
+
+-- n items, and then the stop
+pub halted-pass : (k : LaneKey) (n : ℕ) (T : Tally) (s : State) (y : ℕ) (q : List ℕ) → (polled ((takeUpTo n s) .1)) .queue ≡ y ∷ q → Ordered s → Counted k T s → Pass k (Counted k) T (haltedEvents n s) (halted (polled ((takeUpTo n s) .1)))
+unfolding haltedEvents
+halted-pass k n T s y q e o c = bind (take-up-to-pass k n T s o c) (λ U d. halt-pass k U ((takeUpTo n s) .1) y q e d)

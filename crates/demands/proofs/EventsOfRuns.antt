@@ -10,7 +10,7 @@ use Rattle.model.specs.declared.LaneKey.{LaneKey}
 use Rattle.model.specs.declared.Opening.{Opening}
 use Rattle.model.specs.declared.SenderCall.{SenderCall}
 use Rattle.model.specs.declared.ReceiveCall.{ReceiveCall}
-use Rattle.model.specs.declared.ReceiveCall.the-variants.{TryRecv, TryRecvFair, TryRecvFrom, TryRecvBatchInto}
+use Rattle.model.specs.declared.ReceiveCall.the-variants.{TryRecv, TryRecvFair, TryRecvFrom, TryRecvBatchInto, TryRecvBatchIntoWhile}
 use Rattle.model.specs.declared.ControlCall.{ControlCall}
 use Rattle.model.specs.declared.Call.{Call}
 use Rattle.model.specs.declared.Call.the-variants.{Sender, Receive, Control}
@@ -22,17 +22,18 @@ use Rattle.model.specs.Changes.{withQueue, withFree, withIssued, put, newLane, 
 use Rattle.model.specs.Turn.{unreleasedAfterOne}
 use Rattle.model.specs.Outcome.{Outcome, says}
 use Rattle.model.specs.Runs.{Lent, accepted, ends, afterList}
-use Rattle.model.specs.Receive.{retireEmptyPausedLanes, emptyOrDrained, nothingTaken, answerOne, queueLaneIf, takeFrom, releaseAll, answerItems, receiveOutcome, tryRecv, tryRecvFair, tryRecvFrom, tryRecvBatchInto}
+use Rattle.model.specs.Receive.{retireEmptyPausedLanes, emptyOrDrained, nothingTaken, answerOne, queueLaneIf, takeFrom, releaseAll, answerItems, receiveOutcome, tryRecv, tryRecvFair, tryRecvFrom, tryRecvBatchInto, takeWhile, answerWhile, tryRecvBatchIntoWhile, takeUpTo}
 use Rattle.model.specs.Opening.{openedState, openingOutcome}
 use Rattle.model.specs.Rules.{outcome, theRules}
 use Rattle.model.specs.Order.{Ordered, InOrder}
 use Rattle.model.specs.Viewed.{rulesViewed}
-use Rattle.model.specs.Events.{Event, takeFromEvents, receiveEvents, callEvents, eventsFrom, runEvents, countEvents}
+use Rattle.model.specs.Events.{Event, takeFromEvents, receiveEvents, callEvents, eventsFrom, runEvents, countEvents, takeWhileEvents}
 use Rattle.demands.proofs.Counting.{equal, other, same?}
 use Rattle.demands.proofs.Moves.{Moves, stays-put, credits, registers-new, registers-old, sends, posts, drops-it, pauses-it, resumes, resumes-not, closes-it, polls-all, shuts-it, unless-law, sender-move, control-move}
+use Rattle.demands.proofs.StopLaws.{NextUp, Stops, while-law}
 use Rattle.demands.proofs.InOrder.{call-keeps-order, opening-in-order}
 use Rattle.demands.proofs.Demand2.{opens-as}
-use Rattle.demands.proofs.Events.{Tally, next, tally, Small, Below, ends-below, goes-below, Pass, bind, Counted, small, no-event, Alike, counted-alike, unchanged, alike-trans, put-generations, put-bursts, retire-lane-alike, retire-empty-paused-alike, release-all-alike, found-empty-counted, take-one-pass, take-fair-pass, take-up-to-pass}
+use Rattle.demands.proofs.Events.{Tally, next, tally, Small, Below, ends-below, goes-below, Pass, bind, Counted, small, no-event, Alike, counted-alike, unchanged, alike-trans, put-generations, put-bursts, retire-lane-alike, retire-empty-paused-alike, release-all-alike, found-empty-counted, take-one-pass, take-fair-pass, take-up-to-pass, halted-pass}
 
 put-alike : (s : State) (x : ℕ) (l : Slot) → l .generation ≡ s .slotOf x .generation → l .burst ≡ s .slotOf x .burst → Alike s (put x l s)
 put-alike s x l g b = record { budgets = refl; issues = refl; generations = put-generations s x l g; bursts = put-bursts s x l b }
@@ -138,6 +139,10 @@ answer-items-answered zero l s = record { is-accepted = refl; is-alike = release
 answer-items-answered (suc m) [] s = nothing-taken-answered s (releaseAll s) (release-all-alike s)
 answer-items-answered (suc m) (g ∷ l) s = record { is-accepted = refl; is-alike = release-all-alike s }
 
+pub answer-stopped-answered : (m : ℕ) (l : List (LaneKey × ℕ)) (s : State) → Answered s (answerWhile m true l (releaseAll s))
+unfolding answerWhile accepted
+answer-stopped-answered m l s = record { is-accepted = refl; is-alike = release-all-alike s }
+
 module _ (k : LaneKey) (T : Tally) where
   -- the events of a receive, if its answer is no refusal
   Receives : List Event → Outcome → Type 0
@@ -163,13 +168,24 @@ module _ (k : LaneKey) (T : Tally) where
       queue-lane-alike true u = alike-trans (put-alike u x (signalled (u .slotOf x)) refl refl) (queue-alike _ _)
       queue-lane-alike false u = unchanged u
 
+  while-pass : (b m : ℕ) (s : State) → Ordered s → Counted k T s → let t = takeWhile b m s in Receives (takeWhileEvents b m s) (answerWhile m (t .0) (t .1 .0) (releaseAll (t .1 .1)))
+  unfolding answerWhile
+  while-pass b m s o c =
+      while-law (λ t es. Receives es (answerWhile m (t .0) (t .1 .0) (releaseAll (t .1 .1)))) b m s
+      (λ all. answered-pass _ _ _ (answer-while-going m _ _) (take-up-to-pass k m T s o c))
+      (λ n w. answered-pass _ _ _ (answer-stopped-answered m _ _) (halted-pass k n T s (w .up .lane) (w .up .others) (w .up .first) o c))
+    where
+      answer-while-going : (m : ℕ) (l : List (LaneKey × ℕ)) (s : State) → Answered s (answerWhile m false l (releaseAll s))
+      answer-while-going m l s = answer-items-answered m l s
+
   receive-pass : (s : State) (r : ReceiveCall) → Ordered s → Counted k T s → Receives (receiveEvents s r) (receiveOutcome s r)
-  unfolding Receives receiveEvents receiveOutcome tryRecv tryRecvFair tryRecvFrom tryRecvBatchInto accepted
+  unfolding Receives receiveEvents receiveOutcome tryRecv tryRecvFair tryRecvFrom tryRecvBatchInto tryRecvBatchIntoWhile accepted
   receive-pass s TryRecv o c = unless-law (Receives (receiveEvents s TryRecv)) _ s _ (λ n. no-event c) (λ p. answered-pass _ _ _ (answer-one-answered _ _) (take-one-pass k T s o c))
   receive-pass s TryRecvFair o c = unless-law (Receives (receiveEvents s TryRecvFair)) _ s _ (λ n. no-event c) (λ p. answered-pass _ _ _ (answer-one-answered _ _) (take-fair-pass k T s o c))
   receive-pass s (TryRecvFrom i) o c = unless-law (Receives (receiveEvents s (TryRecvFrom i))) _ s _ (λ n. no-event c) (λ p. take-from-pass _ _ s c)
   receive-pass s (TryRecvBatchInto m n) o c =
       unless-law (Receives (receiveEvents s (TryRecvBatchInto m n))) _ s _ (λ n. no-event c) (λ p. answered-pass _ _ _ (answer-items-answered m _ _) (take-up-to-pass k m T s o c))
+  receive-pass s (TryRecvBatchIntoWhile m b n) o c = unless-law (Receives (receiveEvents s (TryRecvBatchIntoWhile m b n))) _ s _ (λ n. no-event c) (λ p. while-pass b m s o c)
 
   pub call-pass : (s : State) (c : Call) → Ordered s → Counted k T s → Pass k (Counted k) T (callEvents s c) ((outcome s c) .1 .1)
   unfolding callEvents outcome Receives

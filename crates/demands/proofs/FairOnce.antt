@@ -5,28 +5,28 @@ use mathlib.Core.Path.{_≡_, refl, ap, sym, _∙_, subst}
 use mathlib.Core.Logic.{_≢_}
 use mathlib.Core.Bool.{Bool, true, false}
 use mathlib.Core.List.{List, [], _∷_, _++_}
-use Prim.Native.Nat.{ℕ, _+_, _-_, _≤_}
+use Prim.Native.Nat.{ℕ, zero, suc, _+_, _-_, _≤_}
 use native.Mathlib.Omega.{arith}
 use lib.ListN.{length}
 use borrow.Author.Tests.{ne-eqb}
 use Rattle.model.specs.declared.LaneKey.{LaneKey}
-use Rattle.model.specs.declared.ReceiveCall.the-variants.{TryRecv, TryRecvFair, TryRecvFrom, TryRecvBatchInto}
+use Rattle.model.specs.declared.ReceiveCall.the-variants.{TryRecv, TryRecvFair, TryRecvFrom, TryRecvBatchInto, TryRecvBatchIntoWhile}
 use Rattle.model.specs.Lists.{if, same, count, keep, from, nonEmpty, without}
 use Rattle.model.specs.State.{State, mayQueue, keyOf}
 use Rattle.model.specs.Changes.{withQueue, withBudget, put, popped}
-use Rattle.model.specs.Ready.{marks, isReady, collectGroup, groupsRound, collectEach, collectReady}
-use Rattle.model.specs.Turn.{unreleasedAfterOne, settleEmpty, giveItem, beforeNextTurn, runDownFrom, runDown}
+use Rattle.model.specs.Ready.{marks, isReady, collectGroup, groupsRound, collectFirst, collectEach, collectReadyGroup, collectReady}
+use Rattle.model.specs.Turn.{unreleasedAfterOne, settleEmpty, giveItem, beforeNextTurn, runDownFrom, runDown, collectIfDue, collectIfNoneQueued, polled}
 use Rattle.model.specs.Runs.{sameKey, accepted, Tick, gives, ends, ofLane}
-use Rattle.model.specs.Receive.{releaseAll, queueLaneIf}
+use Rattle.model.specs.Receive.{releaseAll, halted, queueLaneIf}
 use Rattle.model.specs.Order.{Ordered}
 use Rattle.model.specs.Stretch.{endsWait, endsStretch, otherReceive, notFair}
 use Rattle.model.specs.EqualTurns.{outOfTurn}
 use Rattle.demands.proofs.Counting.{Same, equal, other, same?, same-self, no, either-false, count-append}
 use Rattle.demands.proofs.OrderKept.{front-alone, front-rest, settle-empty-queue, before-next-turn-queue, first-other}
-use Rattle.demands.proofs.Quiet.{Hold, hold-quiet, poll, poll-quiet, poll-ordered, settle-empty-quiet, before-next-turn-quiet, collect-ready-quiet, trans, budget-quiet}
+use Rattle.demands.proofs.Quiet.{Hold, hold-quiet, poll, poll-quiet, poll-ordered, settle-empty-quiet, before-next-turn-quiet, collect-ready-quiet, collect-if-due-quiet, run-down-quiet, trans, budget-quiet}
 use Rattle.demands.proofs.Ahead.{ahead, before, before-append, before-count}
 use Rattle.demands.proofs.WaitInReceive.{On, Polled, polled-to, poll-on, collect-group-queue, fair-queued}
-use Rattle.demands.proofs.Moves.{by-plain, by-batch, by-fair, Moves, stays-put, credits, registers-new, registers-old, sends, posts, drops-it, pauses-it, resumes, resumes-not, closes-it, polls-all, shuts-it, takes, stops, aims, aims-none}
+use Rattle.demands.proofs.Moves.{by-plain, by-batch, by-while, by-fair, Moves, stays-put, credits, registers-new, registers-old, sends, posts, drops-it, pauses-it, resumes, resumes-not, closes-it, polls-all, shuts-it, takes, stops, halts, aims, aims-none}
 use Rattle.demands.proofs.MovesKeepOrder.{has-lane-parts}
 use Rattle.demands.proofs.LedgerLaws.{alike, unlike, keys?}
 use Rattle.demands.proofs.LedgerAgrees.{key-path}
@@ -70,6 +70,36 @@ pub fair-shrinks : {x g : ℕ} (s : State) → Hold x g s → Shrinks x (s .queu
 unfolding poll runDown collectReady
 fair-shrinks {x} {g} s h =
     shrinks-trans (collect-each-shrinks x (groupsRound s) s) (run-down-shrinks {x = x} {g = g} _ (withBudget 64 (collectEach (groupsRound s) s)) refl (hold-quiet (trans (collect-ready-quiet s) (budget-quiet 64 (collectReady s))) h))
+
+collect-first-shrinks : (x : ℕ) (gs : List ℕ) (s : State) → Shrinks x (s .queue) ((collectFirst gs s) .queue)
+unfolding collectFirst
+collect-first-shrinks x [] s = shrinks-same x (s .queue)
+collect-first-shrinks x (g ∷ gs) s = go (nonEmpty (marks s g)) (collect-first-shrinks x gs s)
+  where
+    go : (b : Bool) → Shrinks x (s .queue) ((collectFirst gs s) .queue) → Shrinks x (s .queue) ((if b (collectGroup s g) (collectFirst gs s)) .queue)
+    go true ih = shrinks-to (collect-group-queue s g) (shrinks-append x (s .queue) (keep (isReady s) (marks s g)))
+    go false ih = ih
+
+collect-if-due-shrinks : (x n : ℕ) (q : List ℕ) (s : State) → Shrinks x (s .queue) ((collectIfDue n q s) .queue)
+unfolding collectIfDue collectReadyGroup
+collect-if-due-shrinks x zero (y ∷ q) s = collect-first-shrinks x (groupsRound s) s
+collect-if-due-shrinks x zero [] s = shrinks-same x (s .queue)
+collect-if-due-shrinks x (suc n) q s = shrinks-same x (s .queue)
+
+collect-if-none-shrinks : {x g : ℕ} (q : List ℕ) (s : State) → Hold x g s → Shrinks x (s .queue) ((collectIfNoneQueued q s) .queue)
+unfolding collectIfNoneQueued runDown collectReady
+collect-if-none-shrinks {x} {g} [] s h =
+    shrinks-trans (collect-each-shrinks x (groupsRound s) s) (run-down-shrinks {x = x} {g = g} _ (collectEach (groupsRound s) s) refl (hold-quiet (collect-ready-quiet s) h))
+collect-if-none-shrinks {x} (y ∷ q) s h = shrinks-same x (s .queue)
+
+-- and through another poll
+plain-shrinks : {x g : ℕ} (s : State) → Hold x g s → Shrinks x (s .queue) ((poll false s) .queue)
+unfolding poll polled runDown
+plain-shrinks {x} {g} s h =
+    let t = collectIfDue (s .budget) (s .queue) s in
+    let due : Hold x g t = hold-quiet (collect-if-due-quiet (s .budget) (s .queue) s) h in
+    shrinks-trans (collect-if-due-shrinks x (s .budget) (s .queue) s)
+    (shrinks-trans (run-down-shrinks {x = x} {g = g} _ t refl due) (collect-if-none-shrinks {x = x} {g = g} _ (runDown t) (hold-quiet (run-down-quiet t) due)))
 
 -- lane y may still give k: one, or none once it stands behind x
 pub data Once (x y k : ℕ) (s : State) : Type 0 where
@@ -119,6 +149,7 @@ fair-in-turn a b (gives TryRecv j v) e = absurd (no refl e)
 fair-in-turn a b (gives TryRecvFair j v) e = refl
 fair-in-turn a b (gives (TryRecvFrom i) j v) e = absurd (no refl e)
 fair-in-turn a b (gives (TryRecvBatchInto limit room) j v) e = absurd (no refl e)
+fair-in-turn a b (gives (TryRecvBatchIntoWhile limit bound room) j v) e = absurd (no refl e)
 fair-in-turn a b (ends c x) e = refl
 
 -- a targeted receive leaves its lane where it stands, or puts it at the back
@@ -132,7 +163,7 @@ module _ (E R : ℕ) (K j : LaneKey) where
   calmly {k} s u q o = record { rest = k; pays = omega arith; once = once-shrinks s u q o }
 
   pub move-once : {s u : State} {t : Tick} (n k : ℕ) → On E R (K .slot) (K .generation) n s → Moves s t u → endsStretch K t ≡ false → outOfTurn K j t ≡ false → Once (K .slot) (j .slot) k s → Singly (K .slot) j (if (ofLane j t) 1 0) k u
-  unfolding endsStretch accepted endsWait outOfTurn ofLane releaseAll
+  unfolding endsStretch accepted endsWait outOfTurn ofLane releaseAll halted
   move-once n k w (stays-put s c a h) f b o = calmly s s (shrinks-same _ _) o
   move-once n k w (credits s c a h) f b o = calmly s _ (shrinks-same _ _) o
   move-once n k w (registers-new s m lt) f b o = calmly s _ (shrinks-same _ _) o
@@ -149,6 +180,7 @@ module _ (E R : ℕ) (K j : LaneKey) where
   move-once n k w (shuts-it s) f b o = absurd (no refl f)
   move-once n k w (takes c r s y v q vs by-plain e i) f b o = absurd (no refl b)
   move-once n k w (takes c r s y v q vs (by-batch l m) e i) f b o = absurd (no refl b)
+  move-once n k w (takes c r s y v q vs (by-while l a m) e i) f b o = absurd (no refl b)
   move-once n k w (takes c r s y v q vs by-fair e i) f b o =
       let p = poll true s in
       let d = not-own p K (keyOf p y) (hold-quiet (poll-quiet true s) (w .hold)) refl f in
@@ -158,6 +190,7 @@ module _ (E R : ℕ) (K j : LaneKey) where
     where
       go : Polled E R (K .slot) (K .generation) n (poll b s) → ⊥
       go (polled-to a pd ne) = ne e
+  move-once n k w (halts s m a l i y q e h) f b o = calmly s _ (plain-shrinks s (w .hold)) o
   move-once n k w (aims s i v vs c e) f b o =
       let y = i .key .slot in
       let same : keyOf s y ≡ i .key = key-path (keyOf s y) (i .key) refl (has-lane-parts s (i .key) c .1) in

@@ -9,7 +9,7 @@ use native.Mathlib.Omega.{arith}
 use lib.Dec.{eqb, leb}
 use Rattle.model.specs.declared.LaneKey.{LaneKey}
 use Rattle.model.specs.declared.ReceiveCall.{ReceiveCall}
-use Rattle.model.specs.declared.ReceiveCall.the-variants.{TryRecv, TryRecvFair, TryRecvFrom, TryRecvBatchInto}
+use Rattle.model.specs.declared.ReceiveCall.the-variants.{TryRecv, TryRecvFair, TryRecvFrom, TryRecvBatchInto, TryRecvBatchIntoWhile}
 use Rattle.model.specs.declared.Call.the-variants.{Receive}
 use Rattle.model.specs.declared.Answer.the-variants.{Empty, Disconnected}
 use Rattle.model.specs.Lists.{if, either, nonEmpty, without}
@@ -19,15 +19,16 @@ use Rattle.model.specs.Ready.{groupOf, marks, collectMarks, collectGroup, group
 use Rattle.model.specs.Turn.{retireLane, retireLaneIf, settleEmpty, beforeNextTurn, runDownFrom, runDown, unreleasedAfterOne, giveItem, giveOldest, giveFront, collectIfDue, collectIfNoneQueued, polled, takeOne, takeFair}
 use Rattle.model.specs.Outcome.{Outcome}
 use Rattle.model.specs.Runs.{accepted}
-use Rattle.model.specs.Receive.{answerOne, queueLaneIf, takeFrom, andMore, takeUpTo, releaseAll, answerItems, receiveOutcome, tryRecv, tryRecvFair, tryRecvFrom, tryRecvBatchInto}
+use Rattle.model.specs.Receive.{answerOne, queueLaneIf, takeFrom, andMore, takeUpTo, releaseAll, answerItems, receiveOutcome, tryRecv, tryRecvFair, tryRecvFrom, tryRecvBatchInto, takeWhile, answerWhile, tryRecvBatchIntoWhile, halted}
 use Rattle.model.specs.Rules.{outcome}
-use Rattle.model.specs.Events.{Event, budgetSet, foundEmpty, collectEvent, beforeNextTurnEvents, runDownFromEvents, runDownEvents, giveFrontEvents, collectIfDueEvents, collectIfNoneQueuedEvents, polledEvents, takeOneEvents, takeFairEvents, andMoreEvents, takeUpToEvents, takeFromEvents, receiveEvents, callEvents, findsEmpty, countEvents}
+use Rattle.model.specs.Events.{Event, budgetSet, foundEmpty, collectEvent, beforeNextTurnEvents, runDownFromEvents, runDownEvents, giveFrontEvents, collectIfDueEvents, collectIfNoneQueuedEvents, polledEvents, takeOneEvents, takeFairEvents, andMoreEvents, takeUpToEvents, takeFromEvents, receiveEvents, callEvents, findsEmpty, countEvents, haltedEvents, takeWhileEvents}
 use Rattle.demands.proofs.Counting.{equal, other, same?}
 use Rattle.demands.proofs.LedgerLaws.{alike, unlike, keys?}
 use Rattle.demands.proofs.Moves.{unless-law}
 use Rattle.demands.proofs.Events.{put-generations}
 use Rattle.demands.proofs.AnswersKeep.{answer-one-keeps, answer-items-keeps}
-use Rattle.demands.proofs.EventsOfRuns.{Answered, answer-one-answered, answer-items-answered}
+use Rattle.demands.proofs.EventsOfRuns.{Answered, answer-one-answered, answer-items-answered, answer-stopped-answered}
+use Rattle.demands.proofs.StopLaws.{while-law}
 
 -- ---- what leaves every signal that is pending
 
@@ -225,6 +226,10 @@ module _ (k : LaneKey) where
       go [] f = pends-found [] (unchanged t)
       go (g ∷ l) f = f
 
+  halted-found : (n : ℕ) (s : State) → Found k s (haltedEvents n s) (halted (polled ((takeUpTo n s) .1)))
+  unfolding haltedEvents halted
+  halted-found n s = bind (take-up-to-found n s) (bind (polled-found ((takeUpTo n s) .1)) (pends-found _ record { generations = λ y. refl; pendings = λ y h. h }))
+
   -- the events of a receive, if its answer is no refusal
   Finds : State → List Event → Outcome → Type 0
   Finds s es o = Found k s (if (accepted (o .1 .0)) es []) (o .1 .1)
@@ -249,13 +254,21 @@ module _ (k : LaneKey) where
       queue-lane-pends true u = let p = put-pends u x (signalled (u .slotOf x)) refl (λ h. refl) in record { generations = p .generations; pendings = p .pendings }
       queue-lane-pends false u = unchanged u
 
+  while-found : (b m : ℕ) (s : State) → let t = takeWhile b m s in Finds s (takeWhileEvents b m s) (answerWhile m (t .0) (t .1 .0) (releaseAll (t .1 .1)))
+  unfolding answerWhile
+  while-found b m s =
+      while-law (λ t es. Finds s es (answerWhile m (t .0) (t .1 .0) (releaseAll (t .1 .1)))) b m s
+      (λ all. answered-found s _ _ _ (answer-items-answered m _ _) (answer-items-pends m _ _) (take-up-to-found m s))
+      (λ n w. answered-found s _ _ _ (answer-stopped-answered m _ _) (release-all-pends _) (halted-found n s))
+
   receive-found : (s : State) (r : ReceiveCall) → Finds s (receiveEvents s r) (receiveOutcome s r)
-  unfolding Finds receiveEvents receiveOutcome tryRecv tryRecvFair tryRecvFrom tryRecvBatchInto accepted
+  unfolding Finds receiveEvents receiveOutcome tryRecv tryRecvFair tryRecvFrom tryRecvBatchInto tryRecvBatchIntoWhile accepted
   receive-found s TryRecv = unless-law (Finds s (receiveEvents s TryRecv)) _ s _ (λ n. pends-found [] (unchanged s)) (λ p. answered-found s _ _ _ (answer-one-answered _ _) (answer-one-pends _ _) (take-one-found s))
   receive-found s TryRecvFair = unless-law (Finds s (receiveEvents s TryRecvFair)) _ s _ (λ n. pends-found [] (unchanged s)) (λ p. answered-found s _ _ _ (answer-one-answered _ _) (answer-one-pends _ _) (take-fair-found s))
   receive-found s (TryRecvFrom i) = unless-law (Finds s (receiveEvents s (TryRecvFrom i))) _ s _ (λ n. pends-found [] (unchanged s)) (λ p. take-from-found _ _ s)
   receive-found s (TryRecvBatchInto m n) =
       unless-law (Finds s (receiveEvents s (TryRecvBatchInto m n))) _ s _ (λ n. pends-found [] (unchanged s)) (λ p. answered-found s _ _ _ (answer-items-answered m _ _) (answer-items-pends m _ _) (take-up-to-found m s))
+  receive-found s (TryRecvBatchIntoWhile m b n) = unless-law (Finds s (receiveEvents s (TryRecvBatchIntoWhile m b n))) _ s _ (λ n. pends-found [] (unchanged s)) (λ p. while-found b m s)
 
   pub call-found : (s : State) (r : ReceiveCall) → Found k s (callEvents s (Receive r)) ((outcome s (Receive r)) .1 .1)
   unfolding callEvents outcome Finds

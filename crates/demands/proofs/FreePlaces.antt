@@ -12,7 +12,7 @@ use Rattle.model.specs.declared.LaneKey.{LaneKey}
 use Rattle.model.specs.declared.Refusal.{Refusal}
 use Rattle.model.specs.declared.Refusal.the-variants.{NoSuchSender, LaneClosed, Full}
 use Rattle.model.specs.declared.Answer.{Answer}
-use Rattle.model.specs.declared.Answer.the-variants.{Done, Registered, Taken, Item, Items, Empty, Disconnected, Held, Refused}
+use Rattle.model.specs.declared.Answer.the-variants.{Done, Registered, Taken, Item, Items, Stopped, Empty, Disconnected, Held, Refused}
 use Rattle.model.specs.Lists.{both}
 use Rattle.model.specs.State.{State, senderLives, isFull, freePlaces}
 use Rattle.model.specs.Changes.{put, signalled, pushed}
@@ -46,6 +46,7 @@ saidFree Done = 0
 saidFree (Registered k) = 0
 saidFree (Item v i) = 0
 saidFree (Items n) = 0
+saidFree (Stopped n) = 0
 saidFree Empty = 0
 saidFree Disconnected = 0
 saidFree (Held n) = 0

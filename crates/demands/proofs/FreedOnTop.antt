@@ -22,7 +22,8 @@ use Rattle.model.specs.Registration.{registering, OnTop, FreedOnTop}
 use Rattle.demands.proofs.Counting.{equal, other, same?, no}
 use Rattle.demands.proofs.OnTop.{none-freed, freed-then}
 use Rattle.demands.proofs.Quiet.{Quietly, quiet-unregistered, trans, poll, poll-quiet, release-all-quiet, settle-empty-quiet, retire-lane-frees}
-use Rattle.demands.proofs.Moves.{Moves, stays-put, credits, registers-new, registers-old, sends, posts, drops-it, pauses-it, resumes, resumes-not, closes-it, polls-all, shuts-it, takes, stops, aims, aims-none, Chain, stay, move, sender-move, control-move, call-chain}
+use Rattle.demands.proofs.Moves.{Moves, stays-put, credits, registers-new, registers-old, sends, posts, drops-it, pauses-it, resumes, resumes-not, closes-it, polls-all, shuts-it, takes, stops, halts, aims, aims-none, Chain, stay, move, sender-move, control-move, call-chain}
+use Rattle.demands.proofs.StopLaws.{halts-quiet}
 
 -- what a step frees is on top, and it registers no lane
 record Frees (s u : State) : Type 0 where
@@ -88,6 +89,7 @@ move-frees (polls-all s) g = record { top = none-freed s _ refl; none-new = λ y
 move-frees (shuts-it s) g = record { top = none-freed s _ refl; none-new = λ y e. e }
 move-frees (takes f r s y v q vs h e i) g = frees-trans (frees-quiet (poll-quiet f s)) (frees-given (poll f s) y q vs _)
 move-frees (stops f r s u a h e q o n) g = frees-quiet (trans (poll-quiet f s) q)
+move-frees (halts s m b n j y q e h) g = frees-quiet (halts-quiet s)
 move-frees (aims s i v vs c e) g = frees-aimed (mayQueue s (i .key .slot)) (i .key .slot) _ s refl
 move-frees (aims-none s i a c e h) g = frees-quiet (settle-empty-quiet (i .key .slot) _ s e)
 

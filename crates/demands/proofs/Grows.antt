@@ -14,7 +14,8 @@ use Rattle.model.specs.Runs.{Tick}
 use Rattle.model.specs.Receive.{queueLaneIf}
 use Rattle.demands.proofs.Counting.{Same, equal, other, same?, self, no}
 use Rattle.demands.proofs.Quiet.{Quiet, stays, goes, Quietly, trans, poll, poll-quiet, release-all-quiet, settle-empty-quiet}
-use Rattle.demands.proofs.Moves.{Moves, stays-put, credits, registers-new, registers-old, sends, posts, drops-it, pauses-it, resumes, resumes-not, closes-it, polls-all, shuts-it, takes, stops, aims, aims-none}
+use Rattle.demands.proofs.Moves.{Moves, stays-put, credits, registers-new, registers-old, sends, posts, drops-it, pauses-it, resumes, resumes-not, closes-it, polls-all, shuts-it, takes, stops, halts, aims, aims-none}
+use Rattle.demands.proofs.StopLaws.{halts-quiet}
 use Rattle.demands.proofs.Demand2.{queue-lane-slot, queue-lane-parts, give-item-slot}
 use Rattle.demands.proofs.LedgerAgrees.{retire-lane-slot, retire-lane-issued, give-item-issued, queue-lane-more, again-put}
 
@@ -86,6 +87,7 @@ move-grows (takes f r s y v q vs h e i) =
     let back = either f (leb 63 (p .slotOf y .burst)) in
     grows-then (grows-quiet s p (poll-quiet f s)) (grows-put p (giveItem p y q vs back) y _ (give-item-slot p y q vs back) (omega (arith, give-item-issued p y q vs back)) (λ z. older-same (p .slotOf y) _ refl refl))
 move-grows (stops f r s u a h e q o n) = grows-quiet s u (trans (poll-quiet f s) q)
+move-grows (halts s m b n j y q e h) = grows-quiet s _ (halts-quiet s)
 move-grows (aims s i v vs c e) =
     let x = i .key .slot in
     let m = popped vs (unreleasedAfterOne s x) (s .slotOf x .burst) (s .slotOf x) in

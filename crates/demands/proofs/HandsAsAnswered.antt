@@ -9,17 +9,18 @@ use lib.ListN.{length, take, drop, length-append, length-drop, length-map}
 use lib.Dec.{leb}
 use borrow.Author.Tests.{ltb-false}
 use Rattle.model.specs.declared.LaneKey.{LaneKey}
-use Rattle.model.specs.declared.ReceiveCall.the-variants.{TryRecv, TryRecvFair, TryRecvFrom, TryRecvBatchInto}
+use Rattle.model.specs.declared.ReceiveCall.the-variants.{TryRecv, TryRecvFair, TryRecvFrom, TryRecvBatchInto, TryRecvBatchIntoWhile}
 use Rattle.model.specs.declared.Refusal.{Refusal}
 use Rattle.model.specs.declared.Answer.the-variants.{Empty, Disconnected, Refused}
 use Rattle.model.specs.Lists.{if, from}
 use Rattle.model.specs.State.{State, registeredLanes, livingSenders}
 use Rattle.model.specs.Turn.{takeOne}
 use Rattle.model.specs.Outcome.{Outcome, says}
-use Rattle.model.specs.Receive.{retireEmptyPausedLanes, emptyOrDrained, nothingTaken, answerOne, answerItems, andMore, takeUpTo, takeFrom, writtenTo, receiveOutcome, outputAfter, tryRecv, tryRecvFair, tryRecvFrom, tryRecvBatchInto}
+use Rattle.model.specs.Receive.{retireEmptyPausedLanes, emptyOrDrained, nothingTaken, answerOne, answerItems, andMore, takeUpTo, takeFrom, writtenTo, receiveOutcome, outputAfter, tryRecv, tryRecvFair, tryRecvFrom, tryRecvBatchInto, takeWhile, answerWhile, tryRecvBatchIntoWhile, releaseAll}
 use Rattle.model.specs.Rules.{outcome, theRules}
 use Rattle.model.specs.Demand2.{Tells, OutputInOrder, Writes, AsAnswered, HasRoom, HandsAsAnswered}
 use Rattle.demands.proofs.Moves.{unless-law}
+use Rattle.demands.proofs.StopLaws.{Stops, while-law}
 
 -- a call's answer tells what it hands out; the output was `out`, and `now` says what it is after the items handed out
 abbrev Told : List ℕ → (List (LaneKey × ℕ) → List ℕ) → Outcome → Type 0
@@ -57,7 +58,7 @@ module _ (out : List ℕ) where
   take-from-told (v ∷ vs) x s = record { tells = refl; writes = refl }
 
 -- a batch has no more items than its limit
-take-up-to-most : (m : ℕ) (s : State) → length ((takeUpTo m s) .0) ≤ m
+pub take-up-to-most : (m : ℕ) (s : State) → length ((takeUpTo m s) .0) ≤ m
 unfolding takeUpTo andMore
 take-up-to-most zero s = omega arith
 take-up-to-most (suc m) s = go ((takeOne s) .0) ((takeOne s) .1) (take-up-to-most m ((takeOne s) .1))
@@ -92,11 +93,21 @@ answer-items-told out zero l s h = record { tells = refl; writes = written-in-or
 answer-items-told out (suc m) [] s h = nothing-taken-told out (λ l. writtenTo l out) (written-none out) s
 answer-items-told out (suc m) (g ∷ l) s h = record { tells = refl; writes = written-in-order (g ∷ l) out h }
 
+while-told : (out : List ℕ) (b m : ℕ) (s : State) → m ≤ length out → let t = takeWhile b m s in Told out (λ l. writtenTo l out) (answerWhile m (t .0) (t .1 .0) (releaseAll (t .1 .1)))
+unfolding Tells Writes answerWhile
+while-told out b m s h =
+    while-law (λ t es. Told out (λ l. writtenTo l out) (answerWhile m (t .0) (t .1 .0) (releaseAll (t .1 .1)))) b m s
+    (λ all. answer-items-told out m _ _ (omega (arith, h, take-up-to-most m s)))
+    (λ k w. record { tells = refl; writes = written-in-order ((takeUpTo k s) .0) out (omega (arith, h, take-up-to-most m s, w .all-there, w .fewer)) })
+
 pub hands-as-answered : HandsAsAnswered theRules
-unfolding HandsAsAnswered HasRoom outcome receiveOutcome outputAfter tryRecv tryRecvFair tryRecvFrom tryRecvBatchInto
+unfolding HandsAsAnswered HasRoom outcome receiveOutcome outputAfter tryRecv tryRecvFair tryRecvFrom tryRecvBatchInto tryRecvBatchIntoWhile
 hands-as-answered s TryRecv out h = unless-law (Told out (λ l. out)) _ s _ (refused-told out (λ l. out) refl s) (λ p. answer-one-told out _ _)
 hands-as-answered s TryRecvFair out h = unless-law (Told out (λ l. out)) _ s _ (refused-told out (λ l. out) refl s) (λ p. answer-one-told out _ _)
 hands-as-answered s (TryRecvFrom i) out h = unless-law (Told out (λ l. out)) _ s _ (refused-told out (λ l. out) refl s) (λ p. take-from-told out _ _ s)
 hands-as-answered s (TryRecvBatchInto m n) out h =
     unless-law (Told out (λ l. writtenTo l out)) _ s _ (refused-told out (λ l. writtenTo l out) (written-none out) s)
     (λ p. answer-items-told out m _ _ (omega (arith, h, take-up-to-most m s, ltb-false n m (p .1 .0))))
+hands-as-answered s (TryRecvBatchIntoWhile m b n) out h =
+    unless-law (Told out (λ l. writtenTo l out)) _ s _ (refused-told out (λ l. writtenTo l out) (written-none out) s)
+    (λ p. while-told out b m s (omega (arith, h, ltb-false n m (p .1 .0))))

@@ -30,7 +30,8 @@ use Rattle.demands.proofs.Counting.{Same, equal, other, same?, self}
 use Rattle.demands.proofs.Totals.{sumOf, total-keep, sum-same, sum-but, sum-more}
 use Rattle.demands.proofs.OrderKept.{first-own, front-registered}
 use Rattle.demands.proofs.Quiet.{Quiet, stays, goes, Quietly, trans, poll, poll-quiet, poll-ordered, release-all-quiet, settle-empty-quiet}
-use Rattle.demands.proofs.Moves.{Moves, stays-put, credits, registers-new, registers-old, sends, posts, drops-it, pauses-it, resumes, resumes-not, closes-it, polls-all, shuts-it, takes, stops, aims, aims-none, Chain, stay, move, trace-chain}
+use Rattle.demands.proofs.Moves.{Moves, stays-put, credits, registers-new, registers-old, sends, posts, drops-it, pauses-it, resumes, resumes-not, closes-it, polls-all, shuts-it, takes, stops, halts, aims, aims-none, Chain, stay, move, trace-chain}
+use Rattle.demands.proofs.StopLaws.{halts-quiet}
 use Rattle.demands.proofs.Opened.{opened-ordered}
 use Rattle.demands.proofs.MovesKeepOrder.{has-lane-parts, unissued, move-ordered}
 use Rattle.demands.proofs.Points.{ends-at}
@@ -235,6 +236,7 @@ move-keys L o h (polls-all s) = keys-on L _ (λ k. refl) (move-grows (polls-all 
 move-keys L o h (shuts-it s) = keys-on L _ (λ k. refl) (move-grows (shuts-it s)) h
 move-keys L o h (takes f r s y v q vs w e g) = keys-changed L _ _ remove-oldest-key (move-grows (takes f r s y v q vs w e g)) h
 move-keys L o h (stops f r s u a w e q k n) = keys-same L _ (n L) (move-grows (stops f r s u a w e q k n)) h
+move-keys L o h (halts s m b n j y q e w) = keys-same L _ (w .noted L) (move-grows (halts s m b n j y q e w)) h
 move-keys L o h (aims s i v vs c g) = keys-changed L _ _ remove-oldest-key (move-grows (aims s i v vs c g)) h
 move-keys L o h (aims-none s i a c g n) = keys-same L _ (n .noted L) (move-grows (aims-none s i a c g n)) h
 
@@ -286,6 +288,7 @@ move-sum L h (takes f r s y v q vs w e g) =
     (agrees-quiet L s p (poll-quiet f s) (h .agrees)) (keys-on L L (λ k. refl) (grows-quiet s p (poll-quiet f s)) (h .keys)) (h .sum ∙ sym (held-quiet s p (poll-quiet f s))) reg refl
     (move-agrees L (h .ord) (h .agrees) (takes f r s y v q vs w e g))
 move-sum L h (stops f r s u a w e q k n) = noted-sum L _ s u (n L) (held-quiet s u (trans (poll-quiet f s) q)) (h .sum)
+move-sum L h (halts s m b n j y q e w) = noted-sum L _ s _ (w .noted L) (held-quiet s _ (halts-quiet s)) (h .sum)
 move-sum L h (aims s i v vs c g) =
     let x = i .key .slot in
     let p = has-lane-parts s (i .key) c in

@@ -28,7 +28,8 @@ use Rattle.demands.proofs.Counting.{equal, other, same?, no}
 use Rattle.demands.proofs.OrderKept.{first-own}
 use Rattle.demands.proofs.FoundEmpty.{call-found}
 use Rattle.demands.proofs.Quiet.{Quiet, stays, goes, Quietly, poll, poll-quiet, release-all-quiet, settle-empty-quiet}
-use Rattle.demands.proofs.Moves.{Moves, stays-put, credits, registers-new, registers-old, sends, posts, drops-it, pauses-it, resumes, resumes-not, closes-it, polls-all, shuts-it, takes, stops, aims, aims-none, Chain, stay, move, sender-move, control-move, call-chain}
+use Rattle.demands.proofs.Moves.{Moves, stays-put, credits, registers-new, registers-old, sends, posts, drops-it, pauses-it, resumes, resumes-not, closes-it, polls-all, shuts-it, takes, stops, halts, aims, aims-none, Chain, stay, move, sender-move, control-move, call-chain}
+use Rattle.demands.proofs.StopLaws.{halts-quiet}
 
 -- ---- receives: a slot is pending or has no items, from a pending one on
 
@@ -87,6 +88,7 @@ move-kept g (polls-all s) y k = absurd g
 move-kept g (shuts-it s) y k = absurd g
 move-kept g (takes f r s x v q vs h e n) y k = item-kept (poll f s) x v _ _ vs n y (quietly-kept (poll-quiet f s) y k)
 move-kept g (stops f r s u a h e q o n) y k = quietly-kept q y (quietly-kept (poll-quiet f s) y k)
+move-kept g (halts s m b n j x q e h) y k = quietly-kept (halts-quiet s) y k
 move-kept g (aims s i v vs c e) y k = queue-lane-kept (mayQueue s (i .key .slot)) (i .key .slot) _ y (item-kept s (i .key .slot) v _ _ vs e y k)
 move-kept g (aims-none s i a c e h) y k = quietly-kept (settle-empty-quiet (i .key .slot) (without (i .key .slot) (s .queue)) s e) y k
 

@@ -11,7 +11,7 @@ use Rattle.model.specs.declared.SenderCall.the-variants.{RegisterSender, TrySen
 use Rattle.model.specs.declared.ControlCall.the-variants.{Pause, Resume, CloseLane, ReleaseConsumed, PollAllLanes, CloseReceiver, CountHeld}
 use Rattle.model.specs.declared.Call.{Call}
 use Rattle.model.specs.declared.Call.the-variants.{Sender, Receive, Control}
-use Rattle.model.specs.declared.Answer.the-variants.{Done, Registered, Taken, Item, Items, Empty, Disconnected, Held, Refused}
+use Rattle.model.specs.declared.Answer.the-variants.{Done, Registered, Taken, Item, Items, Stopped, Empty, Disconnected, Held, Refused}
 use Rattle.model.specs.Lists.{if, count}
 use Rattle.model.specs.State.{State}
 use Rattle.model.specs.Runs.{sameKey, accepted, Tick, gives, ends, trace, afterList, countTicks}
@@ -22,7 +22,7 @@ use Rattle.model.specs.Ledger.{Lane, Ledger, atOpening, changeLane, removeOldes
 use Rattle.model.specs.Keys.{registersAs, answersKeyThat, answersKey, answersSlot, KeysNeverAgainIn, KeysNeverAgain, SlotsAnswered, IssuedAsAnsweredIn, IssuedAsAnswered}
 use Rattle.demands.proofs.Counting.{Same, equal, other, same?}
 use Rattle.demands.proofs.OrderKept.{first-own}
-use Rattle.demands.proofs.Moves.{Moves, stays-put, credits, registers-new, registers-old, sends, posts, drops-it, pauses-it, resumes, resumes-not, closes-it, polls-all, shuts-it, takes, stops, aims, aims-none, Chain, stay, move, trace-chain}
+use Rattle.demands.proofs.Moves.{Moves, stays-put, credits, registers-new, registers-old, sends, posts, drops-it, pauses-it, resumes, resumes-not, closes-it, polls-all, shuts-it, takes, stops, halts, aims, aims-none, Chain, stay, move, trace-chain}
 use Rattle.demands.proofs.Opened.{opened-ordered}
 use Rattle.demands.proofs.MovesKeepOrder.{move-ordered}
 use Rattle.demands.proofs.LedgerLaws.{alike, unlike, keys?, times, changeIn}
@@ -70,6 +70,7 @@ module _ (p : LaneKey → Bool) where
   noted-that L (ends c (Taken w f)) = omega (arith, applied-that c L)
   noted-that L (ends c (Item v i)) = omega (arith, applied-that c L)
   noted-that L (ends c (Items n)) = omega (arith, applied-that c L)
+  noted-that L (ends c (Stopped n)) = omega (arith, applied-that c L)
   noted-that L (ends c Empty) = omega (arith, applied-that c L)
   noted-that L (ends c Disconnected) = omega (arith, applied-that c L)
   noted-that L (ends c (Held n)) = omega (arith, applied-that c L)
@@ -167,6 +168,7 @@ move-slots L o a h (polls-all s) = slots-given L (polls-all s) (λ x. refl) refl
 move-slots L o a h (shuts-it s) = slots-given L (shuts-it s) (λ x. refl) refl h
 move-slots L o a h (takes f r s y v q vs w e g) = slots-given L (takes f r s y v q vs w e g) (λ x. refl) refl h
 move-slots L o a h (stops f r s u b w e q k n) = slots-same L _ (n L) h
+move-slots L o a h (halts s m b n j y q e w) = slots-same L _ (w .noted L) h
 move-slots L o a h (aims s i v vs c g) = slots-given L (aims s i v vs c g) (λ x. refl) refl h
 move-slots L o a h (aims-none s i b c g n) = slots-same L _ (n .noted L) h
 

@@ -13,14 +13,14 @@ use Rattle.model.specs.declared.LaneId.{LaneId}
 use Rattle.model.specs.declared.Opening.{Opening}
 use Rattle.model.specs.declared.SenderCall.{SenderCall}
 use Rattle.model.specs.declared.SenderCall.the-variants.{RegisterSender, TrySend, TrySendUnsignaled, DropSender}
-use Rattle.model.specs.declared.ReceiveCall.the-variants.{TryRecv, TryRecvFair, TryRecvFrom, TryRecvBatchInto}
+use Rattle.model.specs.declared.ReceiveCall.the-variants.{TryRecv, TryRecvFair, TryRecvFrom, TryRecvBatchInto, TryRecvBatchIntoWhile}
 use Rattle.model.specs.declared.ControlCall.the-variants.{Pause, Resume, CloseLane, ReleaseConsumed, PollAllLanes, CloseReceiver, CountHeld}
 use Rattle.model.specs.declared.Call.{Call}
 use Rattle.model.specs.declared.Call.the-variants.{Sender, Receive, Control}
 use Rattle.model.specs.declared.Refusal.{Refusal}
 use Rattle.model.specs.declared.Refusal.the-variants.{ReceiverClosed, NoSuchLane}
 use Rattle.model.specs.declared.Answer.{Answer}
-use Rattle.model.specs.declared.Answer.the-variants.{Done, Registered, Taken, Item, Items, Empty, Disconnected, Held, Refused}
+use Rattle.model.specs.declared.Answer.the-variants.{Done, Registered, Taken, Item, Items, Stopped, Empty, Disconnected, Held, Refused}
 use Rattle.model.specs.Answers.{number}
 use Rattle.model.specs.Lists.{if, both, Each, from}
 use Rattle.model.specs.State.{State, registeredLanes, livingSenders, keyOf, hasLane, sameOpening, hasLaneId}
@@ -28,7 +28,7 @@ use Rattle.model.specs.Turn.{Took, takeOne, takeFair}
 use Rattle.model.specs.Outcome.{Outcome, says, unless}
 use Rattle.model.specs.Runs.{Rules, RunsOf, accepted, afterList}
 use Rattle.model.specs.Sender.{clearSlots, issueSlot, registerSender, trySend, trySendUnsignaled, dropSender, senderOutcome}
-use Rattle.model.specs.Receive.{retireEmptyPausedLanes, emptyOrDrained, nothingTaken, answerOne, takeFrom, answerItems, tryRecv, tryRecvFair, tryRecvFrom, tryRecvBatchInto, receiveOutcome}
+use Rattle.model.specs.Receive.{retireEmptyPausedLanes, emptyOrDrained, nothingTaken, answerOne, takeFrom, answerItems, tryRecv, tryRecvFair, tryRecvFrom, tryRecvBatchInto, takeWhile, answerWhile, tryRecvBatchIntoWhile, receiveOutcome}
 use Rattle.model.specs.Control.{pause, resume, closeLane, releaseConsumed, pollAllLanes, closeReceiver, countHeld, controlOutcome}
 use Rattle.model.specs.Opening.{channelOf, openingOutcome}
 use Rattle.model.specs.Rules.{outcome, theRules}
@@ -90,6 +90,7 @@ Proper h Done = Unit {0}
 Proper h (Registered k) = Unit {0}
 Proper h (Taken w f) = Unit {0}
 Proper h (Items n) = Unit {0}
+Proper h (Stopped n) = Unit {0}
 Proper h Empty = Unit {0}
 Proper h Disconnected = Unit {0}
 Proper h (Held n) = Unit {0}
@@ -120,6 +121,11 @@ module _ (h : OpenedChannel) where
   answer-items-proper zero l s = tt
   answer-items-proper (suc m) [] s = nothing-taken-proper s
   answer-items-proper (suc m) (g ∷ l) s = tt
+
+  answer-while-proper : (m : ℕ) (b : Bool) (l : List (LaneKey × ℕ)) (s : State) → ProperOf (answerWhile m b l s)
+  unfolding answerWhile Proper
+  answer-while-proper m true l s = tt
+  answer-while-proper m false l s = answer-items-proper m l s
 
 module _ (s : State) where
   abbrev h : OpenedChannel
@@ -177,12 +183,13 @@ module _ (s : State) where
     of-none : ProperOf h (outcome s c) → Kind c
 
   kind : (c : Call) → Kind c
-  unfolding outcome receiveOutcome controlOutcome tryRecv tryRecvFair tryRecvBatchInto releaseConsumed pollAllLanes closeReceiver countHeld Proper number Each
+  unfolding outcome receiveOutcome controlOutcome tryRecv tryRecvFair tryRecvBatchInto tryRecvBatchIntoWhile releaseConsumed pollAllLanes closeReceiver countHeld Proper number Each
   kind (Sender c) = of-none (sender-proper c)
   kind (Receive TryRecv) = of-none (unless-each (ProperOf h) _ s _ (refl, tt) (answer-one-proper h (takeOne s) (take-one-taken s) (taken-channel (take-one-taken s))))
   kind (Receive TryRecvFair) = of-none (unless-each (ProperOf h) _ s _ (refl, tt) (answer-one-proper h (takeFair s) (take-fair-taken s) (taken-channel (take-fair-taken s))))
   kind (Receive (TryRecvFrom i)) = of-id i targets
   kind (Receive (TryRecvBatchInto limit room)) = of-none (unless-each (ProperOf h) _ s _ (refl, (refl, tt)) (answer-items-proper h limit _ _))
+  kind (Receive (TryRecvBatchIntoWhile limit bound room)) = of-none (unless-each (ProperOf h) _ s _ (refl, (refl, tt)) (answer-while-proper h limit ((takeWhile bound limit s) .0) _ _))
   kind (Control (Pause i)) = of-id i pauses
   kind (Control (Resume i)) = of-id i resumes
   kind (Control (CloseLane i)) = of-id i closes

@@ -16,13 +16,14 @@ use Rattle.model.specs.State.{Slot, State, mayQueue, keyOf, hasLane}
 use Rattle.model.specs.Changes.{withQueue, put, newLane, signalled, pushed, senderDropped, popped, withPaused, credited, retired}
 use Rattle.model.specs.Turn.{retireLane, settleEmpty, unreleasedAfterOne, giveItem}
 use Rattle.model.specs.Runs.{sameKey, accepted, Tick}
-use Rattle.model.specs.Receive.{releaseAll, queueLaneIf}
+use Rattle.model.specs.Receive.{releaseAll, queueLaneIf, halted}
 use Rattle.model.specs.Order.{Ordered}
 use Rattle.model.specs.Ledger.{HeldItem, Lane, Ledger, changeLane, addItem, removeOldest, setPaused, setClosed, setDropped, addRegistered, applyCall, note, anyOrdinary, waitsIn}
 use Rattle.demands.proofs.Counting.{equal, other, same?, self, no}
 use Rattle.demands.proofs.OrderKept.{first-own, front-registered}
 use Rattle.demands.proofs.Quiet.{Still, Quiet, stays, goes, Quietly, trans, poll, poll-quiet, poll-ordered, release-all-quiet, settle-empty-quiet}
-use Rattle.demands.proofs.Moves.{Moves, stays-put, credits, registers-new, registers-old, sends, posts, drops-it, pauses-it, resumes, resumes-not, closes-it, polls-all, shuts-it, takes, stops, aims, aims-none}
+use Rattle.demands.proofs.Moves.{Moves, stays-put, credits, registers-new, registers-old, sends, posts, drops-it, pauses-it, resumes, resumes-not, closes-it, polls-all, shuts-it, takes, stops, halts, aims, aims-none}
+use Rattle.demands.proofs.StopLaws.{halts-quiet}
 use Rattle.demands.proofs.MovesKeepOrder.{has-lane-parts, has-lane-intro, unissued}
 use Rattle.demands.proofs.LedgerLaws.{alike, unlike, keys?, look, look-changed, look-other}
 use Rattle.demands.proofs.Demand2.{sender-parts, queue-lane-slot, queue-lane-parts, give-item-slot}
@@ -477,6 +478,7 @@ move-agrees L o h (takes f r s y v q vs w e g) =
     agrees-change L p (giveItem p y q vs back) (keyOf p y) removeOldest remove-oldest-key m (give-item-slot p y q vs back) reg refl (give-item-issued p y q vs back) (give-item-open p y q vs back) (agrees-quiet L s p (poll-quiet f s) h) reg refl
     (λ l. remove-oldest-matches l (p .slotOf y) m v vs g refl refl refl refl)
 move-agrees L o h (stops f r s u a w e q k n) = subst (λ (M : Ledger). Agrees M u) (sym (n L)) (agrees-quiet L s u (trans (poll-quiet f s) q) h)
+move-agrees L o h (halts s m b n j y q e w) = subst (λ (M : Ledger). Agrees M (releaseAll (halted (poll false s)))) (sym (w .noted L)) (agrees-quiet L s _ (halts-quiet s) h)
 move-agrees L o h (aims s i v vs c g) =
     let x = i .key .slot in
     let p = has-lane-parts s (i .key) c in

@@ -6,6 +6,7 @@ pub mod Quiet
 pub mod Ahead
 pub mod WaitInReceive
 pub mod ClearSlots
+pub mod StopLaws
 pub mod Moves
 pub mod Opened
 pub mod Points
@@ -32,6 +33,7 @@ pub mod Capacity
 pub mod InOrder
 pub mod FrontItem
 pub mod WholeChunk
+pub mod StopInChunk
 pub mod Events
 pub mod EventsOfRuns
 pub mod AnswersKeep
@@ -49,6 +51,7 @@ pub mod ClosedSignal
 pub mod Registration
 pub mod FreedOnTop
 pub mod ReceivesEnd
+pub mod Stops
 pub mod Carried
 pub mod BudgetAfterNothing
 pub mod WhileMarked

@@ -13,14 +13,14 @@ use Rattle.model.specs.declared.LaneId.{LaneId}
 use Rattle.model.specs.declared.SenderCall.{SenderCall}
 use Rattle.model.specs.declared.SenderCall.the-variants.{RegisterSender, TrySend, TrySendUnsignaled, DropSender}
 use Rattle.model.specs.declared.ReceiveCall.{ReceiveCall}
-use Rattle.model.specs.declared.ReceiveCall.the-variants.{TryRecv, TryRecvFair, TryRecvFrom, TryRecvBatchInto}
+use Rattle.model.specs.declared.ReceiveCall.the-variants.{TryRecv, TryRecvFair, TryRecvFrom, TryRecvBatchInto, TryRecvBatchIntoWhile}
 use Rattle.model.specs.declared.ControlCall.{ControlCall}
 use Rattle.model.specs.declared.ControlCall.the-variants.{Pause, Resume, CloseLane, ReleaseConsumed, PollAllLanes, CloseReceiver, CountHeld}
 use Rattle.model.specs.declared.Call.{Call}
 use Rattle.model.specs.declared.Call.the-variants.{Sender, Receive, Control}
 use Rattle.model.specs.declared.Refusal.{Refusal}
 use Rattle.model.specs.declared.Answer.{Answer}
-use Rattle.model.specs.declared.Answer.the-variants.{Done, Registered, Taken, Item, Items, Empty, Disconnected, Refused}
+use Rattle.model.specs.declared.Answer.the-variants.{Done, Registered, Taken, Item, Items, Stopped, Empty, Disconnected, Refused}
 use Rattle.model.specs.Lists.{nonEmpty, if, both, either, Each, count, keep, from, without}
 use Rattle.model.specs.State.{State, mayQueue, registeredLanes, keyOf, senderLives, hasLane, sameOpening, hasLaneId, isFull, livingSenders}
 use Rattle.model.specs.Changes.{withQueue, withFree, withBudget, withIssued, withOpen, put, newLane, signalled, pushed, senderDropped, popped, withPaused, credited}
@@ -29,7 +29,7 @@ use Rattle.model.specs.Turn.{retireLane, settleEmpty, unreleasedAfterOne, giveI
 use Rattle.model.specs.Outcome.{Outcome, unless, says}
 use Rattle.model.specs.Runs.{accepted, Tick, gives, ends, handed, ticks, trace, afterList}
 use Rattle.model.specs.Sender.{clearSlots, issueSlot, allIssued, senderOutcome, registerSender, trySend, trySendUnsignaled, dropSender}
-use Rattle.model.specs.Receive.{retireEmptyPausedLanes, emptyOrDrained, nothingTaken, answerOne, andMore, takeUpTo, releaseAll, answerItems, queueLaneIf, takeFrom, receiveOutcome, tryRecv, tryRecvFair, tryRecvFrom, tryRecvBatchInto}
+use Rattle.model.specs.Receive.{retireEmptyPausedLanes, emptyOrDrained, nothingTaken, answerOne, andMore, takeUpTo, releaseAll, answerItems, halted, takeWhile, answerWhile, queueLaneIf, takeFrom, receiveOutcome, tryRecv, tryRecvFair, tryRecvFrom, tryRecvBatchInto, tryRecvBatchIntoWhile}
 use Rattle.model.specs.Control.{resumeIf, controlOutcome, pause, resume, closeLane, releaseConsumed, pollAllLanes, closeReceiver, countHeld}
 use Rattle.model.specs.Rules.{outcome, theRules}
 use Rattle.model.specs.Order.{Ordered}
@@ -41,6 +41,7 @@ use Rattle.demands.proofs.OrderKept.{release-all-ordered}
 use Rattle.demands.proofs.Quiet.{Quietly, trans, release-all-quiet, nothing-taken-quiet, nothing-taken-ordered, poll, calm}
 use Rattle.demands.proofs.ClearSlots.{clear-slot}
 use Rattle.demands.proofs.WaitInReceive.{Settled, nothing-queued, front, poll-settled}
+use Rattle.demands.proofs.StopLaws.{NextUp, Stops, while-law}
 
 pub record Silent (c : Call) (a : Answer) : Type 0 where
   pub noted : (L : Ledger) → note L (ends c a) ≡ L
@@ -50,6 +51,7 @@ pub record Silent (c : Call) (a : Answer) : Type 0 where
 pub data How : Bool → ReceiveCall → Type 0 where
   by-plain : How false TryRecv
   by-batch : (m n : ℕ) → How false (TryRecvBatchInto m n)
+  by-while : (m b n : ℕ) → How false (TryRecvBatchIntoWhile m b n)
   by-fair : How true TryRecvFair
 
 pub data Moves : State → Tick → State → Type 0 where
@@ -76,6 +78,8 @@ pub data Moves : State → Tick → State → Type 0 where
       → Moves s (gives r (keyOf (poll f s) y) v) (giveItem (poll f s) y q vs (either f (leb 63 ((poll f s) .slotOf y .burst))))
   stops : (f : Bool) (r : ReceiveCall) (s u : State) (a : Answer) → How f r → (poll f s) .queue ≡ [] → Quietly (poll f s) u → (Ordered (poll f s) → Ordered u) → ((L : Ledger) → note L (ends (Receive r) a) ≡ L)
       → Moves s (ends (Receive r) a) u
+  halts : (s : State) (m b n j y : ℕ) (q : List ℕ) → (poll false s) .queue ≡ y ∷ q → Silent (Receive (TryRecvBatchIntoWhile m b n)) (Stopped j)
+      → Moves s (ends (Receive (TryRecvBatchIntoWhile m b n)) (Stopped j)) (releaseAll (halted (poll false s)))
   aims : (s : State) (i : LaneId) (v : ℕ) (vs : List ℕ) → hasLane s (i .key) ≡ true → s .slotOf (i .key .slot) .ring ≡ v ∷ vs
       → Moves s (gives (TryRecvFrom i) (keyOf s (i .key .slot)) v) (queueLaneIf (mayQueue s (i .key .slot)) (i .key .slot) (put (i .key .slot) (popped vs (unreleasedAfterOne s (i .key .slot)) (s .slotOf (i .key .slot) .burst) (s .slotOf (i .key .slot))) s))
   aims-none : (s : State) (i : LaneId) (a : Answer) → hasLane s (i .key) ≡ true → s .slotOf (i .key .slot) .ring ≡ [] → Silent (Receive (TryRecvFrom i)) a
@@ -204,6 +208,14 @@ gave-items r n = record { noted = λ L. refl; sees = never (looks (Receive r)); 
     never true = refl
     never false = refl
 
+gave-stopped : (r : ReceiveCall) (n : ℕ) → Silent (Receive r) (Stopped n)
+unfolding note applyCall addRegistered accepted looksInVain looks findsNothing into
+gave-stopped r n = record { noted = λ L. refl; sees = never (looks (Receive r)); sends-none = λ k. refl }
+  where
+    never : (b : Bool) → both b false ≡ false
+    never true = refl
+    never false = refl
+
 -- a take: nothing, or one item
 pub data TakeResult (f : Bool) (s : State) : Took → Type 0 where
   took-none : (poll f s) .queue ≡ [] → TakeResult f s ([], poll f s)
@@ -255,26 +267,50 @@ unfolding answerOne
 answer-one-chain f r s h t (took-none e) = nothing-taken-chain f r s (poll f s) h e (calm _) (λ o. o)
 answer-one-chain f r s h t (took-one y v q vs e g) = move (takes f r s y v q vs h e g) (move (stays-put _ _ _ (gave-item r v _)) (stay _))
 
--- a batch: m more, and then the answer `Items n`
-take-up-to-chain : (m a b n : ℕ) (s : State) → Chain s (puts (TryRecvBatchInto a b) ((takeUpTo m s) .0) ++ (ends (Receive (TryRecvBatchInto a b)) (Items n) ∷ [])) (releaseAll ((takeUpTo m s) .1))
+-- a batch, by a receive r: m more, and then the answer `Items n`
+take-up-to-chain : (r : ReceiveCall) → How false r → (m n : ℕ) (s : State) → Chain s (puts r ((takeUpTo m s) .0) ++ (ends (Receive r) (Items n) ∷ [])) (releaseAll ((takeUpTo m s) .1))
 unfolding takeUpTo andMore
-take-up-to-chain zero a b n s = move (credits s _ _ (gave-items (TryRecvBatchInto a b) n)) (stay _)
-take-up-to-chain (suc m) a b n s = go (takeOne s) (take-one-taken s) (λ u. take-up-to-chain m a b n u)
+take-up-to-chain r w zero n s = move (credits s _ _ (gave-items r n)) (stay _)
+take-up-to-chain r w (suc m) n s = go (takeOne s) (take-one-taken s) (λ u. take-up-to-chain r w m n u)
   where
-    go : (t : Took) → TakeResult false s t → ((u : State) → Chain u (puts (TryRecvBatchInto a b) ((takeUpTo m u) .0) ++ (ends (Receive (TryRecvBatchInto a b)) (Items n) ∷ [])) (releaseAll ((takeUpTo m u) .1)))
-        → Chain s (puts (TryRecvBatchInto a b) ((andMore (t .0) (t .1) (takeUpTo m (t .1))) .0) ++ (ends (Receive (TryRecvBatchInto a b)) (Items n) ∷ [])) (releaseAll ((andMore (t .0) (t .1) (takeUpTo m (t .1))) .1))
-    go t (took-none e) ih = move (stops false _ s _ _ (by-batch a b) e (release-all-quiet _) (release-all-ordered _) (gave-items (TryRecvBatchInto a b) n .noted)) (stay _)
-    go t (took-one y v q vs e g) ih = move (takes false _ s y v q vs (by-batch a b) e g) (ih _)
+    go : (t : Took) → TakeResult false s t → ((u : State) → Chain u (puts r ((takeUpTo m u) .0) ++ (ends (Receive r) (Items n) ∷ [])) (releaseAll ((takeUpTo m u) .1)))
+        → Chain s (puts r ((andMore (t .0) (t .1) (takeUpTo m (t .1))) .0) ++ (ends (Receive r) (Items n) ∷ [])) (releaseAll ((andMore (t .0) (t .1) (takeUpTo m (t .1))) .1))
+    go t (took-none e) ih = move (stops false _ s _ _ w e (release-all-quiet _) (release-all-ordered _) (gave-items r n .noted)) (stay _)
+    go t (took-one y v q vs e g) ih = move (takes false _ s y v q vs w e g) (ih _)
 
-batch-chain : (m n : ℕ) (s : State) → Receives s (TryRecvBatchInto m n) (answerItems m ((takeUpTo m s) .0) (releaseAll ((takeUpTo m s) .1)))
+batch-chain : (r : ReceiveCall) → How false r → (m : ℕ) (s : State) → Receives s r (answerItems m ((takeUpTo m s) .0) (releaseAll ((takeUpTo m s) .1)))
 unfolding takeUpTo answerItems andMore
-batch-chain zero n s = take-up-to-chain zero zero n 0 s
-batch-chain (suc m) n s = go (takeOne s) (take-one-taken s)
+batch-chain r w zero s = take-up-to-chain r w zero 0 s
+batch-chain r w (suc m) s = go (takeOne s) (take-one-taken s)
   where
     go : (t : Took) → TakeResult false s t
-        → Receives s (TryRecvBatchInto (suc m) n) (answerItems (suc m) ((andMore (t .0) (t .1) (takeUpTo m (t .1))) .0) (releaseAll ((andMore (t .0) (t .1) (takeUpTo m (t .1))) .1)))
-    go t (took-none e) = nothing-taken-chain false _ s _ (by-batch (suc m) n) e (release-all-quiet _) (release-all-ordered _)
-    go t (took-one y v q vs e g) = move (takes false _ s y v q vs (by-batch (suc m) n) e g) (take-up-to-chain m (suc m) n _ _)
+        → Receives s r (answerItems (suc m) ((andMore (t .0) (t .1) (takeUpTo m (t .1))) .0) (releaseAll ((andMore (t .0) (t .1) (takeUpTo m (t .1))) .1)))
+    go t (took-none e) = nothing-taken-chain false _ s _ w e (release-all-quiet _) (release-all-ordered _)
+    go t (took-one y v q vs e g) = move (takes false _ s y v q vs w e g) (take-up-to-chain r w m _ _)
+
+-- a batch that stops: k more, and then the stop in front of an item
+module _ (m b n j : ℕ) where
+  abbrev by : ReceiveCall
+  by = TryRecvBatchIntoWhile m b n
+
+  halts-chain : (k : ℕ) (s : State) (y : ℕ) (q : List ℕ) → length ((takeUpTo k s) .0) ≡ k → (polled ((takeUpTo k s) .1)) .queue ≡ y ∷ q
+      → Chain s (puts by ((takeUpTo k s) .0) ++ (ends (Receive by) (Stopped j) ∷ [])) (releaseAll (halted (polled ((takeUpTo k s) .1))))
+  unfolding takeUpTo andMore poll
+  halts-chain zero s y q h e = move (halts s m b n j y q e (gave-stopped by j)) (stay _)
+  halts-chain (suc k) s y q h e = go (takeOne s) (take-one-taken s) h e (λ u. halts-chain k u y q)
+    where
+      go : (t : Took) → TakeResult false s t → length ((andMore (t .0) (t .1) (takeUpTo k (t .1))) .0) ≡ suc k → (polled ((andMore (t .0) (t .1) (takeUpTo k (t .1))) .1)) .queue ≡ y ∷ q
+          → ((u : State) → length ((takeUpTo k u) .0) ≡ k → (polled ((takeUpTo k u) .1)) .queue ≡ y ∷ q → Chain u (puts by ((takeUpTo k u) .0) ++ (ends (Receive by) (Stopped j) ∷ [])) (releaseAll (halted (polled ((takeUpTo k u) .1)))))
+          → Chain s (puts by ((andMore (t .0) (t .1) (takeUpTo k (t .1))) .0) ++ (ends (Receive by) (Stopped j) ∷ [])) (releaseAll (halted (polled ((andMore (t .0) (t .1) (takeUpTo k (t .1))) .1))))
+      go t (took-none i) h e ih = absurd (omega (arith, h))
+      go t (took-one z v p vs i g) h e ih = move (takes false _ s z v p vs (by-while m b n) i g) (ih _ (omega (arith, h)) e)
+
+while-chain : (m b n : ℕ) (s : State) → let t = takeWhile b m s in Receives s (TryRecvBatchIntoWhile m b n) (answerWhile m (t .0) (t .1 .0) (releaseAll (t .1 .1)))
+unfolding answerWhile
+while-chain m b n s =
+    while-law (λ t es. Receives s (TryRecvBatchIntoWhile m b n) (answerWhile m (t .0) (t .1 .0) (releaseAll (t .1 .1)))) b m s
+    (λ all. batch-chain (TryRecvBatchIntoWhile m b n) (by-while m b n) m s)
+    (λ k h. halts-chain m b n _ k s (h .up .lane) (h .up .others) (h .all-there) (h .up .first))
 
 take-from-chain : (s : State) (i : LaneId) → hasLane s (i .key) ≡ true → Receives s (TryRecvFrom i) (takeFrom (s .slotOf (i .key .slot) .ring) (i .key .slot) s)
 unfolding takeFrom note applyCall addRegistered accepted looksInVain looks into
@@ -298,11 +334,12 @@ take-from-chain s i c = go (s .slotOf (i .key .slot) .ring) refl
     go (v ∷ vs) e = move (aims s i v vs c e) (move (stays-put _ _ _ (gave-item (TryRecvFrom i) v _)) (stay _))
 
 receive-chain : (s : State) (r : ReceiveCall) → Receives s r (receiveOutcome s r)
-unfolding receiveOutcome tryRecv tryRecvFair tryRecvFrom tryRecvBatchInto
+unfolding receiveOutcome tryRecv tryRecvFair tryRecvFrom tryRecvBatchInto tryRecvBatchIntoWhile
 receive-chain s TryRecv = unless-law (Receives s TryRecv) _ s _ (refusing s TryRecv) (λ p. answer-one-chain false TryRecv s by-plain (takeOne s) (take-one-taken s))
 receive-chain s TryRecvFair = unless-law (Receives s TryRecvFair) _ s _ (refusing s TryRecvFair) (λ p. answer-one-chain true TryRecvFair s by-fair (takeFair s) (take-fair-taken s))
 receive-chain s (TryRecvFrom i) = unless-law (Receives s (TryRecvFrom i)) _ s _ (refusing s (TryRecvFrom i)) (λ p. take-from-chain s i (has-lane-of-id s i (not-false (p .1 .0))))
-receive-chain s (TryRecvBatchInto m n) = unless-law (Receives s (TryRecvBatchInto m n)) _ s _ (refusing s (TryRecvBatchInto m n)) (λ p. batch-chain m n s)
+receive-chain s (TryRecvBatchInto m n) = unless-law (Receives s (TryRecvBatchInto m n)) _ s _ (refusing s (TryRecvBatchInto m n)) (λ p. batch-chain (TryRecvBatchInto m n) (by-batch m n) m s)
+receive-chain s (TryRecvBatchIntoWhile m b n) = unless-law (Receives s (TryRecvBatchIntoWhile m b n)) _ s _ (refusing s (TryRecvBatchIntoWhile m b n)) (λ p. while-chain m b n s)
 
 pub call-chain : (s : State) (c : Call) → Chain s (ticks theRules s c) ((outcome s c) .1 .1)
 unfolding ticks handed outcome

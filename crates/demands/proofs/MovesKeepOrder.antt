@@ -19,7 +19,8 @@ use Rattle.model.specs.Order.{SlotOrdered, Ordered}
 use Rattle.demands.proofs.Counting.{Same, equal, other, same?, self, no, both-true, both-3, not-true, unqueued-zero, count-append, keep-in, keep-out, without-own, without-other, from-in}
 use Rattle.demands.proofs.OrderKept.{retire-unqueue-ordered, one-slot, first-own, first-other, settle-empty-ordered, give-item-ordered, release-all-ordered, put-ordered, back-ordered, signal-fine, back-room}
 use Rattle.demands.proofs.Quiet.{poll, poll-ordered}
-use Rattle.demands.proofs.Moves.{Moves, stays-put, credits, registers-new, registers-old, sends, posts, drops-it, pauses-it, resumes, resumes-not, closes-it, polls-all, shuts-it, takes, stops, aims, aims-none}
+use Rattle.demands.proofs.Moves.{Moves, stays-put, credits, registers-new, registers-old, sends, posts, drops-it, pauses-it, resumes, resumes-not, closes-it, polls-all, shuts-it, takes, stops, halts, aims, aims-none}
+use Rattle.demands.proofs.StopLaws.{halts-ordered}
 
 -- the key of a registered lane
 pub has-lane-parts : (s : State) (k : LaneKey) → hasLane s k ≡ true → (s .slotOf (k .slot) .registered ≡ true) × (s .slotOf (k .slot) .generation ≡ k .generation)
@@ -180,6 +181,7 @@ move-ordered o (polls-all s) = poll-all-fine s o
 move-ordered o (shuts-it s) = record { each-slot = o .each-slot; budget-most = o .budget-most; cursor-most = o .cursor-most; sizes = o .sizes }
 move-ordered o (takes f r s y v q vs h e g) = give-item-ordered (poll f s) y q vs _ e (back-room f ((poll f s) .slotOf y .burst)) (poll-ordered f s o)
 move-ordered o (stops f r s u a h e q k n) = k (poll-ordered f s o)
+move-ordered o (halts s m b n j y q e h) = halts-ordered s o
 move-ordered o (aims s i v vs c g) =
     queue-lane-ordered (mayQueue s (i .key .slot)) (i .key .slot) _ (popped-ordered s (i .key .slot) (unreleasedAfterOne s (i .key .slot)) vs o)
     (λ e. let r = may-queue-parts s (i .key .slot) e in (rw (self (i .key .slot)) (r .0), rw (self (i .key .slot)) (r .1), r .2))

@@ -32,7 +32,8 @@ use Rattle.model.specs.FreePlaces.{Send, ordinary, unsignalled, sendTo, HasFree
 use Rattle.demands.proofs.Counting.{Same, equal, other, same?, self, not-false}
 use Rattle.demands.proofs.Quiet.{Quietly, trans, poll, poll-quiet, release-all-quiet, settle-empty-quiet}
 use Rattle.demands.proofs.ClearSlots.{clear-slot}
-use Rattle.demands.proofs.Moves.{Moves, stays-put, credits, registers-new, registers-old, sends, posts, drops-it, pauses-it, resumes, resumes-not, closes-it, polls-all, shuts-it, takes, stops, aims, aims-none, Chain, stay, move, trace-chain, unless-law}
+use Rattle.demands.proofs.Moves.{Moves, stays-put, credits, registers-new, registers-old, sends, posts, drops-it, pauses-it, resumes, resumes-not, closes-it, polls-all, shuts-it, takes, stops, halts, aims, aims-none, Chain, stay, move, trace-chain, unless-law}
+use Rattle.demands.proofs.StopLaws.{halts-quiet}
 use Rattle.demands.proofs.Points.{ends-at}
 use Rattle.demands.proofs.LedgerLaws.{alike, unlike, keys?}
 use Rattle.demands.proofs.Demand2.{sender-parts, give-item-slot, queue-lane-slot, opens-as}
@@ -113,6 +114,7 @@ module _ (k : LaneKey) where
       fills-then (k .slot) _ s p _ (fills-quiet (k .slot) 0 s p (poll-quiet f s))
       (fills-put (k .slot) _ p (giveItem p y q vs b) y m (give-item-slot p y q vs b) (give-item-capacity p y q vs b) (λ z. omega (arith, popped-occupied p y v vs i)))
   move-fills g (stops f r s u a h e q l n) = fills-quiet (k .slot) _ s u (trans (poll-quiet f s) q)
+  move-fills g (halts s m b n j y q e h) = fills-quiet (k .slot) _ s _ (halts-quiet s)
   move-fills g (aims s i v vs c e) =
       let x = i .key .slot in
       let m = popped vs (unreleasedAfterOne s x) (s .slotOf x .burst) (s .slotOf x) in

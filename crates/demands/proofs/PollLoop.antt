@@ -1,7 +1,7 @@
 -- A receive goes on until it has its items or nothing is queued and nothing is ready; and the rules' two passes over the queue come to where the Rust's loop ends.
 -- Assumes nothing.
 use mathlib.Core.Path.{_≡_, refl, ap, sym, _∙_, subst}
-use mathlib.Core.Logic.{inl, inr}
+use mathlib.Core.Logic.{inl, inr, _⊎_}
 use mathlib.Core.Bool.{Bool, true, false, not}
 use mathlib.Core.List.{List, [], _∷_, _++_, tail}
 use Prim.Native.Nat.{ℕ, zero, suc, _≤_}
@@ -12,13 +12,14 @@ use Rattle.model.specs.State.{State}
 use Rattle.model.specs.Changes.{withQueue, withBudget, put, settledEmpty}
 use Rattle.model.specs.Ready.{marks, isReady, collectMarks, collectGroup, groupsRound, collectFirst, collectReadyGroup, collectReady}
 use Rattle.model.specs.Turn.{Took, retireLane, retireLaneIf, settleEmpty, refill, beforeNextTurn, runDownFrom, runDown, collectIfDue, collectIfNoneQueued, polled, takeOne, takeFair}
-use Rattle.model.specs.Receive.{andMore, takeUpTo}
+use Rattle.model.specs.Receive.{andMore, takeUpTo, takeWhile}
 use Rattle.model.specs.Order.{Ordered}
-use Rattle.model.specs.PollLoop.{NothingReady, TakesUnlessNothingLeft, PlainUnlessNothingLeft, FairUnlessNothingLeft, BatchUnlessNothingLeft, refreshed, refreshActive, Turns, nothing-queued, has-item, found-empty, PolledAsLoop, FairAsLoop, NothingReadyAtZero}
+use Rattle.model.specs.PollLoop.{NothingReady, TakesUnlessNothingLeft, PlainUnlessNothingLeft, FairUnlessNothingLeft, BatchUnlessNothingLeft, refreshed, refreshActive, Turns, nothing-queued, has-item, found-empty, PolledAsLoop, FairAsLoop, NothingReadyAtZero, WhileUnlessNothingLeft}
 use Rattle.demands.proofs.OrderKept.{refill-pos, settle-empty-queue, before-next-turn-queue, collect-if-due-ordered, run-down-from-ordered, run-down-ordered, take-one-ordered}
 use Rattle.demands.proofs.Moves.{TakeResult, took-none, took-one, take-one-taken, take-fair-taken}
 use Rattle.demands.proofs.Signals.{collect-ready-unmarked, settle-empty-unmarked, run-down-from-unmarked, poll-unmarked}
 use Rattle.demands.proofs.Collections.{none-marked, nothing-to-collect}
+use Rattle.demands.proofs.StopLaws.{while-law}
 
 -- ---- until it has its items
 
@@ -48,6 +49,11 @@ up-to-unless (suc n) s o = go (takeOne s) (take-one-taken s) (up-to-unless n ((t
 pub batch-unless-nothing-left : BatchUnlessNothingLeft
 unfolding BatchUnlessNothingLeft
 batch-unless-nothing-left limit s i = up-to-unless limit s (i .ordered)
+
+pub while-unless-nothing-left : WhileUnlessNothingLeft
+unfolding WhileUnlessNothingLeft
+while-unless-nothing-left bound limit s i =
+    while-law (λ t es. (t .0 ≡ true) ⊎ TakesUnlessNothingLeft limit (t .1)) bound limit s (λ all. inr (up-to-unless limit s (i .ordered))) (λ n w. inl refl)
 
 -- ---- as the Rust's loop
 

@@ -11,7 +11,7 @@ use lib.ListN.{length}
 use lib.Dec.{leb}
 use Rattle.model.specs.declared.LaneKey.{LaneKey}
 use Rattle.model.specs.declared.ReceiveCall.{ReceiveCall}
-use Rattle.model.specs.declared.ReceiveCall.the-variants.{TryRecv, TryRecvFair, TryRecvFrom, TryRecvBatchInto}
+use Rattle.model.specs.declared.ReceiveCall.the-variants.{TryRecv, TryRecvFair, TryRecvFrom, TryRecvBatchInto, TryRecvBatchIntoWhile}
 use Rattle.model.specs.declared.Call.the-variants.{Receive}
 use Rattle.model.specs.declared.Answer.the-variants.{Empty}
 use Rattle.model.specs.Lists.{if, both, nonEmpty, from}
@@ -20,14 +20,15 @@ use Rattle.model.specs.Changes.{put, retired}
 use Rattle.model.specs.Turn.{retireLane, retireLaneIf, Took, takeOne, takeFair}
 use Rattle.model.specs.Outcome.{Outcome, says}
 use Rattle.model.specs.Runs.{accepted}
-use Rattle.model.specs.Receive.{retireEmptyPausedLanes, emptyOrDrained, nothingTaken, answerOne, takeUpTo, releaseAll, answerItems, tryRecv, tryRecvFair, tryRecvBatchInto, receiveOutcome}
+use Rattle.model.specs.Receive.{retireEmptyPausedLanes, emptyOrDrained, nothingTaken, answerOne, takeUpTo, releaseAll, answerItems, tryRecv, tryRecvFair, tryRecvBatchInto, takeWhile, answerWhile, tryRecvBatchIntoWhile, receiveOutcome}
 use Rattle.model.specs.Rules.{outcome}
 use Rattle.model.specs.Viewed.{rulesViewed}
-use Rattle.model.specs.Stretch.{looks}
+use Rattle.model.specs.Stretch.{looks, saysStopped}
 use Rattle.model.specs.PollLoop.{NothingLeft, TakesUnlessNothingLeft, PlainUnlessNothingLeft, FairUnlessNothingLeft, BatchUnlessNothingLeft}
 use Rattle.model.specs.ReceivesEnd.{itemsAsked, EndsWithNothingLeft}
 use Rattle.demands.proofs.Counting.{equal, other, same?, no}
 use Rattle.demands.proofs.Moves.{unless-law}
+use Rattle.demands.proofs.StopLaws.{while-law}
 use Rattle.demands.proofs.PollLoop.{plain-unless-nothing-left, fair-unless-nothing-left, batch-unless-nothing-left}
 
 -- ---- what keeps queue and marks
@@ -78,12 +79,20 @@ items-end m (g ∷ l) s (inl h) a = inl h
 items-end m (g ∷ l) s (inr n) a = inr (release-all-left s n)
 
 pub ends-with-nothing-left : EndsWithNothingLeft rulesViewed
-unfolding EndsWithNothingLeft PlainUnlessNothingLeft FairUnlessNothingLeft BatchUnlessNothingLeft Ends itemsAsked outcome receiveOutcome tryRecv tryRecvFair tryRecvBatchInto accepted looks
+unfolding EndsWithNothingLeft PlainUnlessNothingLeft FairUnlessNothingLeft BatchUnlessNothingLeft Ends itemsAsked outcome receiveOutcome tryRecv tryRecvFair tryRecvBatchInto tryRecvBatchIntoWhile answerWhile accepted looks saysStopped
 ends-with-nothing-left s TryRecv h =
-    unless-law (Ends 1) _ s _ (λ n a. absurd (no a refl)) (λ p. one-ends _ _ (plain-unless-nothing-left s (h .in-order))) (h .not-refused)
+    inl (unless-law (Ends 1) _ s _ (λ n a. absurd (no a refl)) (λ p. one-ends _ _ (plain-unless-nothing-left s (h .in-order))) (h .not-refused))
 ends-with-nothing-left s TryRecvFair h =
-    unless-law (Ends 1) _ s _ (λ n a. absurd (no a refl)) (λ p. one-ends _ _ (fair-unless-nothing-left s (h .in-order))) (h .not-refused)
+    inl (unless-law (Ends 1) _ s _ (λ n a. absurd (no a refl)) (λ p. one-ends _ _ (fair-unless-nothing-left s (h .in-order))) (h .not-refused))
 ends-with-nothing-left s (TryRecvFrom i) h = absurd (no (h .untargeted) refl)
 ends-with-nothing-left s (TryRecvBatchInto zero room) h = absurd (no (h .untargeted) refl)
 ends-with-nothing-left s (TryRecvBatchInto (suc m) room) h =
-    unless-law (Ends (suc m)) _ s _ (λ n a. absurd (no a refl)) (λ p. items-end m _ _ (batch-unless-nothing-left (suc m) s (h .in-order))) (h .not-refused)
+    inl (unless-law (Ends (suc m)) _ s _ (λ n a. absurd (no a refl)) (λ p. items-end m _ _ (batch-unless-nothing-left (suc m) s (h .in-order))) (h .not-refused))
+ends-with-nothing-left s (TryRecvBatchIntoWhile zero bound room) h = absurd (no (h .untargeted) refl)
+ends-with-nothing-left s (TryRecvBatchIntoWhile (suc m) bound room) h =
+    unless-law EndsOrStops _ s _ (λ n a. absurd (no a refl))
+    (λ p. while-law (λ t es. EndsOrStops (answerWhile (suc m) (t .0) (t .1 .0) (releaseAll (t .1 .1)))) bound (suc m) s
+    (λ all a. inl (items-end m _ _ (batch-unless-nothing-left (suc m) s (h .in-order)) a)) (λ k w a. inr refl)) (h .not-refused)
+  where
+    EndsOrStops : Outcome → Type 0
+    EndsOrStops o = accepted (o .1 .0) ≡ true → ((length (o .0) ≡ suc m) ⊎ NothingLeft (o .1 .1)) ⊎ (saysStopped (o .1 .0) ≡ true)

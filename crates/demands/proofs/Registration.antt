@@ -11,14 +11,14 @@ use lib.Dec.{eqb, leb}
 use Rattle.model.specs.declared.LaneKey.{LaneKey}
 use Rattle.model.specs.declared.SenderCall.the-variants.{RegisterSender, TrySend, TrySendUnsignaled, DropSender}
 use Rattle.model.specs.declared.ReceiveCall.{ReceiveCall}
-use Rattle.model.specs.declared.ReceiveCall.the-variants.{TryRecv, TryRecvFair, TryRecvFrom, TryRecvBatchInto}
+use Rattle.model.specs.declared.ReceiveCall.the-variants.{TryRecv, TryRecvFair, TryRecvFrom, TryRecvBatchInto, TryRecvBatchIntoWhile}
 use Rattle.model.specs.declared.ControlCall.the-variants.{Pause, Resume, CloseLane, ReleaseConsumed, PollAllLanes, CloseReceiver, CountHeld}
 use Rattle.model.specs.declared.Call.{Call}
 use Rattle.model.specs.declared.Call.the-variants.{Sender, Receive, Control}
 use Rattle.model.specs.declared.Refusal.{Refusal}
 use Rattle.model.specs.declared.Refusal.the-variants.{ReceiverClosed, AtCapacity, NoFreeSlot, OlderSenderLives}
 use Rattle.model.specs.declared.Answer.{Answer}
-use Rattle.model.specs.declared.Answer.the-variants.{Done, Registered, Taken, Item, Items, Empty, Disconnected, Held, Refused}
+use Rattle.model.specs.declared.Answer.the-variants.{Done, Registered, Taken, Item, Items, Stopped, Empty, Disconnected, Held, Refused}
 use Rattle.model.specs.Answers.{number}
 use Rattle.model.specs.Lists.{if, both, either, nonEmpty, Each, count, keep, without}
 use Rattle.model.specs.State.{State, registeredLanes}
@@ -27,7 +27,7 @@ use Rattle.model.specs.Outcome.{Outcome, says, unless}
 use Rattle.model.specs.Order.{InOrder}
 use Rattle.model.specs.Runs.{accepted}
 use Rattle.model.specs.Sender.{clearSlots, issueSlot, allIssued, registerSender, trySend, trySendUnsignaled, dropSender, senderOutcome}
-use Rattle.model.specs.Receive.{tryRecv, tryRecvFair, tryRecvFrom, tryRecvBatchInto, receiveOutcome}
+use Rattle.model.specs.Receive.{tryRecv, tryRecvFair, tryRecvFrom, tryRecvBatchInto, takeWhile, tryRecvBatchIntoWhile, receiveOutcome}
 use Rattle.model.specs.Control.{pause, resume, closeLane, releaseConsumed, pollAllLanes, closeReceiver, countHeld, controlOutcome}
 use Rattle.model.specs.Rules.{outcome}
 use Rattle.model.specs.Viewed.{rulesViewed, rulesOnAnyState}
@@ -35,7 +35,7 @@ use Rattle.model.specs.Registration.{LetPass, OlderLives, FirstClear, NoSlotLef
 use Rattle.demands.proofs.Counting.{no, not-true, not-false}
 use Rattle.demands.proofs.ClearSlots.{none-clear, all-live, first-clear, without-once}
 use Rattle.demands.proofs.Moves.{unless-each}
-use Rattle.demands.proofs.Demand1.{answer-one-accepted, answer-items-accepted, take-from-accepted}
+use Rattle.demands.proofs.Demand1.{answer-one-accepted, answer-items-accepted, answer-while-accepted, take-from-accepted}
 
 -- ---- small laws
 
@@ -134,6 +134,7 @@ ofSlots (Registered k) = false
 ofSlots (Taken w f) = false
 ofSlots (Item v i) = false
 ofSlots (Items n) = false
+ofSlots (Stopped n) = false
 ofSlots Empty = false
 ofSlots Disconnected = false
 ofSlots (Held n) = false
@@ -146,6 +147,7 @@ accepted-other (Registered k) e = refl
 accepted-other (Taken w f) e = refl
 accepted-other (Item v i) e = refl
 accepted-other (Items n) e = refl
+accepted-other (Stopped n) e = refl
 accepted-other Empty e = refl
 accepted-other Disconnected e = refl
 accepted-other (Held n) e = refl
@@ -159,7 +161,7 @@ module _ (s : State) where
     of-other : Other (outcome s c) → Kind c
 
   kind : (c : Call) → Kind c
-  unfolding outcome senderOutcome trySend trySendUnsignaled dropSender receiveOutcome tryRecv tryRecvFair tryRecvFrom tryRecvBatchInto controlOutcome pause resume closeLane releaseConsumed pollAllLanes closeReceiver countHeld ofSlots number Each
+  unfolding outcome senderOutcome trySend trySendUnsignaled dropSender receiveOutcome tryRecv tryRecvFair tryRecvFrom tryRecvBatchInto tryRecvBatchIntoWhile controlOutcome pause resume closeLane releaseConsumed pollAllLanes closeReceiver countHeld ofSlots number Each
   kind (Sender (RegisterSender most)) = registers most refl
   kind (Sender (TrySend k v)) = of-other (unless-each Other _ s _ (refl, (refl, (refl, tt))) refl)
   kind (Sender (TrySendUnsignaled k v)) = of-other (unless-each Other _ s _ (refl, (refl, (refl, tt))) refl)
@@ -168,6 +170,7 @@ module _ (s : State) where
   kind (Receive TryRecvFair) = of-other (unless-each Other _ s _ (refl, tt) (accepted-other _ (answer-one-accepted _ _)))
   kind (Receive (TryRecvFrom i)) = of-other (unless-each Other _ s _ (refl, (refl, tt)) (accepted-other _ (take-from-accepted _ _ s)))
   kind (Receive (TryRecvBatchInto m n)) = of-other (unless-each Other _ s _ (refl, (refl, tt)) (accepted-other _ (answer-items-accepted m _ _)))
+  kind (Receive (TryRecvBatchIntoWhile m b n)) = of-other (unless-each Other _ s _ (refl, (refl, tt)) (accepted-other _ (answer-while-accepted m ((takeWhile b m s) .0) _ _)))
   kind (Control (Pause i)) = of-other (unless-each Other _ s _ (refl, (refl, tt)) refl)
   kind (Control (Resume i)) = of-other (unless-each Other _ s _ (refl, (refl, tt)) refl)
   kind (Control (CloseLane i)) = of-other (unless-each Other _ s _ (refl, (refl, tt)) refl)

@@ -5,7 +5,8 @@ use mathlib.Core.Bool.{Bool, true, false, not}
 use mathlib.Core.List.{List, [], _∷_, _++_, map, map-map, map-append}
 use mathlib.Mathlib.Logic.Function.Defs.{Injective}
 use Prim.Native.Nat.{ℕ, zero, suc}
-use lib.Dec.{eqb, leb}
+use lib.ListN.{length, take}
+use lib.Dec.{eqb, leb, ltb}
 use borrow.Author.Tests.{eqb-true, eqb-false, eq-eqb, ne-eqb}
 use Rattle.model.specs.declared.LaneKey.{LaneKey}
 use Rattle.model.specs.declared.LaneId.{LaneId}
@@ -13,7 +14,7 @@ use Rattle.model.specs.declared.Opening.{Opening}
 use Rattle.model.specs.declared.SenderCall.{SenderCall}
 use Rattle.model.specs.declared.SenderCall.the-variants.{RegisterSender, TrySend, TrySendUnsignaled, DropSender}
 use Rattle.model.specs.declared.ReceiveCall.{ReceiveCall}
-use Rattle.model.specs.declared.ReceiveCall.the-variants.{TryRecv, TryRecvFair, TryRecvFrom, TryRecvBatchInto}
+use Rattle.model.specs.declared.ReceiveCall.the-variants.{TryRecv, TryRecvFair, TryRecvFrom, TryRecvBatchInto, TryRecvBatchIntoWhile}
 use Rattle.model.specs.declared.ControlCall.{ControlCall}
 use Rattle.model.specs.declared.ControlCall.the-variants.{Pause, Resume, CloseLane, ReleaseConsumed, PollAllLanes, CloseReceiver, CountHeld}
 use Rattle.model.specs.declared.Call.{Call}
@@ -29,7 +30,7 @@ use Rattle.model.specs.Turn.{retireLane, retireLaneIf, settleEmpty, beforeNextT
 use Rattle.model.specs.Outcome.{Outcome, says, unless}
 use Rattle.model.specs.Runs.{Lent, Tick, gives, ends, handed, ticks, trace, afterList}
 use Rattle.model.specs.Sender.{clearSlots, issueSlot, allIssued, registerSender, trySend, trySendUnsignaled, dropSender, senderOutcome}
-use Rattle.model.specs.Receive.{retireEmptyPausedLanes, emptyOrDrained, nothingTaken, answerOne, tryRecv, tryRecvFair, queueLaneIf, takeFrom, tryRecvFrom, andMore, takeUpTo, releaseAll, answerItems, tryRecvBatchInto, writtenTo, receiveOutcome, outputAfter}
+use Rattle.model.specs.Receive.{retireEmptyPausedLanes, emptyOrDrained, nothingTaken, answerOne, tryRecv, tryRecvFair, queueLaneIf, takeFrom, tryRecvFrom, andMore, takeUpTo, releaseAll, answerItems, tryRecvBatchInto, admitted, halted, takeWhile, answerWhile, tryRecvBatchIntoWhile, writtenTo, receiveOutcome, outputAfter}
 use Rattle.model.specs.Control.{pause, resumeIf, resume, closeLane, releaseConsumed, pollAllLanes, closeReceiver, countHeld, controlOutcome}
 use Rattle.model.specs.Opening.{openedState, openingOutcome}
 use Rattle.model.specs.Rules.{outcome, theRules}
@@ -240,6 +241,39 @@ module _ (f : ℕ → ℕ) where
   answer-items (suc m) [] s = nothing-taken s
   answer-items (suc m) (g ∷ l) s = refl
 
+  answer-while : (m : ℕ) (b : Bool) (l : List (LaneKey × ℕ)) (s : State) → answerWhile m b l (renumbered s) ≡ renumberedOutcome (answerWhile m b l s)
+  unfolding answerWhile renumberedAnswer
+  answer-while m true l s = refl
+  answer-while m false l s = answer-items m l s
+
+  take-while : (b m : ℕ) (s : State) → _≡_ {A = Bool × Took} (takeWhile b m (renumbered s)) ((takeWhile b m s) .0, renumberedTook ((takeWhile b m s) .1))
+  unfolding takeWhile halted
+  take-while b m s = ap₂ at-stop all next ∙ go (ltb n (length ((takeUpTo m s) .0)))
+    where
+      n : ℕ
+      n = admitted b ((takeUpTo m s) .0)
+
+      at-stop : Took → State → Bool × Took
+      at-stop t p = let k = admitted b (t .0) in if (ltb k (length (t .0))) (true, (take k (t .0), halted p)) (false, t)
+
+      all : takeUpTo m (renumbered s) ≡ renumberedTook (takeUpTo m s)
+      all = take-up-to m s
+
+      next : polled ((takeUpTo (admitted b ((takeUpTo m (renumbered s)) .0)) (renumbered s)) .1) ≡ renumbered (polled ((takeUpTo n s) .1))
+      next =
+          ap (λ (t : Took). polled ((takeUpTo (admitted b (t .0)) (renumbered s)) .1)) all ∙ ap (λ (t : Took). polled (t .1)) (take-up-to n s)
+          ∙ poll-loop ((takeUpTo n s) .1)
+
+      stop : Bool → Bool × Took
+      stop c = if c (true, (take n ((takeUpTo m s) .0), halted (polled ((takeUpTo n s) .1)))) (false, takeUpTo m s)
+
+      there : Bool → Bool × Took
+      there c = if c (true, (take n ((takeUpTo m s) .0), halted (renumbered (polled ((takeUpTo n s) .1))))) (false, renumberedTook (takeUpTo m s))
+
+      go : (c : Bool) → _≡_ {A = Bool × Took} (there c) ((stop c) .0, renumberedTook ((stop c) .1))
+      go true = refl
+      go false = refl
+
   queue-lane-if : (b : Bool) (x : ℕ) (s : State) → queueLaneIf b x (renumbered s) ≡ renumbered (queueLaneIf b x s)
   unfolding queueLaneIf
   queue-lane-if true x s = refl
@@ -277,13 +311,16 @@ module _ (f : ℕ → ℕ) where
         ap (λ (b : Bool). unless ((not (s .isOpen), ReceiverClosed) ∷ (not b, NoSuchLane) ∷ []) (renumbered s) u) (has-lane-id s i) ∙ passing _ s r e
 
     receive-call : (s : State) (r : ReceiveCall) → receiveOutcome (renumbered s) (renumberedReceive f r) ≡ renumberedOutcome (receiveOutcome s r)
-    unfolding receiveOutcome tryRecv tryRecvFair tryRecvFrom tryRecvBatchInto releaseAll renumberedReceive
+    unfolding receiveOutcome tryRecv tryRecvFair tryRecvFrom tryRecvBatchInto tryRecvBatchIntoWhile releaseAll renumberedReceive
     receive-call s TryRecv = passing _ s _ (answer-took (takeOne s) (take-one s))
     receive-call s TryRecvFair = passing _ s _ (answer-took (takeFair s) (take-fair s))
     receive-call s (TryRecvFrom i) = passing-id s i _ (take-from (s .slotOf (i .key .slot) .ring) (i .key .slot) s)
     receive-call s (TryRecvBatchInto limit room) =
         let t = takeUpTo limit s in
         passing _ s _ (ap (λ (u : Took). answerItems limit (u .0) (releaseAll (u .1))) (take-up-to limit s) ∙ answer-items limit (t .0) (releaseAll (t .1)))
+    receive-call s (TryRecvBatchIntoWhile limit bound room) =
+        let t = takeWhile bound limit s in
+        passing _ s _ (ap (λ (u : Bool × Took). answerWhile limit (u .0) (u .1 .0) (releaseAll (u .1 .1))) (take-while bound limit s) ∙ answer-while limit (t .0) (t .1 .0) (releaseAll (t .1 .1)))
 
     control-call : (s : State) (c : ControlCall) → controlOutcome (renumbered s) (renumberedControl f c) ≡ renumberedOutcome (controlOutcome s c)
     unfolding controlOutcome pause resume closeLane retireLane releaseConsumed releaseAll pollAllLanes mayQueue closeReceiver countHeld renumberedControl renumberedAnswer
@@ -336,6 +373,7 @@ module _ (f : ℕ → ℕ) where
     written s TryRecvFair out = refl
     written s (TryRecvFrom i) out = refl
     written s (TryRecvBatchInto limit room) out = ap (λ (o : Outcome). writtenTo (o .0) out) (receive-call s (TryRecvBatchInto limit room))
+    written s (TryRecvBatchIntoWhile limit bound room) out = ap (λ (o : Outcome). writtenTo (o .0) out) (receive-call s (TryRecvBatchIntoWhile limit bound room))
 
   opening : (o : Opening) (lent : Lent) → openingOutcome (renumberedOpening f o) lent ≡ renumberedOutcome (openingOutcome o lent)
   unfolding openingOutcome openedState renumberedAnswer

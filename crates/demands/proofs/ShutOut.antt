@@ -10,12 +10,12 @@ use Rattle.model.specs.declared.LaneKey.{LaneKey}
 use Rattle.model.specs.declared.Opening.{Opening}
 use Rattle.model.specs.declared.SenderCall.the-variants.{RegisterSender, TrySend, DropSender}
 use Rattle.model.specs.declared.ReceiveCall.{ReceiveCall}
-use Rattle.model.specs.declared.ReceiveCall.the-variants.{TryRecv, TryRecvFair, TryRecvFrom, TryRecvBatchInto}
+use Rattle.model.specs.declared.ReceiveCall.the-variants.{TryRecv, TryRecvFair, TryRecvFrom, TryRecvBatchInto, TryRecvBatchIntoWhile}
 use Rattle.model.specs.declared.ControlCall.the-variants.{CountHeld}
 use Rattle.model.specs.declared.Call.{Call}
 use Rattle.model.specs.declared.Call.the-variants.{Sender, Receive, Control}
 use Rattle.model.specs.declared.Answer.{Answer}
-use Rattle.model.specs.declared.Answer.the-variants.{Done, Registered, Taken, Item, Items, Empty, Disconnected, Held, Refused}
+use Rattle.model.specs.declared.Answer.the-variants.{Done, Registered, Taken, Item, Items, Stopped, Empty, Disconnected, Held, Refused}
 use Rattle.model.specs.Lists.{Each}
 use Rattle.model.specs.State.{State, ringOf}
 use Rattle.model.specs.Runs.{Lent, allRuns, accepted, Tick, ends, handed, ticks, trace, afterList, sameKey, countTicks, ofLane}
@@ -49,6 +49,7 @@ frame-writes-the-rules s TryRecv out = refl
 frame-writes-the-rules s TryRecvFair out = refl
 frame-writes-the-rules s (TryRecvFrom i) out = refl
 frame-writes-the-rules s (TryRecvBatchInto limit room) out = refl
+frame-writes-the-rules s (TryRecvBatchIntoWhile limit bound room) out = refl
 
 -- two slots of capacity 4
 opening : Opening
@@ -165,6 +166,7 @@ heldIn (Registered k) = 0
 heldIn (Taken w f) = 0
 heldIn (Item v i) = 0
 heldIn (Items n) = 0
+heldIn (Stopped n) = 0
 heldIn Empty = 0
 heldIn Disconnected = 0
 heldIn (Held n) = n

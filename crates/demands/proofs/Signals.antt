@@ -12,7 +12,7 @@ use Rattle.model.specs.declared.LaneKey.{LaneKey}
 use Rattle.model.specs.declared.Opening.{Opening}
 use Rattle.model.specs.declared.SenderCall.{SenderCall}
 use Rattle.model.specs.declared.ReceiveCall.{ReceiveCall}
-use Rattle.model.specs.declared.ReceiveCall.the-variants.{TryRecv, TryRecvFair, TryRecvFrom, TryRecvBatchInto}
+use Rattle.model.specs.declared.ReceiveCall.the-variants.{TryRecv, TryRecvFair, TryRecvFrom, TryRecvBatchInto, TryRecvBatchIntoWhile}
 use Rattle.model.specs.declared.ControlCall.{ControlCall}
 use Rattle.model.specs.declared.Call.{Call}
 use Rattle.model.specs.declared.Call.the-variants.{Sender, Receive, Control}
@@ -25,7 +25,7 @@ use Rattle.model.specs.Ready.{groupOf, groupsIn, marks, collectMarks, collectGr
 use Rattle.model.specs.Turn.{retireLane, retireLaneIf, settleEmpty, beforeNextTurn, runDownFrom, runDown, unreleasedAfterOne, giveItem, Took, collectIfDue, collectIfNoneQueued, polled, takeOne, takeFair}
 use Rattle.model.specs.Outcome.{says}
 use Rattle.model.specs.Runs.{Lent, ends, afterList}
-use Rattle.model.specs.Receive.{retireEmptyPausedLanes, emptyOrDrained, nothingTaken, answerOne, queueLaneIf, takeFrom, andMore, takeUpTo, releaseAll, answerItems, tryRecv, tryRecvFair, tryRecvFrom, tryRecvBatchInto, receiveOutcome}
+use Rattle.model.specs.Receive.{retireEmptyPausedLanes, emptyOrDrained, nothingTaken, answerOne, queueLaneIf, takeFrom, andMore, takeUpTo, releaseAll, answerItems, tryRecv, tryRecvFair, tryRecvFrom, tryRecvBatchInto, receiveOutcome, takeWhile, answerWhile, tryRecvBatchIntoWhile, halted}
 use Rattle.model.specs.Opening.{openedState, openingOutcome}
 use Rattle.model.specs.Rules.{outcome, theRules}
 use Rattle.model.specs.Order.{Ordered}
@@ -34,6 +34,7 @@ use Rattle.demands.proofs.OrderKept.{marks-in, collect-group-issued, co
 use Rattle.demands.proofs.Quiet.{poll}
 use Rattle.demands.proofs.WaitInReceive.{group-low}
 use Rattle.demands.proofs.Moves.{Moves, stays-put, credits, registers-new, registers-old, sends, posts, drops-it, pauses-it, resumes, resumes-not, closes-it, polls-all, shuts-it, unless-law, sender-move, control-move, TakeResult, took-none, took-one, take-one-taken, take-fair-taken}
+use Rattle.demands.proofs.StopLaws.{while-law}
 use Rattle.demands.proofs.Demand2.{opens-as}
 
 pub record Signal (l : Slot) : Type 0 where
@@ -208,13 +209,21 @@ take-from-signals (v ∷ vs) x s y h = go (mayQueue s x) (put-signals s x m (as-
     go true h = put-signals (put x m s) x (signalled ((put x m s) .slotOf x)) (λ g. is-pending (signalled ((put x m s) .slotOf x)) refl) y h
     go false h = h
 
+while-signals : (b m : ℕ) (s : State) → let t = takeWhile b m s in SignalsKept s ((answerWhile m (t .0) (t .1 .0) (releaseAll (t .1 .1))) .1 .1)
+unfolding answerWhile halted poll
+while-signals b m s y h =
+    while-law (λ t es. Signal ((answerWhile m (t .0) (t .1 .0) (releaseAll (t .1 .1))) .1 .1 .slotOf y)) b m s
+    (λ all. answer-items-signals m _ _ y (release-all-signals _ y (take-up-to-signals m s y h)))
+    (λ k w. release-all-signals (halted (polled ((takeUpTo k s) .1))) y (poll-signals false ((takeUpTo k s) .1) y (take-up-to-signals k s y h)))
+
 receive-signals : (s : State) (r : ReceiveCall) → SignalsKept s ((receiveOutcome s r) .1 .1)
-unfolding receiveOutcome tryRecv tryRecvFair tryRecvFrom tryRecvBatchInto
+unfolding receiveOutcome tryRecv tryRecvFair tryRecvFrom tryRecvBatchInto tryRecvBatchIntoWhile
 receive-signals s TryRecv = unless-law (λ o. SignalsKept s (o .1 .1)) _ s _ (λ n y h. h) (λ p y h. answer-one-signals _ _ y (took-signals false s (takeOne s) (take-one-taken s) y h))
 receive-signals s TryRecvFair = unless-law (λ o. SignalsKept s (o .1 .1)) _ s _ (λ n y h. h) (λ p y h. answer-one-signals _ _ y (took-signals true s (takeFair s) (take-fair-taken s) y h))
 receive-signals s (TryRecvFrom i) = unless-law (λ o. SignalsKept s (o .1 .1)) _ s _ (λ n y h. h) (λ p y h. take-from-signals _ (i .key .slot) s y h)
 receive-signals s (TryRecvBatchInto m n) =
     unless-law (λ o. SignalsKept s (o .1 .1)) _ s _ (λ n y h. h) (λ p y h. answer-items-signals m _ _ y (release-all-signals _ y (take-up-to-signals m s y h)))
+receive-signals s (TryRecvBatchIntoWhile m b n) = unless-law (λ o. SignalsKept s (o .1 .1)) _ s _ (λ n y h. h) (λ p y h. while-signals b m s y h)
 
 sender-signals : {s u : State} {c : SenderCall} {a : Answer} → Moves s (ends (Sender c) a) u → SignalsKept s u
 sender-signals (stays-put s c a h) = λ y g. g

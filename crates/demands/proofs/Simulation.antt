@@ -9,7 +9,7 @@ use Rattle.model.specs.declared.LaneKey.{LaneKey}
 use Rattle.model.specs.declared.Opening.{Opening}
 use Rattle.model.specs.declared.SenderCall.the-variants.{RegisterSender, TrySend, DropSender}
 use Rattle.model.specs.declared.ReceiveCall.{ReceiveCall}
-use Rattle.model.specs.declared.ReceiveCall.the-variants.{TryRecv, TryRecvFair, TryRecvFrom, TryRecvBatchInto}
+use Rattle.model.specs.declared.ReceiveCall.the-variants.{TryRecv, TryRecvFair, TryRecvFrom, TryRecvBatchInto, TryRecvBatchIntoWhile}
 use Rattle.model.specs.declared.Call.{Call}
 use Rattle.model.specs.declared.Call.the-variants.{Sender, Receive, Control}
 use Rattle.model.specs.declared.Answer.{Answer}
@@ -26,6 +26,7 @@ use Rattle.model.specs.EqualTurns.{EqualTurnsIn, EqualTurns}
 use Rattle.model.specs.FreePlaces.{sendTo, FreePlacesIn, FreePlaces}
 use Rattle.model.specs.Closed.{NoneAfterCloseIn, NoneAfterClose}
 use Rattle.model.specs.Held.{HeldAsCountedIn, HeldAsCounted}
+use Rattle.model.specs.Stops.{StopsOnlyAtItemsIn, StopsOnlyAtItems, HandsOnlyAdmittedIn, HandsOnlyAdmitted}
 use Rattle.model.specs.Wake.{NoLostWakeIn, NoLostWake, NothingWaitsIn, NothingWaits}
 use Rattle.model.specs.Keys.{KeysNeverAgainIn, KeysNeverAgain, IssuedAsAnsweredIn, IssuedAsAnswered}
 use Rattle.model.specs.FreePlaces.{NotFullBeforeIn, NotFullBefore}
@@ -40,6 +41,7 @@ use Rattle.demands.proofs.Closed.{none-after-close}
 use Rattle.demands.proofs.InOrder.{call-keeps-order, opening-in-order}
 use Rattle.demands.proofs.Held.{held-as-counted}
 use Rattle.demands.proofs.HandsAsAnswered.{hands-as-answered}
+use Rattle.demands.proofs.Stops.{stops-only-at-items, hands-only-admitted}
 use Rattle.demands.proofs.Wake.{no-lost-wake, nothing-waits}
 use Rattle.demands.proofs.Keys.{keys-never-again, issued-as-answered}
 use Rattle.demands.proofs.NotFull.{not-full-before}
@@ -232,12 +234,23 @@ room-kept f TryRecv out room = room
 room-kept f TryRecvFair out room = room
 room-kept f (TryRecvFrom i) out room = room
 room-kept f (TryRecvBatchInto limit n) out room = room
+room-kept f (TryRecvBatchIntoWhile limit bound n) out room = room
 
 module _ (W : Viewed) (sim : Simulation W) where
   transfer-wake : NoLostWake theRules → NoLostWakeIn (W .rules) (W .runs)
   unfolding NoLostWake NoLostWakeIn
   transfer-wake h o lent d calls f before asleep rest c a t e =
       h o (W .rules .lengths lent) (accepted-too W sim o lent d) calls tt before asleep rest c a t (sym (opened-trace W sim o lent d calls f) ∙ e)
+
+  transfer-stops : StopsOnlyAtItems theRules → StopsOnlyAtItemsIn (W .rules) (W .runs)
+  unfolding StopsOnlyAtItems StopsOnlyAtItemsIn
+  transfer-stops h o lent d calls f before rest limit bound room n e =
+      h o (W .rules .lengths lent) (accepted-too W sim o lent d) calls tt before rest limit bound room n (sym (opened-trace W sim o lent d calls f) ∙ e)
+
+  transfer-admitted : HandsOnlyAdmitted theRules → HandsOnlyAdmittedIn (W .rules) (W .runs)
+  unfolding HandsOnlyAdmitted HandsOnlyAdmittedIn
+  transfer-admitted h o lent d calls f before rest limit bound room k v e =
+      h o (W .rules .lengths lent) (accepted-too W sim o lent d) calls tt before rest limit bound room k v (sym (opened-trace W sim o lent d calls f) ∙ e)
 
   transfer-waits : NothingWaits theRules → NothingWaitsIn (W .rules) (W .runs)
   unfolding NothingWaits NothingWaitsIn
@@ -288,6 +301,12 @@ module _ (W : Viewed) (sim : Simulation W) where
 
 pub words-no-lost-wake : (W : Viewed) → Simulation W → NoLostWakeIn (W .rules) (W .runs)
 words-no-lost-wake W sim = transfer-wake W sim no-lost-wake
+
+pub words-stops-only-at-items : (W : Viewed) → Simulation W → StopsOnlyAtItemsIn (W .rules) (W .runs)
+words-stops-only-at-items W sim = transfer-stops W sim stops-only-at-items
+
+pub words-hands-only-admitted : (W : Viewed) → Simulation W → HandsOnlyAdmittedIn (W .rules) (W .runs)
+words-hands-only-admitted W sim = transfer-admitted W sim hands-only-admitted
 
 pub words-nothing-waits : (W : Viewed) → Simulation W → NothingWaitsIn (W .rules) (W .runs)
 words-nothing-waits W sim = transfer-waits W sim nothing-waits

@@ -11,7 +11,7 @@ use Rattle.model.specs.declared.ControlCall.the-variants.{Pause, Resume, CloseL
 use Rattle.model.specs.declared.Call.{Call}
 use Rattle.model.specs.declared.Call.the-variants.{Sender, Receive, Control}
 use Rattle.model.specs.declared.Answer.{Answer}
-use Rattle.model.specs.declared.Answer.the-variants.{Done, Registered, Taken, Item, Items, Empty, Disconnected, Held, Refused}
+use Rattle.model.specs.declared.Answer.the-variants.{Done, Registered, Taken, Item, Items, Stopped, Empty, Disconnected, Held, Refused}
 use Rattle.model.specs.Lists.{if, both, either, nonEmpty}
 use Rattle.model.specs.Ready.{groupsIn}
 use Rattle.model.specs.Runs.{sameKey, accepted, Tick, gives, ends}
@@ -68,6 +68,7 @@ add-registered-up Done L = omega arith
 add-registered-up (Taken w f) L = omega arith
 add-registered-up (Item v i) L = omega arith
 add-registered-up (Items vs) L = omega arith
+add-registered-up (Stopped n) L = omega arith
 add-registered-up Empty L = omega arith
 add-registered-up Disconnected L = omega arith
 add-registered-up (Held n) L = omega arith

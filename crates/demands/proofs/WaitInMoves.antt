@@ -17,14 +17,14 @@ use Rattle.model.specs.Changes.{withQueue, put, signalled, pushed, senderDroppe
 use Rattle.model.specs.Ready.{groupOf}
 use Rattle.model.specs.Turn.{retireLane, settleEmpty, unreleasedAfterOne, giveItem}
 use Rattle.model.specs.Runs.{sameKey, accepted, Tick, gives}
-use Rattle.model.specs.Receive.{releaseAll, queueLaneIf}
+use Rattle.model.specs.Receive.{releaseAll, halted, queueLaneIf}
 use Rattle.model.specs.Stretch.{endsWait, endsStretch, untargeted}
 use Rattle.demands.proofs.Counting.{Same, equal, other, same?, self, no, count-append, keep-in, without-own, without-other, from-in}
 use Rattle.demands.proofs.OrderKept.{first-own, last-other, back-room, settle-empty-queue}
 use Rattle.demands.proofs.Quiet.{Hold, hold-quiet, release-all-quiet, poll, settle-empty-quiet}
 use Rattle.demands.proofs.Ahead.{live, share, ahead, live-ring, live-living, share-live, share-most, ahead-append, ahead-without, ahead-le, Few, before, before-append, before-without, away}
-use Rattle.demands.proofs.WaitInReceive.{Wait, in-queue, in-marks, On, Polled, polled-to, poll-on, give-item-on, queued-most, settle-empty-other, settle-empty-budget, settle-empty-cursor}
-use Rattle.demands.proofs.Moves.{How, by-plain, by-batch, by-fair, Moves, stays-put, credits, registers-new, registers-old, sends, posts, drops-it, pauses-it, resumes, resumes-not, closes-it, polls-all, shuts-it, takes, stops, aims, aims-none}
+use Rattle.demands.proofs.WaitInReceive.{Wait, in-queue, in-marks, On, Polled, polled-to, poll-on, halted-on, give-item-on, queued-most, settle-empty-other, settle-empty-budget, settle-empty-cursor}
+use Rattle.demands.proofs.Moves.{How, by-plain, by-batch, by-while, by-fair, Moves, stays-put, credits, registers-new, registers-old, sends, posts, drops-it, pauses-it, resumes, resumes-not, closes-it, polls-all, shuts-it, takes, stops, halts, aims, aims-none}
 use Rattle.demands.proofs.MovesKeepOrder.{has-lane-parts, unissued, move-ordered, unqueued-of}
 use Rattle.demands.proofs.LedgerLaws.{alike, unlike, keys?}
 use Rattle.demands.proofs.Demand2.{sender-parts, queue-lane-slot, give-item-slot}
@@ -107,6 +107,7 @@ one-item : {b : Bool} {r : ReceiveCall} (j : LaneKey) (v : ℕ) → How b r → 
 unfolding untargeted
 one-item j v by-plain = refl
 one-item j v (by-batch m n) = refl
+one-item j v (by-while m b n) = refl
 one-item j v by-fair = refl
 
 -- what is to be shown of a move
@@ -179,14 +180,19 @@ module _ (E R : ℕ) (K : LaneKey) where
       at z (equal p e i) = rw (e, p)
       at z (other n e i) = rw e (settle-empty-other y q s z n)
 
-  pub move-on : {s u : State} {t : Tick} (k : ℕ) → On E R (K .slot) (K .generation) k s → Few R (u .slotOf) → Moves s t u → endsStretch K t ≡ false → Onward E R K (if (untargeted t) 1 0) k u
-  unfolding endsStretch accepted endsWait untargeted releaseAll
-  move-on k w n (stays-put s c a h) f = record { rest = k; pays = omega arith; hold = w .hold; wait = w .wait }
-  move-on k w n (credits s c a h) f = record { rest = k; pays = omega arith; hold = hold-quiet (release-all-quiet s) (w .hold); wait = go (w .wait) }
+  -- every lane gives back its credit
+  credited-on : (k : ℕ) (s : State) → On E R (K .slot) (K .generation) k s → Onward E R K 0 k (releaseAll s)
+  unfolding releaseAll
+  credited-on k s w = record { rest = k; pays = omega arith; hold = hold-quiet (release-all-quiet s) (w .hold); wait = go (w .wait) }
     where
       go : Wait E R (K .slot) k s → Wait E R (K .slot) k (releaseAll s)
       go (in-queue i a) = in-queue i (omega (arith, ahead-le (s .slotOf) ((releaseAll s) .slotOf) (s .queue) (K .slot) (λ y d c. omega arith)))
       go (in-marks z m a) = in-marks z m a
+
+  pub move-on : {s u : State} {t : Tick} (k : ℕ) → On E R (K .slot) (K .generation) k s → Few R (u .slotOf) → Moves s t u → endsStretch K t ≡ false → Onward E R K (if (untargeted t) 1 0) k u
+  unfolding endsStretch accepted endsWait untargeted releaseAll
+  move-on k w n (stays-put s c a h) f = record { rest = k; pays = omega arith; hold = w .hold; wait = w .wait }
+  move-on k w n (credits s c a h) f = credited-on k s w
   move-on k w n (registers-new s m lt) f =
       let o = w .ord in
       off s _ k (s .issued) _ (λ p. omega (arith, o .each-slot (K .slot) .registered-issued (w .hold .is-registered), p)) (λ z. refl) refl refl
@@ -256,6 +262,7 @@ module _ (E R : ℕ) (K : LaneKey) where
     where
       go : Polled E R (K .slot) (K .generation) k (poll b s) → ⊥
       go (polled-to o pd ne) = ne e
+  move-on k w n (halts s m b l j y q e h) f = credited-on k (halted (poll false s)) (halted-on E R (K .slot) (K .generation) s w)
   move-on k w n (aims s i v vs c e) f =
       let y = i .key .slot in
       let d = not-own s K (keyOf s y) (w .hold) refl f in

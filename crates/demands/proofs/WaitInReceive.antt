@@ -14,6 +14,7 @@ use Rattle.model.specs.State.{Slot, State}
 use Rattle.model.specs.Changes.{withQueue, withBudget, put, settledEmpty, popped, unmarked}
 use Rattle.model.specs.Ready.{groupOf, groupsIn, marks, isReady, collectMarks, collectGroup, startGroup, groupsRound, collectFirst, collectEach, collectReadyGroup, collectReady}
 use Rattle.model.specs.Turn.{retireLane, retireLaneIf, settleEmpty, refill, beforeNextTurn, runDownFrom, unreleasedAfterOne, giveItem, collectIfDue, runDown, collectIfNoneQueued, polled}
+use Rattle.model.specs.Receive.{halted}
 use Rattle.model.specs.Order.{Ordered}
 use Rattle.demands.proofs.Counting.{Same, equal, other, same?, self, no, count-append, keep-in, keep-out, from-in}
 use Rattle.demands.proofs.OrderKept.{is-ready-intro, marks-in, first-own, first-other, last-other, collect-group-ordered, Exist, exist-rest, exist-collect-group, groups-round-exist, start-group-le, collect-ready-ordered, collect-if-due-ordered, budget-ordered, before-next-turn-ordered, settle-empty-ordered, front-registered, front-rest, front-alone, settle-empty-queue, before-next-turn-queue, refill-pos}
@@ -598,3 +599,26 @@ module _ (E R x g : ℕ) where
           near true q = omega (arith, low, w, o .budget-most, away-up E (s .cursor) (groupOf x) (leb-true (s .cursor) (groupOf x) q))
           near false q = omega (arith, low, w, o .budget-most, away-round E (s .cursor) (groupOf x) (leb-false (s .cursor) (groupOf x) q), leb-false (s .cursor) (groupOf x) q, o .cursor-most)
       go (suc n) e = in-queue (omega arith) (omega (arith, low, w, queued-most s o h f (omega arith)))
+
+  -- a batch stopped in front of an item: polled, and a budget of 0 set to 64
+  pub halted-on : (s : State) {k : ℕ} → On E R x g k s → On E R x g k (halted (poll false s))
+  unfolding refill halted
+  halted-on s {k} w = go (poll-on false s w)
+    where
+      most : (b : ℕ) → b ≤ 64 → refill b ≤ 64
+      most zero h = omega arith
+      most (suc b) h = h
+
+      raise : (u : State) → (u .queue ≡ [] → ⊥) → Paid x u → Wait E R x k u → Wait E R x k (withBudget (refill (u .budget)) u)
+      raise u ne p (in-queue d a) = in-queue d a
+      raise u ne (x-queued c) (in-marks z m a) = absurd (omega arith)
+      raise u ne (no-queue e) (in-marks z m a) = absurd (ne e)
+      raise u ne (budget-left b) (in-marks z m a) = in-marks z m (same (u .budget) b a)
+        where
+          same : (n : ℕ) → 1 ≤ n → n + 64 * away E (u .cursor) (groupOf x) + 64 * R ≤ k + 64 → refill n + 64 * away E (u .cursor) (groupOf x) + 64 * R ≤ k + 64
+          same zero h i = absurd (omega arith)
+          same (suc n) h i = i
+
+      go : Polled k (poll false s) → On E R x g k (halted (poll false s))
+      go (polled-to o p ne) =
+          onward (poll false s) _ (budget-quiet _ (poll false s)) (budget-ordered _ (poll false s) (most ((poll false s) .budget) (o .ord .budget-most)) (o .ord)) o (raise (poll false s) ne p (o .wait))

@@ -14,20 +14,20 @@ use Rattle.model.specs.declared.LaneKey.{LaneKey}
 use Rattle.model.specs.declared.LaneId.{LaneId}
 use Rattle.model.specs.declared.SenderCall.the-variants.{RegisterSender, TrySend, TrySendUnsignaled, DropSender}
 use Rattle.model.specs.declared.ReceiveCall.{ReceiveCall}
-use Rattle.model.specs.declared.ReceiveCall.the-variants.{TryRecv, TryRecvFair, TryRecvFrom, TryRecvBatchInto}
+use Rattle.model.specs.declared.ReceiveCall.the-variants.{TryRecv, TryRecvFair, TryRecvFrom, TryRecvBatchInto, TryRecvBatchIntoWhile}
 use Rattle.model.specs.declared.Call.{Call}
 use Rattle.model.specs.declared.Call.the-variants.{Sender, Receive, Control}
 use Rattle.model.specs.declared.Refusal.{Refusal}
 use Rattle.model.specs.declared.Answer.{Answer}
-use Rattle.model.specs.declared.Answer.the-variants.{Done, Registered, Taken, Item, Items, Empty, Disconnected, Held, Refused}
+use Rattle.model.specs.declared.Answer.the-variants.{Done, Registered, Taken, Item, Items, Stopped, Empty, Disconnected, Held, Refused}
 use Rattle.model.specs.Lists.{if, count, from}
 use Rattle.model.specs.State.{Slot, State, livingSenders, keyOf}
 use Rattle.model.specs.Changes.{put, newLane, signalled, pushed, senderDropped, retired}
 use Rattle.model.specs.Turn.{Took, retireLane, retireLaneIf, takeOne, takeFair}
-use Rattle.model.specs.Outcome.{says}
+use Rattle.model.specs.Outcome.{Outcome, says}
 use Rattle.model.specs.Runs.{accepted, Tick, gives, ends, handed, ticks, trace, afterList, countTicks}
 use Rattle.model.specs.Sender.{senderOutcome, trySend}
-use Rattle.model.specs.Receive.{retireEmptyPausedLanes, emptyOrDrained, nothingTaken, answerOne, takeUpTo, releaseAll, answerItems, tryRecv, tryRecvFair, tryRecvBatchInto, receiveOutcome}
+use Rattle.model.specs.Receive.{retireEmptyPausedLanes, emptyOrDrained, nothingTaken, answerOne, takeUpTo, releaseAll, answerItems, takeWhile, tryRecv, tryRecvFair, tryRecvBatchInto, answerWhile, tryRecvBatchIntoWhile, receiveOutcome}
 use Rattle.model.specs.Opening.{openingOutcome}
 use Rattle.model.specs.Rules.{outcome, theRules}
 use Rattle.model.specs.Order.{Ordered, InOrder}
@@ -37,7 +37,8 @@ use Rattle.model.specs.Stretch.{looks, findsNothing, looksInVain}
 use Rattle.model.specs.Wake.{itemsBelow, belowLimit, maySleep, whileAsleep, endsSleep, sendsTo, saysWoken, wakes, pausedIn, NoLostWakeIn, NoLostWake, NothingWaitsIn, NothingWaits}
 use Rattle.demands.proofs.Counting.{Same, equal, other, same?, no, both-true, not-false}
 use Rattle.demands.proofs.OrderKept.{take-one-ordered, take-fair-ordered, take-up-to-ordered}
-use Rattle.demands.proofs.Moves.{unless-law, Moves, stays-put, credits, registers-new, registers-old, sends, posts, drops-it, pauses-it, resumes, resumes-not, closes-it, polls-all, shuts-it, takes, stops, aims, aims-none, Chain, stay, move, call-chain, trace-chain}
+use Rattle.demands.proofs.Moves.{unless-law, Moves, stays-put, credits, registers-new, registers-old, sends, posts, drops-it, pauses-it, resumes, resumes-not, closes-it, polls-all, shuts-it, takes, stops, halts, aims, aims-none, Chain, stay, move, call-chain, trace-chain}
+use Rattle.demands.proofs.StopLaws.{while-law}
 use Rattle.demands.proofs.Points.{ends-at, after-append}
 use Rattle.demands.proofs.MovesKeepOrder.{move-ordered}
 use Rattle.demands.proofs.LedgerLaws.{alike, unlike, keys?, look}
@@ -105,8 +106,14 @@ answer-items-idle (suc n) room [] s o (inr h) m = nothing-taken-idle (releaseAll
 answer-items-idle (suc n) room (g ∷ l) s o (inl e) m = absurd (omega (arith, ltb-true (length (g ∷ l)) (suc n) m))
 answer-items-idle (suc n) room (g ∷ l) s o (inr h) m = release-idle s (nothing-left-idle s o h)
 
+-- a batch with a bound says by its answer what one without says
+while-sleeps : (limit bound room : ℕ) (a : Answer) → maySleep (Receive (TryRecvBatchIntoWhile limit bound room)) a ≡ maySleep (Receive (TryRecvBatchInto limit room)) a
+unfolding maySleep looksInVain looks belowLimit
+while-sleeps zero bound room a = refl
+while-sleeps (suc n) bound room a = refl
+
 may-sleep-idle : (s : State) (c : Call) → InOrder s → maySleep c ((outcome s c) .1 .0) ≡ true → Idle ((outcome s c) .1 .1)
-unfolding outcome receiveOutcome tryRecv tryRecvFair tryRecvBatchInto maySleep looksInVain looks findsNothing belowLimit itemsBelow TakesUnlessNothingLeft PlainUnlessNothingLeft FairUnlessNothingLeft BatchUnlessNothingLeft
+unfolding outcome receiveOutcome tryRecv tryRecvFair tryRecvBatchInto tryRecvBatchIntoWhile answerWhile maySleep looksInVain looks findsNothing belowLimit itemsBelow TakesUnlessNothingLeft PlainUnlessNothingLeft FairUnlessNothingLeft BatchUnlessNothingLeft
 may-sleep-idle s (Sender c) i = λ m. absurd (no m refl)
 may-sleep-idle s (Control c) i = λ m. absurd (no m refl)
 may-sleep-idle s (Receive (TryRecvFrom j)) i = λ m. absurd (no m refl)
@@ -123,6 +130,22 @@ may-sleep-idle s (Receive (TryRecvBatchInto limit room)) i =
     refused : (limit : ℕ) (n : Refusal) → maySleep (Receive (TryRecvBatchInto limit room)) (Refused n) ≡ false
     refused zero n = refl
     refused (suc m) n = refl
+may-sleep-idle s (Receive (TryRecvBatchIntoWhile limit bound room)) i =
+    unless-law Sleeps _ s _ (λ n m. absurd (no m (refused limit n)))
+    (λ p. while-law (λ t es. Sleeps (answerWhile limit (t .0) (t .1 .0) (releaseAll (t .1 .1)))) bound limit s
+    (λ all m. answer-items-idle limit room ((takeUpTo limit s) .0) ((takeUpTo limit s) .1) (take-up-to-ordered limit s (i .ordered)) (batch-unless-nothing-left limit s i) (sym (while-sleeps limit bound room ((answerItems limit ((takeUpTo limit s) .0) (releaseAll ((takeUpTo limit s) .1))) .1 .0)) ∙ m))
+    (λ k w m. absurd (no m (stops limit (length ((takeUpTo k s) .0))))))
+  where
+    Sleeps : Outcome → Type 0
+    Sleeps o = maySleep (Receive (TryRecvBatchIntoWhile limit bound room)) (o .1 .0) ≡ true → Idle (o .1 .1)
+
+    refused : (limit : ℕ) (n : Refusal) → maySleep (Receive (TryRecvBatchIntoWhile limit bound room)) (Refused n) ≡ false
+    refused zero n = refl
+    refused (suc m) n = refl
+
+    stops : (limit n : ℕ) → maySleep (Receive (TryRecvBatchIntoWhile limit bound room)) (Stopped n) ≡ false
+    stops zero n = refl
+    stops (suc m) n = refl
 
 -- ---- while it sleeps
 
@@ -137,7 +160,7 @@ put-asleep k s x l f h = record { idle = go (same? x (k .slot)) }
     go (equal p e i) r g v = rw e (f p (rw e at r) (rw e at g) (rw e at v))
     go (other d e i) r g v = rw e (h .idle (rw e at r) (rw e at g) (rw e at v))
 
-some-path : {a b : Lane} → some a ≡ some b → a ≡ b
+pub some-path : {a b : Lane} → some a ≡ some b → a ≡ b
 some-path e = cc
 
 module _ (k : LaneKey) where
@@ -164,6 +187,7 @@ module _ (k : LaneKey) where
   move-asleep (shuts-it s) e f h = absurd (no refl e)
   move-asleep (takes g r s y v q vs w n i) e f h = absurd (no refl e)
   move-asleep (stops g r s u a w n q l m) e f h = absurd (no refl e)
+  move-asleep (halts s m b n j y q g r) e f h = absurd (no refl e)
   move-asleep (aims s i v vs c g) e f h = absurd (no refl e)
   move-asleep (aims-none s i a c g n) e f h = absurd (no refl e)
 
@@ -238,6 +262,7 @@ unfolding note accepted addRegistered applyCall maySleep looksInVain looks finds
 sleep-noted L (Receive r) Empty m = refl
 sleep-noted L (Receive r) Disconnected m = refl
 sleep-noted L (Receive r) (Items n) m = refl
+sleep-noted L (Receive r) (Stopped n) m = refl
 sleep-noted L (Receive r) Done m = refl
 sleep-noted L (Receive r) (Registered k) m = absurd (no m (never r))
   where
@@ -247,6 +272,8 @@ sleep-noted L (Receive r) (Registered k) m = absurd (no m (never r))
     never (TryRecvFrom i) = refl
     never (TryRecvBatchInto zero room) = refl
     never (TryRecvBatchInto (suc n) room) = refl
+    never (TryRecvBatchIntoWhile zero bound room) = refl
+    never (TryRecvBatchIntoWhile (suc n) bound room) = refl
 sleep-noted L (Receive r) (Taken w f) m = refl
 sleep-noted L (Receive r) (Item v i) m = refl
 sleep-noted L (Receive r) (Held n) m = refl
@@ -254,7 +281,7 @@ sleep-noted L (Receive r) (Refused n) m = refl
 sleep-noted L (Sender c) a m = absurd (no m refl)
 sleep-noted L (Control c) a m = absurd (no m refl)
 
-chain-agrees : (L : Ledger) {s u : State} {ts : List Tick} → Chain s ts u → Ordered s → Agrees L s → Agrees (ledgerAfter L ts) u
+pub chain-agrees : (L : Ledger) {s u : State} {ts : List Tick} → Chain s ts u → Ordered s → Agrees L s → Agrees (ledgerAfter L ts) u
 unfolding ledgerAfter
 chain-agrees L (stay s) o a = a
 chain-agrees L (move {t = t} m c) o a = chain-agrees (note L t) c (move-ordered o m) (move-agrees L o a m)

@@ -11,7 +11,7 @@ use lib.Dec.{leb}
 use Rattle.model.specs.declared.LaneKey.{LaneKey}
 use Rattle.model.specs.declared.SenderCall.{SenderCall}
 use Rattle.model.specs.declared.ReceiveCall.{ReceiveCall}
-use Rattle.model.specs.declared.ReceiveCall.the-variants.{TryRecv, TryRecvFair, TryRecvFrom, TryRecvBatchInto}
+use Rattle.model.specs.declared.ReceiveCall.the-variants.{TryRecv, TryRecvFair, TryRecvFrom, TryRecvBatchInto, TryRecvBatchIntoWhile}
 use Rattle.model.specs.declared.ControlCall.{ControlCall}
 use Rattle.model.specs.declared.Call.{Call}
 use Rattle.model.specs.declared.Call.the-variants.{Sender, Receive, Control}
@@ -19,21 +19,22 @@ use Rattle.model.specs.declared.Answer.{Answer}
 use Rattle.model.specs.declared.Answer.the-variants.{Empty, Disconnected}
 use Rattle.model.specs.Lists.{if, either, nonEmpty, keep, from, without}
 use Rattle.model.specs.State.{Slot, State, mayQueue, keyOf}
-use Rattle.model.specs.Changes.{withQueue, put, newLane, signalled, pushed, popped, settledEmpty, credited, withPaused, senderDropped, retired}
+use Rattle.model.specs.Changes.{withQueue, put, newLane, signalled, pushed, popped, settledEmpty, credited, withPaused, senderDropped, retired, withBudget}
 use Rattle.model.specs.Turn.{Took, retireLane, retireLaneIf, settleEmpty, beforeNextTurn, runDownFrom, runDown, unreleasedAfterOne, giveItem, giveOldest, giveFront, collectIfDue, collectIfNoneQueued, polled, takeOne, takeFair}
 use Rattle.model.specs.Outcome.{Outcome}
 use Rattle.model.specs.Runs.{accepted, ends, afterList}
-use Rattle.model.specs.Receive.{answerOne, queueLaneIf, takeFrom, andMore, takeUpTo, releaseAll, answerItems, tryRecv, tryRecvFair, tryRecvFrom, tryRecvBatchInto, receiveOutcome}
+use Rattle.model.specs.Receive.{answerOne, queueLaneIf, takeFrom, andMore, takeUpTo, releaseAll, answerItems, tryRecv, tryRecvFair, tryRecvFrom, tryRecvBatchInto, halted, takeWhile, answerWhile, tryRecvBatchIntoWhile, receiveOutcome}
 use Rattle.model.specs.Rules.{outcome, theRules}
 use Rattle.model.specs.Order.{InOrder}
-use Rattle.model.specs.Events.{Event, budgetSet, collected, noneMarked, foundEmpty, itemTaken, wentToBack, anyMarked, collectEvent, refillEvents, beforeNextTurnEvents, runDownFromEvents, runDownEvents, backEvents, giveOldestEvents, giveFrontEvents, collectIfDueEvents, collectIfNoneQueuedEvents, polledEvents, takeOneEvents, takeFairEvents, andMoreEvents, takeUpToEvents, takeFromEvents, receiveEvents, callEvents, eventsFrom, collects, findsNoneMarked, takesItem, countEvents}
+use Rattle.model.specs.Events.{Event, budgetSet, collected, noneMarked, foundEmpty, itemTaken, wentToBack, anyMarked, collectEvent, refillEvents, beforeNextTurnEvents, runDownFromEvents, runDownEvents, backEvents, giveOldestEvents, giveFrontEvents, collectIfDueEvents, collectIfNoneQueuedEvents, polledEvents, takeOneEvents, takeFairEvents, andMoreEvents, takeUpToEvents, haltedEvents, takeWhileEvents, takeFromEvents, receiveEvents, callEvents, eventsFrom, collects, findsNoneMarked, takesItem, countEvents}
 use Rattle.model.specs.Viewed.{Viewed, rulesViewed}
 use Rattle.model.specs.WhileMarked.{untilCollected, AtMost64WhileMarked, AtMost64WhileMarkedInBatch}
 use Rattle.demands.proofs.Counting.{equal, other, same?, no}
 use Rattle.demands.proofs.Moves.{Moves, stays-put, credits, registers-new, registers-old, sends, posts, drops-it, pauses-it, resumes, resumes-not, closes-it, polls-all, shuts-it, unless-law, sender-move, control-move}
 use Rattle.demands.proofs.AnswersKeep.{answer-one-keeps, answer-items-keeps}
 use Rattle.demands.proofs.Events.{Tally, Below}
-use Rattle.demands.proofs.EventsOfRuns.{calls-pass, fromBudget, from-budget-counted, part-most, Answered, answer-one-answered, answer-items-answered}
+use Rattle.demands.proofs.EventsOfRuns.{calls-pass, fromBudget, from-budget-counted, part-most, Answered, answer-one-answered, answer-items-answered, answer-stopped-answered}
+use Rattle.demands.proofs.StopLaws.{while-law}
 use Rattle.demands.proofs.Collections.{reads, neither}
 use Rattle.demands.proofs.WholeChunk.{take-up-to-more}
 use Rattle.model.specs.Simulation.{Simulation}
@@ -89,6 +90,9 @@ before-next-turn-marked : (q : List ℕ) (s : State) → Marked s (beforeNextTur
 unfolding beforeNextTurn
 before-next-turn-marked [] s = unchanged s
 before-next-turn-marked (y ∷ q) s = record { issues = omega arith; bits = λ y h. h }
+
+budget-marked : (n : ℕ) (s : State) → Marked s (withBudget n s)
+budget-marked n s = record { issues = omega arith; bits = λ y h. h }
 
 give-item-marked : (s : State) (y : ℕ) (q vs : List ℕ) (back : Bool) → Marked s (giveItem s y q vs back)
 unfolding giveItem
@@ -282,13 +286,26 @@ take-from-see (v ∷ vs) x s = see-kept (trans (put-marked s x m (λ h. h)) (que
     queue-lane-marked true u = trans (put-marked u x (signalled (u .slotOf x)) (signalled-marked (u .slotOf x))) (queue-marked _ _)
     queue-lane-marked false u = unchanged u
 
+-- n items, and then the stop
+halted-see : (n : ℕ) (s : State) → See s (haltedEvents n s) (halted (polled ((takeUpTo n s) .1)))
+unfolding haltedEvents halted
+halted-see n s = see-then (take-up-to-see n s) (see-then (polled-see _) (refill-see ((polled ((takeUpTo n s) .1)) .budget) (budget-marked _ _)))
+
+while-see : (b m : ℕ) (s : State) → let t = takeWhile b m s in SeeIn s (takeWhileEvents b m s) (answerWhile m (t .0) (t .1 .0) (releaseAll (t .1 .1)))
+unfolding answerWhile
+while-see b m s =
+    while-law (λ t es. SeeIn s es (answerWhile m (t .0) (t .1 .0) (releaseAll (t .1 .1)))) b m s
+    (λ all. answered-see s _ _ _ (answer-items-answered m _ _) (answer-items-marked m _ _) (take-up-to-see m s))
+    (λ n w. answered-see s _ _ _ (answer-stopped-answered m _ _) (release-all-marked _) (halted-see n s))
+
 receive-see : (s : State) (r : ReceiveCall) → SeeIn s (receiveEvents s r) (receiveOutcome s r)
-unfolding SeeIn receiveEvents receiveOutcome tryRecv tryRecvFair tryRecvFrom tryRecvBatchInto accepted
+unfolding SeeIn receiveEvents receiveOutcome tryRecv tryRecvFair tryRecvFrom tryRecvBatchInto tryRecvBatchIntoWhile accepted
 receive-see s TryRecv = unless-law (SeeIn s (receiveEvents s TryRecv)) _ s _ (λ n. see-kept (unchanged s)) (λ p. answered-see s _ _ _ (answer-one-answered _ _) (answer-one-marked _ _) (take-one-see s))
 receive-see s TryRecvFair = unless-law (SeeIn s (receiveEvents s TryRecvFair)) _ s _ (λ n. see-kept (unchanged s)) (λ p. answered-see s _ _ _ (answer-one-answered _ _) (answer-one-marked _ _) (take-fair-see s))
 receive-see s (TryRecvFrom i) = unless-law (SeeIn s (receiveEvents s (TryRecvFrom i))) _ s _ (λ n. see-kept (unchanged s)) (λ p. take-from-see _ _ s)
 receive-see s (TryRecvBatchInto m n) =
     unless-law (SeeIn s (receiveEvents s (TryRecvBatchInto m n))) _ s _ (λ n. see-kept (unchanged s)) (λ p. answered-see s _ _ _ (answer-items-answered m _ _) (answer-items-marked m _ _) (take-up-to-see m s))
+receive-see s (TryRecvBatchIntoWhile m b n) = unless-law (SeeIn s (receiveEvents s (TryRecvBatchIntoWhile m b n))) _ s _ (λ n. see-kept (unchanged s)) (λ p. while-see b m s)
 
 call-see : (s : State) (c : Call) → See s (callEvents s c) ((outcome s c) .1 .1)
 unfolding callEvents outcome SeeIn
