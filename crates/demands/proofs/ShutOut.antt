@@ -1,7 +1,7 @@
 -- What document 01 says demands 2 and 3 shut out, they do: each by one computed run of the wrong rules (specs/ShutOut.antt) on which the demand fails.
 -- Assumes nothing.
 use mathlib.Core.Path.{_≡_, refl, ap, _∙_}
-use mathlib.Core.Bool.{false}
+use mathlib.Core.Bool.{true, false}
 use mathlib.Core.List.{List, [], _∷_}
 use Prim.Native.Nat.{ℕ, _≤_}
 use native.Mathlib.Omega.{arith}
@@ -28,11 +28,12 @@ use Rattle.model.specs.Stretch.{endsWait, endsStretch, stretch, looks, findsNot
 use Rattle.model.specs.Demand2.{Demand2, Demand2In, outOf, into, shuts, values, Tells, HasRoom, HandsAsAnswered}
 use Rattle.model.specs.Demand3.{Demand3, Demand3In}
 use Rattle.model.specs.Held.{HeldAsCounted, HeldAsCountedIn, heldBy, heldByLanes}
+use Rattle.model.specs.Stops.{oldestAbove, someAbove, StopsOnlyAtItemsIn, StopsOnlyAtItems, HandsOnlyAdmittedIn, HandsOnlyAdmitted}
 use Rattle.model.specs.Simulation.{Simulation}
 use Rattle.model.specs.Keys.{registersAs, answersKeyThat, KeysNeverAgainIn, KeysNeverAgain}
 use Rattle.model.specs.Wake.{itemsBelow, belowLimit, maySleep, endsSleep, sendsTo, saysWoken, wakes, pausedIn, NoLostWakeIn, NoLostWake}
 use Rattle.model.specs.Examples.Calls.{compute}
-use Rattle.model.specs.ShutOut.{callBy, outputBy, receiveBeforeLooking, emptyBeforeLooking, receiveOfFront, fairServesFrontOnly, sendRefused, sendFullAlways, sendUnstored, sendStoresNothing, batchBy, firstMoved, batchMovesFirstOnly, othersReported, batchReportsOthers, oneMoreCounted, batchCountsOneMore, receiveLeavesItem, itemForEver, countsNone, heldZero, issuedAgain, registerSameKey, sameKeyAgain, sendUnwoken, sendNeverWakes}
+use Rattle.model.specs.ShutOut.{callBy, outputBy, receiveBeforeLooking, emptyBeforeLooking, receiveOfFront, fairServesFrontOnly, sendRefused, sendFullAlways, sendUnstored, sendStoresNothing, batchBy, whileBy, stoppedAtOnce, batchAlwaysStops, stoppedAtEnd, batchStopsAtEnd, neverStopped, batchNeverStops, firstMoved, batchMovesFirstOnly, othersReported, batchReportsOthers, oneMoreCounted, batchCountsOneMore, receiveLeavesItem, itemForEver, countsNone, heldZero, issuedAgain, registerSameKey, sameKeyAgain, sendUnwoken, sendNeverWakes}
 use Rattle.demands.proofs.Counting.{no}
 use Rattle.demands.proofs.Simulation.{opened-trace}
 
@@ -78,7 +79,7 @@ held = Control CountHeld
 
 -- all that these runs compute with
 computeWrong : Unit {0}
-unfolding compute opening lent lane registers sends plain fair held accepted handed ticks trace afterList sameKey countTicks ofLane atOpening changeLane addItem removeOldest setPaused setClosed setDropped addRegistered applyCall note ledgerAfter waits waitsIn anyOrdinary endsWait endsStretch stretch looks findsNothing looksInVain otherReceive notFair outOf into shuts values Tells HasRoom heldBy heldByLanes callBy outputBy receiveBeforeLooking receiveOfFront sendRefused sendUnstored batchBy firstMoved othersReported oneMoreCounted receiveLeavesItem countsNone
+unfolding compute opening lent lane registers sends plain fair held accepted handed ticks trace afterList sameKey countTicks ofLane atOpening changeLane addItem removeOldest setPaused setClosed setDropped addRegistered applyCall note ledgerAfter waits waitsIn anyOrdinary endsWait endsStretch stretch looks findsNothing looksInVain otherReceive notFair outOf into shuts values Tells HasRoom heldBy heldByLanes callBy outputBy receiveBeforeLooking receiveOfFront sendRefused sendUnstored batchBy firstMoved othersReported oneMoreCounted whileBy stoppedAtOnce stoppedAtEnd neverStopped receiveLeavesItem countsNone
 computeWrong = tt
 
 -- "Demand 3 shuts out a receiver that says Empty before looking": lane 0 has its item, and the plain receive answers Empty
@@ -184,6 +185,38 @@ held-zero-shut-out h =
     run = trace heldZero ((heldZero .opens opening lent) .1) calls
 
 -- ---- by what is claimed beside the demands
+
+-- document 02, N2: a batch that answers a stop at count 0 whatever there is: on an empty channel no item is next
+pub always-stops-shut-out : StopsOnlyAtItems batchAlwaysStops → ⊥
+unfolding computeWrong StopsOnlyAtItems StopsOnlyAtItemsIn someAbove oldestAbove
+always-stops-shut-out h = no ((h opening lent refl calls tt [] [] 4 5 4 0 refl) .1) refl
+  where
+    calls : List Call
+    calls = Receive (TryRecvBatchIntoWhile 4 5 4) ∷ []
+
+-- one that says so after all items, which were admitted: none is left
+pub stops-at-end-shut-out : StopsOnlyAtItems batchStopsAtEnd → ⊥
+unfolding computeWrong StopsOnlyAtItems StopsOnlyAtItemsIn someAbove oldestAbove
+stops-at-end-shut-out h = no ((h opening lent refl calls tt (take 3 run) [] 4 5 4 1 refl) .1) refl
+  where
+    calls : List Call
+    calls = registers ∷ sends 0 5 ∷ Receive (TryRecvBatchIntoWhile 4 5 4) ∷ []
+
+    run : List Tick
+    run = trace batchStopsAtEnd ((batchStopsAtEnd .opens opening lent) .1) calls
+
+-- and one that does not stop: an item of 9 is handed out under a bound of 5
+pub never-stops-shut-out : HandsOnlyAdmitted batchNeverStops → ⊥
+unfolding computeWrong HandsOnlyAdmitted HandsOnlyAdmittedIn
+never-stops-shut-out h =
+    let within : 9 ≤ 5 = h opening lent refl calls tt (ends registers (Registered (lane 0)) ∷ ends (sends 0 9) (Taken true 3) ∷ []) (ends stopping (Items 1) ∷ []) 4 5 4 (lane 0) 9 refl in
+    omega (arith, within)
+  where
+    stopping : Call
+    stopping = Receive (TryRecvBatchIntoWhile 4 5 4)
+
+    calls : List Call
+    calls = registers ∷ sends 0 9 ∷ stopping ∷ []
 
 -- a slot that is issued again under the same key: lane 0 is dropped and found, and (0, 0) is answered again
 pub same-key-again-shut-out : KeysNeverAgain sameKeyAgain → ⊥

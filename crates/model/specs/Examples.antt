@@ -11,6 +11,7 @@ pub mod Events
 pub mod Held
 pub mod BoundMet
 pub mod Stretch
+pub mod StopsInRuns
 pub mod OtherLanes
 pub mod EqualTurns
 pub mod Uneven

@@ -27,7 +27,7 @@ use Rattle.model.specs.Turn.{runDown, giveFront, polled}
 use Rattle.model.specs.Outcome.{Outcome, says, unless}
 use Rattle.model.specs.Runs.{Lent, Rules, accepted}
 use Rattle.model.specs.Sender.{clearSlots, issueSlot, registerSender, trySend, trySendUnsignaled, senderOutcome}
-use Rattle.model.specs.Receive.{answerOne, takeUpTo, releaseAll, answerItems, writtenTo, receiveOutcome}
+use Rattle.model.specs.Receive.{answerOne, takeUpTo, releaseAll, answerItems, takeWhile, writtenTo, receiveOutcome}
 use Rattle.model.specs.Control.{controlOutcome}
 use Rattle.model.specs.Opening.{openedState, openingOutcome}
 use Rattle.model.specs.Wake.{saysWoken}
@@ -128,6 +128,35 @@ oneMoreCounted limit s = let t = takeUpTo limit s in (t .0, (Items (suc (length 
 
 abbrev pub batchCountsOneMore : Rules
 batchCountsOneMore = rulesBy senderOutcome (batchBy oneMoreCounted) controlOutcome
+
+-- Document 02, N2: a batch with a bound with another outcome where it is not refused.
+unfoldable pub whileBy : (ℕ → ℕ → State → Outcome) → State → ReceiveCall → Outcome
+whileBy batch s (TryRecvBatchIntoWhile limit bound room) = unless ((not (s .isOpen), ReceiverClosed) ∷ (ltb room limit, OutputShort) ∷ []) s (batch limit bound s)
+whileBy batch s (TryRecvBatchInto limit room) = receiveOutcome s (TryRecvBatchInto limit room)
+whileBy batch s TryRecv = receiveOutcome s TryRecv
+whileBy batch s TryRecvFair = receiveOutcome s TryRecvFair
+whileBy batch s (TryRecvFrom i) = receiveOutcome s (TryRecvFrom i)
+
+-- one that answers a stop at count 0 whatever there is, and does nothing
+unfoldable pub stoppedAtOnce : ℕ → ℕ → State → Outcome
+stoppedAtOnce limit bound s = ([], (Stopped 0, s))
+
+abbrev pub batchAlwaysStops : Rules
+batchAlwaysStops = rulesBy senderOutcome (whileBy stoppedAtOnce) controlOutcome
+
+-- one that says that it stopped where all items were admitted
+unfoldable pub stoppedAtEnd : ℕ → ℕ → State → Outcome
+stoppedAtEnd limit bound s = let t = takeWhile bound limit s in (t .1 .0, (Stopped (length (t .1 .0)), releaseAll (t .1 .1)))
+
+abbrev pub batchStopsAtEnd : Rules
+batchStopsAtEnd = rulesBy senderOutcome (whileBy stoppedAtEnd) controlOutcome
+
+-- and one that hands out what is above the bound
+unfoldable pub neverStopped : ℕ → ℕ → State → Outcome
+neverStopped limit bound s = let t = takeUpTo limit s in answerItems limit (t .0) (releaseAll (t .1))
+
+abbrev pub batchNeverStops : Rules
+batchNeverStops = rulesBy senderOutcome (whileBy neverStopped) controlOutcome
 
 -- "one item handed out for ever": a plain receive leaves the item where it is
 unfoldable pub receiveLeavesItem : State → ReceiveCall → Outcome

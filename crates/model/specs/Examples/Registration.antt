@@ -34,7 +34,7 @@ use Rattle.model.specs.ShutOut.{callBy, rulesBy}
 use Rattle.model.specs.Examples.Example.{computeExamples, keyAt, idAt, registers, sends, drops, closes, plain, lane}
 use Rattle.model.specs.Examples.Calls.{compute}
 
--- ---- four states
+-- ---- five states
 
 -- after these calls, with S slots and first generation 0
 after : ℕ → List Call → State

@@ -15,7 +15,7 @@ use Rattle.model.specs.declared.Answer.the-variants.{Done, Registered, T
 use Rattle.model.specs.Ready.{groupsIn}
 use Rattle.model.specs.Runs.{accepted, Tick, gives, ends, sameKey}
 use Rattle.model.specs.Ledger.{Lane, Ledger, atOpening, changeLane, addItem, removeOldest, setPaused, setClosed, setDropped, addRegistered, applyCall, note, ledgerAfter, anyOrdinary, waitsIn, waits, isLive, liveLanes}
-use Rattle.model.specs.Stretch.{endsWait, endsStretch, looks, findsNothing, looksInVain, untargeted, otherReceive, notFair, saysStopped, stopped, afterCalls, mostLive, groupsAt}
+use Rattle.model.specs.Stretch.{endsWait, endsStretch, looks, findsNothing, looksInVain, untargeted, otherReceive, notFair, afterCalls, mostLive, groupsAt}
 use Rattle.model.specs.Demand2.{outOf, into, shuts, HasRoom}
 use Rattle.model.specs.Demand3.{bound}
 use Rattle.model.specs.Examples.Pairs.{Reads, Always}
@@ -28,7 +28,7 @@ laneId x = record { channel = record { id = 7; opening = 0 }; key = lane x }
 
 -- the words of the demands, for computing with them
 computeStretch : Unit {0}
-unfolding lane laneId accepted sameKey endsWait endsStretch looks findsNothing looksInVain untargeted otherReceive notFair saysStopped stopped outOf into shuts
+unfolding lane laneId accepted sameKey endsWait endsStretch looks findsNothing looksInVain untargeted otherReceive notFair outOf into shuts
 computeStretch = tt
 
 -- ---- items that are given, five of lane 0 and one of lane 1
@@ -252,6 +252,7 @@ answers-read :
     ∷ (Taken true 3, false)
     ∷ (Item 5 (laneId 0), false)
     ∷ (Items 0, false)
+    ∷ (Stopped 0, false)
     ∷ (Empty, true)
     ∷ (Disconnected, true)
     ∷ (Held 1, false)
@@ -261,9 +262,9 @@ unfolding computeStretch
 answers-read = refl
 
 -- an output of three words is the room 3
-has-room : HasRoom (TryRecvBatchInto 2 3) (90 ∷ 91 ∷ 92 ∷ []) × (HasRoom TryRecv [] × (HasRoom TryRecvFair [] × HasRoom (TryRecvFrom (laneId 0)) []))
+has-room : HasRoom (TryRecvBatchInto 2 3) (90 ∷ 91 ∷ 92 ∷ []) × (HasRoom (TryRecvBatchIntoWhile 2 5 3) (90 ∷ 91 ∷ 92 ∷ []) × (HasRoom TryRecv [] × (HasRoom TryRecvFair [] × HasRoom (TryRecvFrom (laneId 0)) [])))
 unfolding HasRoom
-has-room = (refl, (tt, (tt, tt)))
+has-room = (refl, (refl, (tt, (tt, tt))))
 
 -- ---- where the stretch of lane 1 may begin
 
