@@ -21,21 +21,31 @@ refresh-active-requires : tie.Need-refresh-active-requires Inv-loop μ-loop
 refresh-active-requires c κs = c .before .before .loop .inv .keeps .turning
 
 same-length : tie.Need-same-length Inv-loop μ-loop
-same-length c = admit-long (c .before .before .before .before .before .before .before .loop .inv) (c .before .before .before .before .before .before .loop-test .taken) _ _ (c .before .before .before .before .refresh-active .ensures)
+same-length c =
+    let d = c .before .before .before .before .before .before .before .loop .inv in
+    let below = c .before .before .before .before .before .before .loop-test .taken in
+    admit-long d below _ _ (c .before .before .before .before .refresh-active .ensures)
 
 same-length-2 : tie.Need-same-length-2 Inv-loop μ-loop
 same-length-2 c = c .before .before .before .before .before .before .before .loop .inv .long
 
 returns : tie.Need-returns Inv-loop μ-loop
-returns c = admitting-none (c .before .before .before .before .before .before .before .loop .inv) (c .before .before .before .before .before .before .loop-test .taken) _ (rw (c .enum-told .given .1) at (c .before .before .before .before .refresh-active .ensures))
+returns c =
+    let d = c .before .before .before .before .before .before .before .loop .inv in
+    let below = c .before .before .before .before .before .before .loop-test .taken in
+    admitting-none d below _ (rw (c .enum-told .given .1) at (c .before .before .before .before .refresh-active .ensures))
 
 sub-give-admitted : tie.Need-sub-give-admitted Inv-loop μ-loop
-sub-give-admitted c = omega (arith, c .before .before .before .before .before .before .before .before .before .loop-test .taken)
+sub-give-admitted c =
+    omega (arith, c .before .before .before .before .before .before .before .before .before .loop-test .taken)
 
 give-admitted-requires : tie.Need-give-admitted-requires Inv-loop μ-loop
 give-admitted-requires c κs =
+    let d = c .before .before .before .before .before .before .before .before .before .before .loop .inv in
+    let below = c .before .before .before .before .before .before .before .before .before .loop-test .taken in
     let e = rw (c .before .before .before .lane .given .1) at (c .before .before .before .before .before .before .before .refresh-active .ensures) in
-    (admit-front (c .before .before .before .before .before .before .before .before .before .before .loop .inv) (c .before .before .before .before .before .before .before .before .before .loop-test .taken) _ _ e, keeps-ringed (admit-kept (c .before .before .before .before .before .before .before .before .before .before .loop .inv) (c .before .before .before .before .before .before .before .before .before .loop-test .taken) _ _ e) (c .before .before .before .before .before .before .before .before .before .before .before .before .before .before .args .r .now) (c .before .before .before .before .before .before .before .before .before .before .before .before .before .before .pre .1), omega (arith, c .before .before .before .before .before .before .before .before .before .before .before .before .before .before .pre .2, c .before .before .before .before .before .before .before .before .before .before .loop .inv .long, c .before .before .before .before .before .before .before .before .before .loop-test .taken))
+    let entry = c .before .before .before .before .before .before .before .before .before .before .before .before .before .before in
+    (admit-front d below _ _ e, keeps-ringed (admit-kept d below _ _ e) (entry .args .r .now) (entry .pre .1), omega (arith, entry .pre .2, d .long, below))
 
 -- a sum that is at most a word is one
 fits-below : (a b : ℕ) → a ≤ b → b < 2 ^ 64 → a < 2 ^ 64
@@ -43,25 +53,57 @@ fits-below a b h l = omega arith
 
 add-received : tie.Need-add-received Inv-loop μ-loop
 add-received c =
+    let d = c .before .before .before .before .before .before .before .before .before .before .before .before .before .before .before .before .loop .inv in
+    let below = c .before .before .before .before .before .before .before .before .before .before .before .before .before .before .before .loop-test .taken in
     let e = rw (c .before .before .before .before .before .before .before .before .before .lane .given .1) at (c .before .before .before .before .before .before .before .before .before .before .before .before .before .refresh-active .ensures) in
-    record { fits = fits-below _ (c .before .before .before .before .before .before .before .before .before .before .before .before .before .before .before .before .before .before .before .before .args .limit) (admit-within (c .before .before .before .before .before .before .before .before .before .before .before .before .before .before .before .before .loop .inv) (c .before .before .before .before .before .before .before .before .before .before .before .before .before .before .before .loop-test .taken) _ _ e (c .before .before .before .before .before .before .before .before .before .before .before .before .before .before .before .before .before .before .before .before .pre .2) _ _ _ (c .before .before .before .before .before .give-admitted .ensures)) (omega (arith, c .before .before .before .before .before .before .before .before .before .before .before .before .before .before .before .before .before .before .before .before .fits)) }
+    let entry = c .before .before .before .before .before .before .before .before .before .before .before .before .before .before .before .before .before .before .before .before in
+    let g = c .before .before .before .before .before .give-admitted .ensures in
+    record { fits = fits-below _ (entry .args .limit) (admit-within d below _ _ e (entry .pre .2) _ _ _ g) (omega (arith, entry .fits)) }
 
 same-length-3 : tie.Need-same-length-3 Inv-loop μ-loop
-same-length-3 c = stop-long (c .before .before .before .before .before .before .before .before .before .before .before .before .before .before .before .before .before .loop .inv) (c .before .before .before .before .before .before .before .before .before .before .before .before .before .before .before .before .loop-test .taken) _ _ (rw (c .before .before .before .before .before .before .before .before .before .before .lane .given .1) at (c .before .before .before .before .before .before .before .before .before .before .before .before .before .before .refresh-active .ensures)) (c .before .before .before .before .before .before .before .before .before .before .before .before .before .before .before .before .before .before .before .before .before .pre .2) _ _ _ (c .before .before .before .before .before .before .give-admitted .ensures)
+same-length-3 c =
+    let d = c .before .before .before .before .before .before .before .before .before .before .before .before .before .before .before .before .before .loop .inv in
+    let below = c .before .before .before .before .before .before .before .before .before .before .before .before .before .before .before .before .loop-test .taken in
+    let e = rw (c .before .before .before .before .before .before .before .before .before .before .lane .given .1) at (c .before .before .before .before .before .before .before .before .before .before .before .before .before .before .refresh-active .ensures) in
+    let entry = c .before .before .before .before .before .before .before .before .before .before .before .before .before .before .before .before .before .before .before .before .before in
+    let g = c .before .before .before .before .before .before .give-admitted .ensures in
+    stop-long d below _ _ e (entry .pre .2) _ _ _ g
 
 same-length-4 : tie.Need-same-length-4 Inv-loop μ-loop
-same-length-4 c = stop-output-long (c .before .before .before .before .before .before .before .before .before .before .before .before .before .before .before .before .before .loop .inv) (c .before .before .before .before .before .before .before .before .before .before .before .before .before .before .before .before .loop-test .taken) _ _ (rw (c .before .before .before .before .before .before .before .before .before .before .lane .given .1) at (c .before .before .before .before .before .before .before .before .before .before .before .before .before .before .refresh-active .ensures)) (c .before .before .before .before .before .before .before .before .before .before .before .before .before .before .before .before .before .before .before .before .before .pre .2) _ _ _ (c .before .before .before .before .before .before .give-admitted .ensures)
+same-length-4 c =
+    let d = c .before .before .before .before .before .before .before .before .before .before .before .before .before .before .before .before .before .loop .inv in
+    let below = c .before .before .before .before .before .before .before .before .before .before .before .before .before .before .before .before .loop-test .taken in
+    let e = rw (c .before .before .before .before .before .before .before .before .before .before .lane .given .1) at (c .before .before .before .before .before .before .before .before .before .before .before .before .before .before .refresh-active .ensures) in
+    let entry = c .before .before .before .before .before .before .before .before .before .before .before .before .before .before .before .before .before .before .before .before .before in
+    let g = c .before .before .before .before .before .before .give-admitted .ensures in
+    stop-output-long d below _ _ e (entry .pre .2) _ _ _ g
 
 returns-2 : tie.Need-returns-2 Inv-loop μ-loop
-returns-2 c = admitting-stops (c .before .before .before .before .before .before .before .before .before .before .before .before .before .before .before .before .before .loop .inv) (c .before .before .before .before .before .before .before .before .before .before .before .before .before .before .before .before .loop-test .taken) _ _ (rw (c .before .before .before .before .before .before .before .before .before .before .lane .given .1) at (c .before .before .before .before .before .before .before .before .before .before .before .before .before .before .refresh-active .ensures)) (c .before .before .before .before .before .before .before .before .before .before .before .before .before .before .before .before .before .before .before .before .before .pre .2) _ _ _ (c .before .before .before .before .before .before .give-admitted .ensures) (c .if1 .taken)
+returns-2 c =
+    let d = c .before .before .before .before .before .before .before .before .before .before .before .before .before .before .before .before .before .loop .inv in
+    let below = c .before .before .before .before .before .before .before .before .before .before .before .before .before .before .before .before .loop-test .taken in
+    let e = rw (c .before .before .before .before .before .before .before .before .before .before .lane .given .1) at (c .before .before .before .before .before .before .before .before .before .before .before .before .before .before .refresh-active .ensures) in
+    let entry = c .before .before .before .before .before .before .before .before .before .before .before .before .before .before .before .before .before .before .before .before .before in
+    let g = c .before .before .before .before .before .before .give-admitted .ensures in
+    admitting-stops d below _ _ e (entry .pre .2) _ _ _ g (c .if1 .taken)
 
 loop-less : tie.Need-loop-less Inv-loop μ-loop
 loop-less c =
+    let d = c .before .before .before .before .before .before .before .before .before .before .before .before .before .before .before .before .before .loop .inv in
+    let below = c .before .before .before .before .before .before .before .before .before .before .before .before .before .before .before .before .loop-test .taken in
     let e = rw (c .before .before .before .before .before .before .before .before .before .before .lane .given .1) at (c .before .before .before .before .before .before .before .before .before .before .before .before .before .before .refresh-active .ensures) in
-    omega (arith, admit-within (c .before .before .before .before .before .before .before .before .before .before .before .before .before .before .before .before .before .loop .inv) (c .before .before .before .before .before .before .before .before .before .before .before .before .before .before .before .before .loop-test .taken) _ _ e (c .before .before .before .before .before .before .before .before .before .before .before .before .before .before .before .before .before .before .before .before .before .pre .2) _ _ _ (c .before .before .before .before .before .before .give-admitted .ensures), admit-more (c .before .before .before .before .before .before .before .before .before .before .before .before .before .before .before .before .before .loop .inv) (c .before .before .before .before .before .before .before .before .before .before .before .before .before .before .before .before .loop-test .taken) _ _ e (c .before .before .before .before .before .before .before .before .before .before .before .before .before .before .before .before .before .before .before .before .before .pre .2) _ _ _ (c .before .before .before .before .before .before .give-admitted .ensures) (c .if1 .left))
+    let entry = c .before .before .before .before .before .before .before .before .before .before .before .before .before .before .before .before .before .before .before .before .before in
+    let g = c .before .before .before .before .before .before .give-admitted .ensures in
+    omega (arith, admit-within d below _ _ e (entry .pre .2) _ _ _ g, admit-more d below _ _ e (entry .pre .2) _ _ _ g (c .if1 .left))
 
 loop-again : tie.Need-loop-again Inv-loop μ-loop
-loop-again c = admitting-next (c .before .before .before .before .before .before .before .before .before .before .before .before .before .before .before .before .before .loop .inv) (c .before .before .before .before .before .before .before .before .before .before .before .before .before .before .before .before .loop-test .taken) _ _ (rw (c .before .before .before .before .before .before .before .before .before .before .lane .given .1) at (c .before .before .before .before .before .before .before .before .before .before .before .before .before .before .refresh-active .ensures)) (c .before .before .before .before .before .before .before .before .before .before .before .before .before .before .before .before .before .before .before .before .before .pre .2) _ _ _ (c .before .before .before .before .before .before .give-admitted .ensures) (c .if1 .left)
+loop-again c =
+    let d = c .before .before .before .before .before .before .before .before .before .before .before .before .before .before .before .before .before .loop .inv in
+    let below = c .before .before .before .before .before .before .before .before .before .before .before .before .before .before .before .before .loop-test .taken in
+    let e = rw (c .before .before .before .before .before .before .before .before .before .before .lane .given .1) at (c .before .before .before .before .before .before .before .before .before .before .before .before .before .before .refresh-active .ensures) in
+    let entry = c .before .before .before .before .before .before .before .before .before .before .before .before .before .before .before .before .before .before .before .before .before in
+    let g = c .before .before .before .before .before .before .give-admitted .ensures in
+    admitting-next d below _ _ e (entry .pre .2) _ _ _ g (c .if1 .left)
 
 same-length-5 : tie.Need-same-length-5 Inv-loop μ-loop
 same-length-5 c = c .before .loop .inv .keeps .long
