@@ -2,18 +2,16 @@
 -- Assumes nothing.
 use mathlib.Core.Path.{_≡_, refl, sym, ap, _∙_, subst}
 use mathlib.Core.Bool.{Bool, true, false, cond}
-use mathlib.Core.List.{List, [], _∷_, _++_, map}
-use Prim.Native.Nat.{ℕ, zero, suc, _+_, _-_, _≤_, _<_}
+use mathlib.Core.List.{List, [], _++_}
+use Prim.Native.Nat.{ℕ, zero, suc, _+_, _-_, _<_}
 use native.Mathlib.Omega.{arith}
 use borrow.Author.Tests.{ltb-false}
 use lib.Dec.{eqb, ltb}
 use lib.ListN.{length, length-append}
-use Rattle.model.specs.declared.LaneKey.{LaneKey}
 use Rattle.model.specs.declared.Answer.{Answer}
 use Rattle.model.specs.declared.Answer.the-variants.{Refused}
 use Rattle.model.specs.declared.Refusal.{Refusal}
 use Rattle.model.specs.Receive as rules
-use Rattle.lane.specs.declared.lane.Lane.{Lane}
 use Rattle.queues.specs.Header.{Shaped}
 use Rattle.store.specs.declared.refusal.Verdict.{Verdict}
 use Rattle.store.specs.declared.refusal.Verdict.the-variants.{Pass, Refuse}
@@ -25,7 +23,7 @@ use Rattle.all_lanes.specs.AllLanes.{AllRefundable, releaseAll}
 use Rattle.receive_batch.specs.declared.batch.Front.{Front}
 use Rattle.receive_batch.specs.declared.batch.Front.the-variants as Front
 use Rattle.receive_while.specs.declared.batch_while.Drained.{Drained}
-use Rattle.receive_batch.specs.Batch.{refreshActive, chunkSize, chunkItems, chunkGiven, batchVerdict, RestsAt, handedBy}
+use Rattle.receive_batch.specs.Batch.{refreshActive, chunkSize, chunkGiven, batchVerdict, RestsAt, handedBy}
 use Rattle.receive_while.specs.While.{chunkAdmitted, DrainedWhile, whileThen, drainedWhileWithin, drainedWhile, drainWhile, answerWhile, whileAnswer, tryRecvBatchIntoWhile, whileHands, whileInto}
 use Rattle.receive_batch.proofs.LookLaws.{Searched, refresh-searched}
 use Rattle.receive_batch.proofs.ChunkLaws.{chunk-least, chunk-some, chunk-filled, chunk-keeps}

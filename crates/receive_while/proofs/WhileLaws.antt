@@ -2,24 +2,21 @@
 -- Assumes nothing.
 use mathlib.Core.Path.{_≡_, refl, sym, ap, ap₂, _∙_, subst}
 use mathlib.Core.Bool.{Bool, true, false, cond}
-use mathlib.Core.List.{List, [], _∷_, _++_, map, append-nil, append-assoc}
+use mathlib.Core.List.{List, [], _∷_, _++_, append-nil, append-assoc}
 use Prim.Native.Nat.{ℕ, zero, suc, _+_, _-_, _≤_, _<_}
 use native.Mathlib.Omega.{arith}
-use borrow.Author.Tests.{eq-eqb, ne-eqb, ltb-false, ltb-true}
-use lib.Dec.{eqb, leb, ltb}
+use borrow.Author.Tests.{eq-eqb, ne-eqb, ltb-false}
+use lib.Dec.{leb, ltb}
 use lib.ListN.{length, length-append}
 use Rattle.model.specs.declared.LaneKey.{LaneKey}
 use Rattle.model.specs.Receive as rules
 use Rattle.lane.specs.declared.lane.Lane.{Lane}
-use Rattle.lane.specs.Lane.{chunkLimit}
 use Rattle.yring.specs.Lists.{written}
 use Rattle.yring.specs.Ring.{prefix}
-use Rattle.queues.specs.Header.{capacity}
 use Rattle.receive_batch.specs.declared.batch.Front.{Front}
 use Rattle.receive_batch.specs.declared.batch.Front.the-variants as Front
 use Rattle.receive_while.specs.declared.batch_while.Drained.{Drained}
 use Rattle.turns.specs.Turn.{Turning}
-use Rattle.turns.specs.Drained.{Idle}
 use Rattle.receive_batch.specs.Batch.{refreshActive, Fronts, chunkSize, chunkItems, chunkGiven}
 use Rattle.receive_while.specs.While.{chunkAdmitted, giveAdmitted, DrainedWhile, whileThen, drainedWhileWithin, drainedWhile, drainWhile}
 use Rattle.turns.proofs.FrontLaws.{Keeps, keeps-self, keeps-then}

@@ -7,7 +7,7 @@ use Rattle.turns.proofs.TurnLaws.{slot-below, front-issued}
 use Rattle.yring.specs.Ring.{popInto}
 use Rattle.receive_batch.specs.Batch.{chunkSize, chunkItems, chunkGiven}
 use Rattle.receive_while.specs.While.{chunkAdmitted, giveAdmitted}
-use mathlib.Core.Path.{_≡_, _∙_, ap}
+use mathlib.Core.Path.{_∙_, ap}
 use native.Mathlib.Omega.{arith}
 use borrow.Author.Needs.{needs}
 use Rattle.receive_while.proofs.batch_while.give_admitted.Statement.{statement}

@@ -1,7 +1,7 @@
 -- `yring::ring::Ring::accepted_prefix` meets its contract. The loop's invariant: all items passed so far are admitted.
 -- Assumes nothing.
 use mathlib.Core.Path.{_≡_, sym, ap, _∙_}
-use Prim.Native.Nat.{ℕ, _-_, _≤_, _<_}
+use Prim.Native.Nat.{ℕ, _-_, _≤_}
 use native.Mathlib.Omega.{arith}
 use Rattle.yring.specs.Cursor.{after}
 use Rattle.yring.specs.Ring.{itemAt, items, prefix}
