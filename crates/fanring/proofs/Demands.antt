@@ -9,7 +9,8 @@ use Rattle.model.specs.declared.Refusal.the-variants.{StoreNotInOrder}
 use Rattle.model.specs.declared.Answer.the-variants.{Refused}
 use Rattle.model.specs.Simulation.{Simulation}
 use Rattle.model.specs.Demand2.{Demand2In}
-use Rattle.demands.proofs.Simulation.{words-demand2, words-demand3, words-equal-turns, words-free-places, words-not-full-before, words-openings-told-apart, words-saved-ids-refused, words-number-only-tells-ids, words-none-after-close, words-held-as-counted, words-hands-as-answered, words-no-lost-wake, words-nothing-waits, words-keys-never-again, words-issued-as-answered}
+use Rattle.demands.proofs.Demand3.{unstopped}
+use Rattle.demands.proofs.Simulation.{words-demand2, words-demand3, words-stops-only-at-items, words-hands-only-admitted, words-equal-turns, words-free-places, words-not-full-before, words-openings-told-apart, words-saved-ids-refused, words-number-only-tells-ids, words-none-after-close, words-held-as-counted, words-hands-as-answered, words-no-lost-wake, words-nothing-waits, words-keys-never-again, words-issued-as-answered}
 use Rattle.store.specs.View.{view}
 use Rattle.store.specs.Order.{StoreInOrder}
 use Rattle.store.specs.Words.{Words}
@@ -26,7 +27,7 @@ use Rattle.refinement.proofs.RulesKept.{keeps-rules}
 use Rattle.refinement.proofs.Simulation.{simulates}
 use Rattle.refinement.proofs.AsRules.{each-call-as-rules, lists-as-rules, examples-of, credit-of}
 use Rattle.fanring.specs.Runs.{checkedWords, checkedCalls, theCalls}
-use Rattle.fanring.specs.Demands.{RefusalsChangeNothing, FiveExactly, CallsSimulate, CallsKeepOrder, OpensAsRules, OpensInOrder, runs, NeverFive, ItemsInOrder, AnswersTell, LanesWaitBounded, LanesShareEqually, FreePlacesSaid, NotFullBefore, OpeningsToldApart, SavedIdsRefused, NumberOnlyTellsIds, NoneAfterClose, HeldIsCounted, RulesKept, TraceAsRules, MixedAsChecked, ExamplesHold, CreditByTable, NoLostWake, NothingWaits, KeysNeverAgain, IssuedAsAnswered}
+use Rattle.fanring.specs.Demands.{RefusalsChangeNothing, FiveExactly, CallsSimulate, CallsKeepOrder, OpensAsRules, OpensInOrder, runs, NeverFive, ItemsInOrder, AnswersTell, LanesWaitBounded, LanesWaitUnstopped, StopsOnlyAtItems, HandsOnlyAdmitted, LanesShareEqually, FreePlacesSaid, NotFullBefore, OpeningsToldApart, SavedIdsRefused, NumberOnlyTellsIds, NoneAfterClose, HeldIsCounted, RulesKept, TraceAsRules, MixedAsChecked, ExamplesHold, CreditByTable, NoLostWake, NothingWaits, KeysNeverAgain, IssuedAsAnswered}
 use Rattle.fanring.proofs.CheckedLaws.{checked-five}
 use Rattle.fanring.proofs.CheckedCalls.{checked-as-inner, words-unmoved, output-left}
 use Rattle.fanring.proofs.NeverFive.{never-five}
@@ -86,6 +87,15 @@ answers-tell = words-hands-as-answered (viewedOf checkedCalls) checked-simulate
 
 pub lanes-wait-bounded : LanesWaitBounded
 lanes-wait-bounded = words-demand3 (viewedOf checkedCalls) checked-simulate
+
+pub lanes-wait-unstopped : LanesWaitUnstopped
+lanes-wait-unstopped = unstopped theCalls runs lanes-wait-bounded
+
+pub stops-only-at-items : StopsOnlyAtItems
+stops-only-at-items = words-stops-only-at-items (viewedOf checkedCalls) checked-simulate
+
+pub hands-only-admitted : HandsOnlyAdmitted
+hands-only-admitted = words-hands-only-admitted (viewedOf checkedCalls) checked-simulate
 
 pub lanes-share-equally : LanesShareEqually
 lanes-share-equally = words-equal-turns (viewedOf checkedCalls) checked-simulate

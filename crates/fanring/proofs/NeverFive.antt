@@ -12,7 +12,7 @@ use Rattle.model.specs.declared.LaneId.{LaneId}
 use Rattle.model.specs.declared.SenderCall.{SenderCall}
 use Rattle.model.specs.declared.SenderCall.the-variants.{RegisterSender, TrySend, TrySendUnsignaled, DropSender}
 use Rattle.model.specs.declared.ReceiveCall.{ReceiveCall}
-use Rattle.model.specs.declared.ReceiveCall.the-variants.{TryRecv, TryRecvFair, TryRecvFrom, TryRecvBatchInto}
+use Rattle.model.specs.declared.ReceiveCall.the-variants.{TryRecv, TryRecvFair, TryRecvFrom, TryRecvBatchInto, TryRecvBatchIntoWhile}
 use Rattle.model.specs.declared.ControlCall.{ControlCall}
 use Rattle.model.specs.declared.ControlCall.the-variants.{Pause, Resume, CloseLane, ReleaseConsumed, PollAllLanes, CloseReceiver, CountHeld}
 use Rattle.model.specs.declared.Call.{Call}
@@ -41,7 +41,8 @@ use Rattle.receive.specs.Receive.{tryRecv, tryRecvFair}
 use Rattle.receive_batch.specs.Batch.{roomVerdict, batchVerdict, batchWords}
 use Rattle.receive_from.specs.Target.{tryRecvFrom}
 use Rattle.refinement.specs.Runs.{receiveWords, callWords}
-use Rattle.refinement.proofs.RefusedUnmoved.{answer-one-accepted, take-from-accepted, batch-accepted}
+use Rattle.receive_while.specs.While.{whileWords}
+use Rattle.refinement.proofs.RefusedUnmoved.{answer-one-accepted, take-from-accepted, batch-accepted, while-accepted}
 
 -- ---- verdicts
 
@@ -164,11 +165,12 @@ module _ (t r : List ℕ) where
   control-never CountHeld = result (countHeld t r) refl
 
   receive-never : (c : ReceiveCall) → NotRefusedFive (receiveWords t r c)
-  unfolding receiveWords tryRecv tryRecvFair tryRecvFrom batchWords
+  unfolding receiveWords tryRecv tryRecvFair tryRecvFrom batchWords whileWords
   receive-never TryRecv = unless-result (receiver-verdict t) _ (answer-one-accepted _ _)
   receive-never TryRecvFair = unless-result (receiver-verdict t) _ (answer-one-accepted _ _)
   receive-never (TryRecvFrom i) = unless-result (id-verdict t i) _ (take-from-accepted t r _)
   receive-never (TryRecvBatchInto limit room) = unless-result (batch-verdict t limit room) _ (batch-accepted t r limit)
+  receive-never (TryRecvBatchIntoWhile limit bound room) = unless-result (batch-verdict t limit room) _ (while-accepted t r limit bound)
 
   pub never-five : (c : Call) → NotRefusedFive (callWords t r c)
   unfolding callWords

@@ -24,7 +24,7 @@ use Rattle.receive_batch.specs.declared.batch.Front.{Front}
 use Rattle.receive_batch.specs.declared.batch.Front.the-variants as Front
 use Rattle.receive_while.specs.declared.batch_while.Drained.{Drained}
 use Rattle.receive_batch.specs.Batch.{refreshActive, chunkSize, chunkGiven, batchVerdict, RestsAt, handedBy}
-use Rattle.receive_while.specs.While.{chunkAdmitted, DrainedWhile, whileThen, drainedWhileWithin, drainedWhile, drainWhile, answerWhile, whileAnswer, tryRecvBatchIntoWhile, whileHands, whileInto}
+use Rattle.receive_while.specs.While.{chunkAdmitted, DrainedWhile, whileThen, drainedWhileWithin, drainedWhile, drainWhile, answerWhile, whileAnswer, whileWords, whileHands, tryRecvBatchIntoWhile}
 use Rattle.receive_batch.proofs.LookLaws.{Searched, refresh-searched}
 use Rattle.receive_batch.proofs.ChunkLaws.{chunk-least, chunk-some, chunk-filled, chunk-keeps}
 use Rattle.receive_batch.proofs.DrainLaws.{chunkHanded, length-handed}
@@ -114,16 +114,16 @@ module _ (t r out : List ℕ) (limit bound : ℕ) where
       let w = unlessRefused v t r (withRings r (whileAnswer t r limit bound)) in
       (w .0, w .1, w .2, rules.writtenTo (handedBy v (drainedWhile t r limit bound .1 .0)) out)
 
-  is-by-verdict : whileInto t r out limit bound ≡ by-verdict (batchVerdict t limit (length out))
-  unfolding whileInto tryRecvBatchIntoWhile whileHands by-verdict
+  is-by-verdict : tryRecvBatchIntoWhile t r out limit bound ≡ by-verdict (batchVerdict t limit (length out))
+  unfolding tryRecvBatchIntoWhile whileWords whileHands by-verdict
   is-by-verdict = refl
 
-  pub while-refused : (why : Refusal) → batchVerdict t limit (length out) ≡ Refuse why → (Refused why, t, r, out) ≡ whileInto t r out limit bound
+  pub while-refused : (why : Refusal) → batchVerdict t limit (length out) ≡ Refuse why → (Refused why, t, r, out) ≡ tryRecvBatchIntoWhile t r out limit bound
   unfolding by-verdict unlessRefused handedBy
   while-refused why e = sym (is-by-verdict ∙ ap by-verdict e ∙ ap (λ (o : List ℕ). (Refused why, t, r, o)) (output-none out))
 
   module _ (m : Drained) (u o : List ℕ) (d : (m, u, o) ≡ drainWhile t r out limit bound) where
-    pub while-done : (a : Answer) (v w : List ℕ) → batchVerdict t limit (length out) ≡ Pass → w ≡ releaseAll u → (a, v) ≡ answerWhile limit m w → (a, v, r, o) ≡ whileInto t r out limit bound
+    pub while-done : (a : Answer) (v w : List ℕ) → batchVerdict t limit (length out) ≡ Pass → w ≡ releaseAll u → (a, v) ≡ answerWhile limit m w → (a, v, r, o) ≡ tryRecvBatchIntoWhile t r out limit bound
     unfolding by-verdict unlessRefused handedBy whileAnswer drainWhile
     while-done a v w e p q =
         ap (λ (z : Answer × List ℕ). (z .0, z .1, r, o)) (q ∙ ap (answerWhile limit m) p)

@@ -71,15 +71,15 @@ whileAnswer t r limit bound =
     answerWhile limit record { count = length (d .1 .0); stopped = d .0 } (releaseAll (d .1 .1))
 
 -- "Credit and refusals are as in the plain batch."
-unfoldable pub tryRecvBatchIntoWhile : List ℕ → List ℕ → ℕ → ℕ → ℕ → Words
-tryRecvBatchIntoWhile t r limit bound room = unlessRefused (batchVerdict t limit room) t r (withRings r (whileAnswer t r limit bound))
+unfoldable pub whileWords : List ℕ → List ℕ → ℕ → ℕ → ℕ → Words
+whileWords t r limit bound room = unlessRefused (batchVerdict t limit room) t r (withRings r (whileAnswer t r limit bound))
 
 -- what is handed out; nothing by a call that is refused
 unfoldable pub whileHands : List ℕ → List ℕ → ℕ → ℕ → ℕ → List (LaneKey × ℕ)
 whileHands t r limit bound room = handedBy (batchVerdict t limit room) (drainedWhile t r limit bound .1 .0)
 
 -- the answer, the table store, the ring store and the output
-unfoldable pub whileInto : List ℕ → List ℕ → List ℕ → ℕ → ℕ → Answer × List ℕ × List ℕ × List ℕ
-whileInto t r out limit bound =
-    let w = tryRecvBatchIntoWhile t r limit bound (length out) in
+unfoldable pub tryRecvBatchIntoWhile : List ℕ → List ℕ → List ℕ → ℕ → ℕ → Answer × List ℕ × List ℕ × List ℕ
+tryRecvBatchIntoWhile t r out limit bound =
+    let w = whileWords t r limit bound (length out) in
     (w .0, w .1, w .2, rules.writtenTo (whileHands t r limit bound (length out)) out)

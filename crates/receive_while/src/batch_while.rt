@@ -7,7 +7,7 @@ ghost use lib.ListN.{length};
 ghost use Rattle.store.specs.Order.{StoreInOrder};
 ghost use Rattle.turns.specs.Turn.{Turning, Ringed};
 ghost use Rattle.receive_batch.specs.Batch.{Fronts, RestsAt};
-ghost use Rattle.receive_while.specs.While.{giveAdmitted, drainWhile, answerWhile, whileInto};
+ghost use Rattle.receive_while.specs.While.{giveAdmitted, drainWhile, answerWhile, tryRecvBatchIntoWhile};
 use lane::lane::Lane;
 use model::Answer;
 use queues::header::Header;
@@ -111,7 +111,7 @@ pub fn try_recv_batch_into_while(
     bound: u64,
 ) -> Answer
     requires { ⌜ StoreInOrder (now t) (now r) ⌝ }
-    ensures { λ a. ⌜ (a, now (t .exit), now (r .entry), now (out .exit)) ≡ whileInto (now (t .entry)) (now (r .entry)) (now (out .entry)) limit bound ⌝ }
+    ensures { λ a. ⌜ (a, now (t .exit), now (r .entry), now (out .exit)) ≡ tryRecvBatchIntoWhile (now (t .entry)) (now (r .entry)) (now (out .entry)) limit bound ⌝ }
 {
     match batch::batch_verdict(t, limit, out.len() as u64) {
         Verdict::Refuse { why } => Answer::Refused { why: why },

@@ -3,7 +3,7 @@
 use mathlib.Core.Path.{_≡_, refl, sym, ap, ap₂, _∙_, subst}
 use mathlib.Core.Bool.{Bool, true, false, cond}
 use mathlib.Core.List.{List, [], _∷_, _++_, map}
-use Prim.Native.Nat.{ℕ, zero, suc, _+_, _-_, _≤_}
+use Prim.Native.Nat.{ℕ, zero, suc, _+_, _-_, _≤_, _<_}
 use native.Mathlib.Omega.{arith}
 use borrow.Author.Tests.{ne-eqb}
 use lib.Dec.{eqb}
@@ -15,6 +15,7 @@ use Rattle.model.specs.Changes.{withQueue, withBudget, put, popped}
 use Rattle.model.specs.Order.{Ordered}
 use Rattle.model.specs.Turn as rules
 use Rattle.demands.proofs.WholeChunk.{firstOf, given, ChunkFits, given-ordered}
+use Rattle.demands.proofs.StopInChunk.{part-given-ordered}
 use Rattle.lane.specs.declared.lane.Lane.{Lane}
 use Rattle.lane.specs.declared.lane.Released.{Released}
 use Rattle.yring.specs.Ring.{newRing, items}
@@ -89,7 +90,7 @@ end-holds x C r l = go (eqb (l .burst) 64)
 
 -- ---- the chunk
 
-module _ (t r : List ℕ) (o : StoreInOrder t r) (l : Lane) (f : Fronts t l) (n : ℕ) (some : 1 ≤ n) (h : n ≤ chunkLimit (capacity t) l) (b : n ≤ fullBudget (budget t)) where
+module _ (t r : List ℕ) (o : StoreInOrder t r) (l : Lane) (f : Fronts t l) (n : ℕ) (h : n ≤ chunkLimit (capacity t) l) (b : n ≤ fullBudget (budget t)) where
   abbrev C : ℕ
   C = capacity t
 
@@ -144,9 +145,9 @@ module _ (t r : List ℕ) (o : StoreInOrder t r) (l : Lane) (f : Fronts t l) (n 
   items-left : heldItems (newRing x C) r m ≡ drop n (slot .ring)
   items-left = sym (ap₂ drop (sym (length-chunk t r n l)) ring-splits ∙ drop-first (chunkItems t r n l) (heldItems (newRing x C) r m))
 
-  pub chunk-fits : ChunkFits (view t r) x n
+  pub chunk-fits : 1 ≤ n → ChunkFits (view t r) x n
   unfolding view
-  chunk-fits =
+  chunk-fits some =
       let w = chunk-within C (o .stores .power .most) l (chunk-filled t l f) n h in
       let c = seen-counts in
       record {
@@ -195,12 +196,25 @@ module _ (t r : List ℕ) (o : StoreInOrder t r) (l : Lane) (f : Fronts t l) (n 
       ∙ ap (λ (vs : List ℕ). leaves (rules.refill (budget t) - n) (eqb (slot .burst + n) 64) vs (m .unreleased) (m .burst)) items-left
       ∙ ap₂ (λ (u d : ℕ). leaves (rules.refill (budget t) - n) (eqb (slot .burst + n) 64) (drop n (slot .ring)) u d) unreleased-after burst-after
 
-  pub chunk-in-order : StoreInOrder (chunkGiven t n l) r
-  unfolding chunkGiven gaveChunk view
-  chunk-in-order = record { stores = stored; ordered = subst Ordered (sym chunk-view) (given-ordered n (view t r) x q queue-seen chunk-fits (o .ordered)) }
+  -- fewer items are unreleased than the release batch
+  pub chunk-owes : slot .unreleased < releaseBatch C
+  chunk-owes = omega (arith, seen-counts .0, chunk-filled t l f .order .counts .unreleased-below)
+
+  chunk-ordered : Ordered (given (view t r) x q n) → StoreInOrder (chunkGiven t n l) r
+  unfolding chunkGiven gaveChunk
+  chunk-ordered k = record { stores = stored; ordered = subst Ordered (sym chunk-view) k }
     where
       stored : Stores (chunkGiven t n l) r
       stored = back-stores t r o x q chunk-queue (chunkEnd C n l .ended) m back (fullBudget (budget t) - n)
 
-      queue-seen : view t r .queue ≡ x ∷ q
-      queue-seen = chunk-queue
+  queue-seen : view t r .queue ≡ x ∷ q
+  unfolding view
+  queue-seen = chunk-queue
+
+  pub chunk-in-order : 1 ≤ n → StoreInOrder (chunkGiven t n l) r
+  chunk-in-order some = chunk-ordered (given-ordered n (view t r) x q queue-seen (chunk-fits some) (o .ordered))
+
+  -- a part of a chunk of c, none of it too
+  pub part-in-order : (c : ℕ) → ChunkFits (view t r) x c → n < c → StoreInOrder (chunkGiven t n l) r
+  unfolding view
+  part-in-order c fits i = chunk-ordered (part-given-ordered n c (view t r) x q queue-seen fits i chunk-owes (o .ordered))

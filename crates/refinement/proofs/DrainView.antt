@@ -54,14 +54,14 @@ module _ (r : List ℕ) (s : State) (n left : ℕ) (some : 1 ≤ left) (enough :
     one = chunk-some u left l (chunk-filled u l k) some
 
     chunked : StoreInOrder (chunkGiven u c l) r
-    chunked = chunk-in-order u r (a .in-order) l k c one (least .2) (least .1)
+    chunked = chunk-in-order u r (a .in-order) l k c (least .2) (least .1) one
 
     queue-seen : (polled s) .queue ≡ frontSlot u ∷ queueOf (popFront u)
     unfolding view
-    queue-seen = sym (ap (λ (z : State). z .queue) (a .alike)) ∙ chunk-queue u r (a .in-order) l k c one (least .2) (least .1)
+    queue-seen = sym (ap (λ (z : State). z .queue) (a .alike)) ∙ chunk-queue u r (a .in-order) l k c (least .2) (least .1)
 
     fits : ChunkFits (polled s) (frontSlot u) c
-    fits = subst (λ (z : State). ChunkFits z (frontSlot u) c) (a .alike) (chunk-fits u r (a .in-order) l k c one (least .2) (least .1))
+    fits = subst (λ (z : State). ChunkFits z (frontSlot u) c) (a .alike) (chunk-fits u r (a .in-order) l k c (least .2) (least .1) one)
 
     rules-chunk : takeUpTo left s ≡ onto (firstOf (view u r) (frontSlot u) c) (takeUpTo (left - c) (given (view u r) (frontSlot u) (queueOf (popFront u)) c))
     rules-chunk =
@@ -70,7 +70,7 @@ module _ (r : List ℕ) (s : State) (n left : ℕ) (some : 1 ≤ left) (enough :
 
     rest : DrainedAs r (more (chunkGiven u c l) (left - c)) (takeUpTo (left - c) (given (view u r) (frontSlot u) (queueOf (popFront u)) c))
     rest =
-        subst (λ (z : State). DrainedAs r (more (chunkGiven u c l) (left - c)) (takeUpTo (left - c) z)) (chunk-view u r (a .in-order) l k c one (least .2) (least .1))
+        subst (λ (z : State). DrainedAs r (more (chunkGiven u c l) (left - c)) (takeUpTo (left - c) z)) (chunk-view u r (a .in-order) l k c (least .2) (least .1))
         (ih (chunkGiven u c l) (left - c) (omega (arith, one, enough)) chunked)
 
     some-left : DrainedAs r (chunkThen (Front.Ready l, u) r left more) (takeUpTo left s)
@@ -78,7 +78,7 @@ module _ (r : List ℕ) (s : State) (n left : ℕ) (some : 1 ≤ left) (enough :
     some-left =
         record {
           alike =
-              ap₂ (λ (hs : List (LaneKey × ℕ)) (w : Took). onto hs w) (chunk-hands u r (a .in-order) l k c one (least .2) (least .1)) (rest .alike)
+              ap₂ (λ (hs : List (LaneKey × ℕ)) (w : Took). onto hs w) (chunk-hands u r (a .in-order) l k c (least .2) (least .1)) (rest .alike)
               ∙ sym rules-chunk;
           in-order = rest .in-order;
         }

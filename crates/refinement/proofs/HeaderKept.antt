@@ -9,10 +9,10 @@ use lib.Dec.{eqb, ltb}
 use lib.ListN.{length}
 use Rattle.model.specs.declared.OpenedChannel.{OpenedChannel}
 use Rattle.model.specs.declared.ReceiveCall.{ReceiveCall}
-use Rattle.model.specs.declared.ReceiveCall.the-variants.{TryRecv, TryRecvFair, TryRecvFrom, TryRecvBatchInto}
+use Rattle.model.specs.declared.ReceiveCall.the-variants.{TryRecv, TryRecvFair, TryRecvFrom, TryRecvBatchInto, TryRecvBatchIntoWhile}
 use Rattle.model.specs.declared.Call.{Call}
 use Rattle.model.specs.declared.Call.the-variants.{Sender, Receive, Control}
-use Rattle.model.specs.declared.Answer.the-variants.{Items, Empty}
+use Rattle.model.specs.declared.Answer.the-variants.{Items, Stopped, Empty}
 use Rattle.demands.proofs.LaneIds.{channel-path}
 use Rattle.lane.specs.declared.lane.Lane.{Lane}
 use Rattle.lane.specs.declared.lane.Popped.{Popped}
@@ -46,6 +46,7 @@ use Rattle.receive.specs.Receive.{elseTake, takeFromWindow, fastTook, takeFast,
 use Rattle.turns.specs.Due.{collectIfDue}
 use Rattle.receive_from.specs.Target.{settleTarget, queueTarget, keepTarget, targetTook, takeFrom, tryRecvFrom}
 use Rattle.receive_batch.specs.Batch.{lookBy, lookFront, afterLook, runDownWithin, runDown, elseFront, refreshActive, fullBudget, chunkSize, gaveChunk, chunkGiven, HandsAndTable, chunkThen, drainedWithin, drained, answerItems, batchAnswer, batchWords}
+use Rattle.receive_while.specs.While.{chunkAdmitted, DrainedWhile, whileThen, drainedWhileWithin, drainedWhile, answerWhile, whileAnswer, whileWords}
 use Rattle.refinement.specs.Runs.{receiveWords, callWords}
 use Rattle.store.proofs.HeaderWords.{placeOf, beside, apart}
 use Rattle.turns.proofs.FrontLaws.{head-left, head-met, head-gave}
@@ -267,14 +268,38 @@ module _ {c : KeptWord} where
       let d = drainedWithin limit t r limit in
       at-items limit (length (d .0)) (releaseAll (d .1)) (at-release-all (d .1) (at-drained-within limit t r limit h))
 
+  at-while-then : (f : Front × List ℕ) (r : List ℕ) (bound left : ℕ) (more : List ℕ → ℕ → DrainedWhile) → At c (f .1) → ((u : List ℕ) (m : ℕ) → At c u → At c ((more u m) .1 .1))
+      → At c ((whileThen f r bound left more) .1 .1)
+  unfolding whileThen
+  at-while-then (Front.None, t) r bound left more h g = h
+  at-while-then (Front.Ready l, t) r bound left more h g =
+      cond-holds (λ (d : DrainedWhile). At c (d .1 .1)) (ltb (chunkAdmitted t r bound (chunkSize t left l) l) (chunkSize t left l)) _ _
+      (λ e. at-chunk t h (chunkAdmitted t r bound (chunkSize t left l) l) l)
+      (λ e. g (chunkGiven t (chunkAdmitted t r bound (chunkSize t left l) l) l) (left - chunkAdmitted t r bound (chunkSize t left l) l) (at-chunk t h (chunkAdmitted t r bound (chunkSize t left l) l) l))
+
+  at-while-within : (n : ℕ) (t r : List ℕ) (bound left : ℕ) → At c t → At c ((drainedWhileWithin n t r bound left) .1 .1)
+  unfolding drainedWhileWithin
+  at-while-within zero t r bound left h = h
+  at-while-within (suc n) t r bound left h =
+      cond-holds (λ (d : DrainedWhile). At c (d .1 .1)) (eqb left 0) (false, ([], t)) _ (λ e. h)
+      (λ e. at-while-then (refreshActive t) r bound left _ (at-refresh t h) (λ u m k. at-while-within n u r bound m k))
+
+  at-while : (t r : List ℕ) (limit bound : ℕ) → At c t → At c ((whileAnswer t r limit bound) .1)
+  unfolding whileAnswer answerWhile drainedWhile
+  at-while t r limit bound h =
+      let d = drainedWhileWithin limit t r bound limit in
+      let p = at-release-all (d .1 .1) (at-while-within limit t r bound limit h) in
+      cond-holds (TableAt c) (d .0) (Stopped (length (d .1 .0)), releaseAll (d .1 .1)) _ (λ e. p) (λ e. at-items limit (length (d .1 .0)) (releaseAll (d .1 .1)) p)
+
   -- ---- every call
 
   receive-at : (t r : List ℕ) (s : ReceiveCall) → At c t → At c ((receiveWords t r s) .1)
-  unfolding receiveWords tryRecv tryRecvFair tryRecvFrom takeFrom batchWords
+  unfolding receiveWords tryRecv tryRecvFair tryRecvFrom takeFrom batchWords whileWords
   receive-at t r TryRecv h = unless-at t h _ r _ (at-answer (channel t) (takeOne t r) (at-one t r h))
   receive-at t r TryRecvFair h = unless-at t h _ r _ (at-answer (channel t) (takeFair t r) (at-fair t r h))
   receive-at t r (TryRecvFrom i) h = unless-at t h _ r _ (at-target t r h (i .key .slot) (refill (laneAt t (i .key .slot))))
   receive-at t r (TryRecvBatchInto limit room) h = unless-at t h _ r _ (at-batch t r limit h)
+  receive-at t r (TryRecvBatchIntoWhile limit bound room) h = unless-at t h _ r _ (at-while t r limit bound h)
 
   call-at : (t r : List ℕ) (s : Call) → At c t → At c ((callWords t r s) .1)
   unfolding callWords

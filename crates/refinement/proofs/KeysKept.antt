@@ -23,7 +23,8 @@ use Rattle.model.specs.Rules.{outcome}
 use Rattle.demands.proofs.Counting.{Same, equal, other, same?, self, no}
 use Rattle.demands.proofs.OrderKept.{first-own}
 use Rattle.demands.proofs.Quiet.{Quiet, stays, goes, poll, poll-quiet, trans, settle-empty-quiet}
-use Rattle.demands.proofs.Moves.{Moves, stays-put, credits, registers-new, registers-old, sends, posts, drops-it, pauses-it, resumes, resumes-not, closes-it, polls-all, shuts-it, takes, stops, aims, aims-none, Chain, stay, move, sender-move, control-move, call-chain}
+use Rattle.demands.proofs.Moves.{Moves, stays-put, credits, registers-new, registers-old, sends, posts, drops-it, pauses-it, resumes, resumes-not, closes-it, polls-all, shuts-it, takes, stops, halts, aims, aims-none, Chain, stay, move, sender-move, control-move, call-chain}
+use Rattle.demands.proofs.StopLaws.{halts-quiet}
 use Rattle.demands.proofs.Demand2.{queue-lane-slot, queue-lane-parts, give-item-slot}
 use Rattle.demands.proofs.LedgerAgrees.{retire-lane-slot, again-put}
 use Rattle.demands.proofs.Grows.{move-grows}
@@ -80,6 +81,7 @@ move-generation (takes f r s x v q vs h e i) y k =
     let back = either f (leb 63 (p .slotOf x .burst)) in
     ap (λ (l : Slot). l .generation) (give-item-slot p x q vs back y) ∙ put-generation p x _ y (λ z. refl) ∙ quiet-generation _ _ (poll-quiet f s .each y)
 move-generation (stops f r s u a h e q o n) y k = quiet-generation _ _ (trans (poll-quiet f s) q .each y)
+move-generation (halts s m b n j x q e h) y k = quiet-generation _ _ (halts-quiet s .each y)
 move-generation (aims s i v vs c e) y k =
     let x = i .key .slot in
     let m = popped vs (unreleasedAfterOne s x) (s .slotOf x .burst) (s .slotOf x) in

@@ -23,7 +23,9 @@ pub mod TryRecvFairLaws
 pub mod LookView
 pub mod ChunkView
 pub mod DrainView
+pub mod WhileView
 pub mod TryRecvBatchLaws
+pub mod TryRecvWhileLaws
 pub mod RefusedUnmoved
 pub mod CallLaws
 pub mod MadeOfCalls

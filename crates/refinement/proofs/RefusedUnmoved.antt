@@ -16,7 +16,7 @@ use Rattle.model.specs.declared.ControlCall.{ControlCall}
 use Rattle.model.specs.declared.ControlCall.the-variants.{Pause, Resume, CloseLane, ReleaseConsumed, PollAllLanes, CloseReceiver, CountHeld}
 use Rattle.model.specs.declared.Refusal.{Refusal}
 use Rattle.model.specs.declared.Answer.{Answer}
-use Rattle.model.specs.declared.Answer.the-variants.{Items, Empty, Disconnected, Refused}
+use Rattle.model.specs.declared.Answer.the-variants.{Items, Stopped, Empty, Disconnected, Refused}
 use Rattle.model.specs.Receive.{writtenTo}
 use Rattle.model.specs.Runs.{accepted}
 use Rattle.demands.proofs.Counting.{no}
@@ -39,6 +39,8 @@ use Rattle.all_lanes.specs.AllLanes.{releaseConsumed, pollAllLanes, countHeld}
 use Rattle.turns.specs.Drained.{retireEmptyPausedLanes, emptyOrDrained, nothingTaken}
 use Rattle.receive.specs.Receive.{takeOne, takeFair, answerOne, tryRecv, tryRecvFair}
 use Rattle.receive_batch.specs.Batch.{drained, batchVerdict, answerItems, batchAnswer, batchWords, handedBy, batchHands, tryRecvBatchInto}
+use Rattle.receive_while.specs.declared.batch_while.Drained.{Drained}
+use Rattle.receive_while.specs.While.{drainedWhile, answerWhile, whileAnswer, whileWords, whileHands, tryRecvBatchIntoWhile}
 use Rattle.receive_from.specs.Target.{settleTarget, targetTook, takeFrom, tryRecvFrom}
 use Rattle.refinement.specs.Runs.{}
 use Rattle.control.specs.Calls.{controlWords}
@@ -173,6 +175,33 @@ batch-output-unmoved t r out limit why e = go (batchVerdict t limit (length out)
   where
     go : (v : Verdict) → (unlessRefused v t r (withRings r (batchAnswer t r limit))) .0 ≡ Refused why → writtenTo (handedBy v (drained t r limit .0)) out ≡ out
     go Pass f = absurd (no (batch-accepted t r limit) (ap accepted f))
+    go (Refuse n) f = refl
+
+-- ---- the batch that stops
+
+answer-while-accepted : (limit : ℕ) (m : Drained) (t : List ℕ) → accepted ((answerWhile limit m t) .0) ≡ true
+unfolding answerWhile accepted
+answer-while-accepted limit m t = go (m .stopped)
+  where
+    go : (b : Bool) → accepted (cond {A = Answer × List ℕ} b (Stopped (m .count), t) (answerItems limit (m .count) t) .0) ≡ true
+    go true = refl
+    go false = answer-items-accepted limit (m .count) t
+
+module _ (t r : List ℕ) (limit bound : ℕ) where
+  pub while-accepted : accepted ((whileAnswer t r limit bound) .0) ≡ true
+  unfolding whileAnswer
+  while-accepted = answer-while-accepted limit _ _
+
+  pub while-unmoved : (room : ℕ) → Unmoved t r (whileWords t r limit bound room)
+  unfolding whileWords
+  while-unmoved room = unless-accepted t r _ _ while-accepted
+
+pub while-output-unmoved : (t r out : List ℕ) (limit bound : ℕ) (why : Refusal) → (whileWords t r limit bound (length out)) .0 ≡ Refused why → (tryRecvBatchIntoWhile t r out limit bound) .3 ≡ out
+unfolding whileWords tryRecvBatchIntoWhile whileHands unlessRefused handedBy writtenTo accepted
+while-output-unmoved t r out limit bound why e = go (batchVerdict t limit (length out)) e
+  where
+    go : (v : Verdict) → (unlessRefused v t r (withRings r (whileAnswer t r limit bound))) .0 ≡ Refused why → writtenTo (handedBy v (drainedWhile t r limit bound .1 .0)) out ≡ out
+    go Pass f = absurd (no (while-accepted t r limit bound) (ap accepted f))
     go (Refuse n) f = refl
 
 module _ (t r : List ℕ) where

@@ -38,7 +38,7 @@ use Rattle.refinement.proofs.DrainView.{DrainedAs, drained-alike}
 -- ---- every lane has given back its credit
 
 module _ (t r : List ℕ) (o : StoreInOrder t r) where
-  released-in-order : StoreInOrder (releaseAll t) r
+  pub released-in-order : StoreInOrder (releaseAll t) r
   released-in-order =
       record {
         stores = stores-release-all t r (o .stores);
@@ -46,7 +46,7 @@ module _ (t r : List ℕ) (o : StoreInOrder t r) where
       }
 
   -- the answer to items handed out from that table
-  answer-items-alike : (limit : ℕ) (l : List (LaneKey × ℕ))
+  pub answer-items-alike : (limit : ℕ) (l : List (LaneKey × ℕ))
       → seen (withRings r (answerItems limit (length l) (releaseAll t))) ≡ (rules.answerItems limit l (rules.releaseAll (view t r))) .1
   unfolding answerItems rules.answerItems
   answer-items-alike zero [] = ap (λ (s : State). (Items 0, s)) (view-release-all t r (o .stores))
@@ -55,7 +55,7 @@ module _ (t r : List ℕ) (o : StoreInOrder t r) where
       rw (ne-eqb (suc n) 0 (λ z. omega arith)) (nothing-taken-alike (releaseAll t) r released-in-order ∙ ap (λ (s : State). (rules.nothingTaken s) .1) (view-release-all t r (o .stores)))
   answer-items-alike (suc n) (g ∷ l) = rw (ne-eqb (suc (length l)) 0 (λ z. omega arith)) (ap (λ (s : State). (Items (suc (length l)), s)) (view-release-all t r (o .stores)))
 
-  answer-items-keeps : (limit n : ℕ) → StoreInOrder ((answerItems limit n (releaseAll t)) .1) r
+  pub answer-items-keeps : (limit n : ℕ) → StoreInOrder ((answerItems limit n (releaseAll t)) .1) r
   unfolding answerItems
   answer-items-keeps limit n = go (eqb n 0) (eqb limit 0)
     where
@@ -65,7 +65,7 @@ module _ (t r : List ℕ) (o : StoreInOrder t r) where
       go false b = released-in-order
 
 -- the rules' answer goes with what they hand out
-answer-items-hands : (limit : ℕ) (l : List (LaneKey × ℕ)) (s : State) → (rules.answerItems limit l s) .0 ≡ l
+pub answer-items-hands : (limit : ℕ) (l : List (LaneKey × ℕ)) (s : State) → (rules.answerItems limit l s) .0 ≡ l
 unfolding rules.answerItems
 answer-items-hands zero l s = refl
 answer-items-hands (suc n) [] s = nothing-taken-gives-none s
@@ -74,7 +74,7 @@ answer-items-hands (suc n) (g ∷ l) s = refl
 -- ---- the refusals
 
 -- a call that the rules refuse hands out nothing
-handed-by-tests : (cs : List (Bool × Refusal)) (s : State) (o : Outcome) → handedBy (firstOf cs) (o .0) ≡ (unless cs s o) .0
+pub handed-by-tests : (cs : List (Bool × Refusal)) (s : State) (o : Outcome) → handedBy (firstOf cs) (o .0) ≡ (unless cs s o) .0
 unfolding handedBy firstOf unless
 handed-by-tests [] s o = refl
 handed-by-tests (c ∷ cs) s o = go (c .0) (handed-by-tests cs s o)
@@ -84,10 +84,10 @@ handed-by-tests (c ∷ cs) s o = go (c .0) (handed-by-tests cs s o)
     go false e = e
 
 module _ (t r : List ℕ) (limit room : ℕ) where
-  abbrev tests : List (Bool × Refusal)
+  abbrev pub tests : List (Bool × Refusal)
   tests = (not (view t r .isOpen), ReceiverClosed) ∷ (ltb room limit, OutputShort) ∷ []
 
-  batch-verdict : batchVerdict t limit room ≡ firstOf tests
+  pub batch-verdict : batchVerdict t limit room ≡ firstOf tests
   unfolding batchVerdict roomVerdict firstOf
   batch-verdict =
       ap (λ (v : Verdict). andThen v (roomVerdict limit room)) (receiver-verdict t r)

@@ -1,5 +1,5 @@
 -- What is claimed of lists of calls on the two stores, made from an opening on, each on the words as the last one left them.
--- The claims are crate `model`'s (its specs/Demand1.antt, Demand2.antt, Demand3.antt, EqualTurns.antt, FreePlaces.antt, LaneIds.antt, Renumbered.antt,
+-- The claims are crate `model`'s (its specs/Demand1.antt, Demand2.antt, Demand3.antt, Stops.antt, EqualTurns.antt, FreePlaces.antt, LaneIds.antt, Renumbered.antt,
 -- Closed.antt, Held.antt, Wake.antt, Keys.antt), here of the words that the calls' contracts name.
 -- Assumes nothing.
 use mathlib.Core.Bool.{cond}
@@ -10,7 +10,8 @@ use Rattle.model.specs.declared.LaneKey.{LaneKey}
 use Rattle.model.specs.Runs.{RunsOf}
 use Rattle.model.specs.Simulation.{runsThatFit}
 use Rattle.model.specs.Demand2.{Demand2In, HandsAsAnsweredIn}
-use Rattle.model.specs.Demand3.{Demand3In}
+use Rattle.model.specs.Demand3.{Demand3In, Demand3UnstoppedIn}
+use Rattle.model.specs.Stops.{StopsOnlyAtItemsIn, HandsOnlyAdmittedIn}
 use Rattle.model.specs.EqualTurns.{EqualTurnsIn}
 use Rattle.model.specs.FreePlaces.{FreePlacesIn, NotFullBeforeIn}
 use Rattle.model.specs.LaneIds.{OpeningsToldApartIn, SavedIdsRefusedIn}
@@ -55,6 +56,18 @@ AnswersTell = HandsAsAnsweredIn theStores runs
 -- demand 3: how long a lane with an ordinarily sent item can wait
 abbrev pub LanesWaitBounded : Type 0
 LanesWaitBounded = Demand3In theStores runs
+
+-- document 02, N2: "demand 3's bounds cover stretches in which no batch was stopped". The demand above covers those with stopped batches too
+abbrev pub LanesWaitUnstopped : Type 0
+LanesWaitUnstopped = Demand3UnstoppedIn theStores runs
+
+-- document 02, N2: a batch answers that it stopped only below its limit, where an unpaused, unclosed lane's oldest item is above its bound
+abbrev pub StopsOnlyAtItems : Type 0
+StopsOnlyAtItems = StopsOnlyAtItemsIn theStores runs
+
+-- and hands out none above it
+abbrev pub HandsOnlyAdmitted : Type 0
+HandsOnlyAdmitted = HandsOnlyAdmittedIn theStores runs
 
 -- document 02, N10: while two lanes wait and items go out by fair receives and by targeted ones of other lanes, "the items handed out of the one and of the other
 -- differ by at most one at every moment"

@@ -1,6 +1,6 @@
 -- Document 01's sentences on order kept, the poll budget, turns of 64, collections, Disconnected and Empty, refusal 13, signals, first cursors and queued keys, and
--- document 02's on registrations and the free list (N4), of calls on two stores. Those that the rules have too are crate `model`'s (its specs/Budget.antt,
--- BudgetAfterNothing.antt, OneTurn.antt, Collections.antt, WhileMarked.antt, Disconnected.antt, LaneIds.antt, Signals.antt, Registration.antt, ReceivesEnd.antt),
+-- document 02's on registrations and the free list (N4) and on a batch that stops (N2), of calls on two stores. Those that the rules have too are crate `model`'s (its specs/Budget.antt,
+-- BudgetAfterNothing.antt, OneTurn.antt, Collections.antt, WhileMarked.antt, Disconnected.antt, LaneIds.antt, Signals.antt, Registration.antt, ReceivesEnd.antt, Stops.antt),
 -- said of the state that the words show; those on words alone are here, and in RegistrationOnWords.antt.
 -- Assumes nothing.
 use mathlib.Core.Path.{_≡_}
@@ -17,10 +17,11 @@ use Rattle.model.specs.Budget.{BudgetCountsItems, EventsTell}
 use Rattle.model.specs.OneTurn.{AtMost64InOneTurn}
 use Rattle.model.specs.Collections.{AtMost64BetweenCollections, Collecting}
 use Rattle.model.specs.WhileMarked.{AtMost64WhileMarked, AtMost64WhileMarkedInBatch}
-use Rattle.model.specs.BudgetAfterNothing.{BudgetAfterNothing, BudgetAsEventsSet}
+use Rattle.model.specs.BudgetAfterNothing.{BudgetAfterNothing, BudgetAfterStop, BudgetAsEventsSet}
 use Rattle.model.specs.Disconnected.{DisconnectedExactly, RetiresEmptyPaused, EmptyWithPausedItems, OnlyPausedItemsLeft, TargetedDisconnectedExactly}
 use Rattle.model.specs.LaneIds.{ThirteenExactly, ElseSixOrAccepted}
 use Rattle.model.specs.ReceivesEnd.{EndsWithNothingLeft}
+use Rattle.model.specs.Stops.{StoppedInFront, StopsExactly, StopAtZero, PlainWhereAdmitted, RefusedAsBatch}
 use Rattle.model.specs.Signals.{IdleOnlyWhenEmpty, ClosedSignalKept}
 use Rattle.model.specs.Registration.{TakesFirstClear, TakesNextUnused, EightExactly, NineExactly, RefusedOnlyInVain, FreedOnTop}
 use Rattle.lane.specs.Table.{laneAt}
@@ -60,8 +61,14 @@ pub record KeepsRules (M : StoreCalls) : Type 0 where
   pub at-most-64-while-marked : AtMost64WhileMarked (viewedOf M)
   pub at-most-64-while-marked-in-batch : AtMost64WhileMarkedInBatch (viewedOf M)
   pub budget-after-nothing : BudgetAfterNothing (viewedOf M)
+  pub budget-after-stop : BudgetAfterStop (viewedOf M)
   pub budget-as-events-set : BudgetAsEventsSet (viewedOf M)
   pub ends-with-nothing-left : EndsWithNothingLeft (viewedOf M)
+  pub stopped-in-front : StoppedInFront (viewedOf M)
+  pub stops-exactly : StopsExactly (viewedOf M)
+  pub stop-at-zero : StopAtZero (viewedOf M)
+  pub plain-where-admitted : PlainWhereAdmitted (viewedOf M)
+  pub refused-as-batch : RefusedAsBatch (viewedOf M)
   pub disconnected-exactly : DisconnectedExactly (viewedOf M)
   pub retires-empty-paused : RetiresEmptyPaused (viewedOf M)
   pub empty-with-paused-items : EmptyWithPausedItems (viewedOf M)

@@ -7,7 +7,7 @@ use lib.ListN.{length}
 use Rattle.model.specs.declared.LaneKey.{LaneKey}
 use Rattle.model.specs.declared.Opening.{Opening}
 use Rattle.model.specs.declared.ReceiveCall.{ReceiveCall}
-use Rattle.model.specs.declared.ReceiveCall.the-variants.{TryRecv, TryRecvFair, TryRecvFrom, TryRecvBatchInto}
+use Rattle.model.specs.declared.ReceiveCall.the-variants.{TryRecv, TryRecvFair, TryRecvFrom, TryRecvBatchInto, TryRecvBatchIntoWhile}
 use Rattle.model.specs.declared.Call.{Call}
 use Rattle.model.specs.declared.Call.the-variants.{Sender, Receive, Control}
 use Rattle.model.specs.declared.Answer.{Answer}
@@ -24,6 +24,7 @@ use Rattle.control.specs.Calls.{controlWords}
 use Rattle.receive.specs.Receive.{tryRecv, tryRecvFair}
 use Rattle.receive_from.specs.Target.{tryRecvFrom}
 use Rattle.receive_batch.specs.Batch.{batchWords, batchHands, tryRecvBatchInto}
+use Rattle.receive_while.specs.While.{whileWords, whileHands, tryRecvBatchIntoWhile}
 use Rattle.refinement.specs.Hands.{handsOf}
 
 -- every receive
@@ -32,6 +33,7 @@ receiveWords t r TryRecv = tryRecv t r
 receiveWords t r TryRecvFair = tryRecvFair t r
 receiveWords t r (TryRecvFrom i) = tryRecvFrom t r i
 receiveWords t r (TryRecvBatchInto limit room) = batchWords t r limit room
+receiveWords t r (TryRecvBatchIntoWhile limit bound room) = whileWords t r limit bound room
 
 -- what a receive hands out: a single one the item that it answers
 unfoldable pub handsWords : List ℕ → List ℕ → ReceiveCall → List (LaneKey × ℕ)
@@ -39,6 +41,7 @@ handsWords t r TryRecv = handsOf ((tryRecv t r) .0)
 handsWords t r TryRecvFair = handsOf ((tryRecvFair t r) .0)
 handsWords t r (TryRecvFrom i) = handsOf ((tryRecvFrom t r i) .0)
 handsWords t r (TryRecvBatchInto limit room) = batchHands t r limit room
+handsWords t r (TryRecvBatchIntoWhile limit bound room) = whileHands t r limit bound room
 
 -- the lent output; single receives are lent none
 unfoldable pub outputWords : List ℕ → List ℕ → ReceiveCall → List ℕ → List ℕ
@@ -46,6 +49,7 @@ outputWords t r TryRecv out = out
 outputWords t r TryRecvFair out = out
 outputWords t r (TryRecvFrom i) out = out
 outputWords t r (TryRecvBatchInto limit room) out = (tryRecvBatchInto t r out limit) .3
+outputWords t r (TryRecvBatchIntoWhile limit bound room) out = (tryRecvBatchIntoWhile t r out limit bound) .3
 
 -- every call
 unfoldable pub callWords : List ℕ → List ℕ → Call → Words
