@@ -5,12 +5,14 @@
 //! A line `outside` of LEFT, where the original has no answer, agrees with every line and is not counted. With --original LEFT is the original's, which
 //! does not say how many places are free: its `taken W` agrees with `taken W F` for every number F, and with nothing else. Prints `difference N`, with
 //! the number of the first line that differs; or counts, one to a line: of lines compared, of lines outside, of lines that answer a call made with more
-//! than 4,096 slots issued, and of each answer, the refusals by their numbers.
+//! than 4,096 slots issued, and of each answer, the refusals by their numbers and the batches that stopped apart from the others.
 
 use std::collections::BTreeMap;
 use std::io;
 
 const OUTSIDE: &[u8] = b"outside";
+/// What batches that stopped are counted as, but for those without an item, which have their whole line.
+const STOPPED: &[u8] = b"stopped";
 
 /// The file's lines; what follows the last line end is no line.
 fn lines(bytes: &[u8]) -> impl Iterator<Item = &[u8]> {
@@ -55,7 +57,8 @@ impl<'a> Counts<'a> {
             self.wide = line != b"lane 0 0" && (self.wide || slot(line) >= 4096);
         }
         let word = match line.iter().position(|&byte| byte == b' ') {
-            Some(end) if !line.starts_with(b"refused") && line != b"items 0" => &line[..end],
+            Some(_) if line.starts_with(b"items ") && line.ends_with(b" stopped") && line != b"items 0 stopped" => STOPPED,
+            Some(end) if !line.starts_with(b"refused") && !line.starts_with(b"items 0") => &line[..end],
             _ => line,
         };
         *self.answers.entry(word).or_default() += 1;

@@ -221,21 +221,36 @@ impl Channel {
         }
     }
 
+    fn batch(&mut self, result: Result<usize, TryRecvError>, items: &[Item], stopped: bool) -> Answer {
+        items.iter().for_each(|item| self.hand_out(item));
+        let values = items.iter().map(|item| item.value).collect();
+        match result {
+            Ok(count) => {
+                assert_eq!(count, items.len());
+                if stopped { Answer::Stopped(values) } else { Answer::Items(values) }
+            }
+            Err(error) => {
+                assert!(items.is_empty() && !stopped, "{error:?} after items, or where a rule stopped it");
+                if matches!(error, TryRecvError::Empty) { Answer::Empty } else { Answer::Disconnected }
+            }
+        }
+    }
+
     /// The receiver's calls but for closing it.
     fn receive(&mut self, record: &Record, output: u64) -> Reply {
         if self.receiver.is_none() {
             return refuse(6);
         }
-        let limit = record.fields[0];
-        if record.kind == records::BATCH && limit > output {
+        let [limit, bound, ..] = record.fields;
+        if matches!(record.kind, records::BATCH | records::BATCH_WHILE) && limit > output {
             return refuse(14);
         }
         if self.first.is_some() {
             // Nothing is registered yet.
             return match record.kind {
                 records::PLAIN | records::FAIR => Beyond,
-                records::BATCH if limit != 0 => Beyond,
-                records::BATCH => say(Answer::Items(Vec::new())),
+                records::BATCH | records::BATCH_WHILE if limit != 0 => Beyond,
+                records::BATCH | records::BATCH_WHILE => say(Answer::Items(Vec::new())),
                 records::RELEASE | records::POLL_ALL => say(Answer::Done),
                 _ => refuse(13),
             };
@@ -270,13 +285,23 @@ impl Channel {
                     r.try_recv_batch_into(&mut items, limit as usize)
                 });
                 match result {
-                    Ok(Ok(count)) => {
-                        assert_eq!(count, items.len());
-                        items.iter().for_each(|item| self.hand_out(item));
-                        Answer::Items(items.iter().map(|item| item.value).collect())
-                    }
-                    Ok(Err(TryRecvError::Empty)) => Answer::Empty,
-                    Ok(Err(TryRecvError::Disconnected)) => Answer::Disconnected,
+                    Ok(result) => self.batch(result, &items, false),
+                    Err(ZeroBudget) => return Beyond,
+                }
+            }
+            records::BATCH_WHILE => {
+                let mut items = Vec::new();
+                // The original does not tell its caller that it stopped; its caller's rule does.
+                let mut stopped = false;
+                let result = guarded(receiver, |r| {
+                    r.try_recv_batch_into_while(&mut items, limit as usize, |item| {
+                        assert!(!stopped, "an item is looked at after one that is not admitted");
+                        stopped = item.value > bound;
+                        !stopped
+                    })
+                });
+                match result {
+                    Ok(result) => self.batch(result, &items, stopped),
                     Err(ZeroBudget) => return Beyond,
                 }
             }

@@ -118,7 +118,8 @@ impl State {
                 match kind {
                     records::PLAIN => Ok(self.plain()),
                     records::FAIR => Ok(self.fair()),
-                    records::BATCH => self.batch(a, lent.output),
+                    records::BATCH => self.batch(a, None, lent.output),
+                    records::BATCH_WHILE => self.batch(a, Some(b), lent.output),
                     records::TARGETED => self.lane(a, b, c, d).map(|x| self.targeted(x)),
                     records::PAUSE => self.lane(a, b, c, d).map(|x| self.pause(x)),
                     records::RESUME => self.lane(a, b, c, d).map(|x| self.resume(x)),
@@ -339,6 +340,12 @@ impl State {
     /// "budget 0 and queue non-empty, collect one group and set the budget to 64; [..] then the poll loop, which goes on until it
     /// has an item or nothing is queued and nothing is ready. A lane that reaches a burst of 64 goes to the back."
     fn take_one(&mut self) -> Given {
+        self.look();
+        self.give_front(false)
+    }
+
+    /// All of it up to the item, which is then that of the front lane.
+    fn look(&mut self) {
         if self.budget == 0 && !self.queue.is_empty() {
             self.collect(true);
             self.budget = BUDGET;
@@ -348,7 +355,6 @@ impl State {
             self.collect(false);
             self.run_down();
         }
-        self.give_front(false)
     }
 
     /// "collect all groups if any is ready, budget 64, one item of the front lane, which goes to the back"
@@ -391,19 +397,43 @@ impl State {
     }
 
     /// "until the limit, or until nothing is queued and nothing is ready; then every lane gives back its credit"
-    fn batch(&mut self, limit: u64, output: u64) -> Outcome {
+    /// With a bound: "The batch is the plain one, but below its limit it stops in front of the first item not admitted", and "A stop at count 0 is never
+    /// Empty." (document 02, N2)
+    fn batch(&mut self, limit: u64, bound: Option<u64>, output: u64) -> Outcome {
         unless(limit > output, 14)?;
         let mut items = Vec::new();
+        let mut stopped = false;
         while (items.len() as u64) < limit {
-            let Some((_, item)) = self.take_one() else { break };
+            self.look();
+            stopped = bound.is_some_and(|bound| self.next_is_above(bound));
+            if stopped {
+                self.stop();
+                break;
+            }
+            let Some((_, item)) = self.give_front(false) else { break };
             items.push(item);
         }
         self.release_all();
-        Ok(if items.is_empty() && limit != 0 {
+        Ok(if stopped {
+            Answer::Stopped(items)
+        } else if items.is_empty() && limit != 0 {
             self.nothing()
         } else {
             Answer::Items(items)
         })
+    }
+
+    /// "an item is admitted if it is at most a bound given with the call" (document 02, N2)
+    fn next_is_above(&self, bound: u64) -> bool {
+        self.queue.front().is_some_and(|&x| self.slots[x].ring[0] > bound)
+    }
+
+    /// "after any collection due there, in the lane whose turn it is, which stays in front with its burst" (document 02, N2): after the look nothing is
+    /// left to do. But where the look began with nothing queued, the budget may still be 0: it is 64 then, as it is when an item is handed out there.
+    fn stop(&mut self) {
+        if self.budget == 0 {
+            self.budget = BUDGET;
+        }
     }
 
     /// The slot whose registered lane has this id. "Two ids are equal exactly if channel, opening number, slot and generation all agree" (document 02, N7).

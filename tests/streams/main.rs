@@ -6,7 +6,8 @@
 //!
 //! A stream is a row of openings, each in a style of its own; the first has style SEED modulo the number of those that take turns. The rules run
 //! along, so that a style can aim at a state; on the way their free places are held to the sends that follow, their answers to
-//! ids to the opening's record, and their registrations to the free list before and after.
+//! ids to the opening's record, their registrations to the free list before and after, and their batches with a bound to plain ones. Half of all batches
+//! have a bound, and two thirds of these stop somewhere.
 //! --slots N makes every opening wide: up to N lanes, for stores that hold them. --deep gives every opening a
 //! large capacity, up to 65,536, as far as the stores hold it, and so many records that its rings fill.
 //! --shifted gives every opening a first cursor and generation near 2^64, which the original does not have.
@@ -274,8 +275,12 @@ impl<W: Write> Stream<W> {
         self.here = self.here.saturating_sub(1);
         let due = matches!(kind, TARGETED | PAUSE | RESUME | CLOSE).then(|| self.due_to_id(&record));
         let found = if kind == REGISTER { self.rules.state.as_ref().map(free_list) } else { None };
+        let unbounded = if kind == BATCH_WHILE { self.unbounded(fields[0]) } else { None };
         let answer = self.rules.answer(&record);
         self.hold_to_free(&record, &answer);
+        if let Some(unbounded) = unbounded {
+            self.hold_to_bound(&record, &unbounded, &answer);
+        }
         if let Some(found) = found {
             self.hold_to_list(&found, &answer);
         }
@@ -352,6 +357,35 @@ impl<W: Write> Stream<W> {
         assert!(right && left.eq(state.free.iter().rev().copied()), "a registration that finds {free:?} answers {answer}");
     }
 
+    /// What a plain batch of this limit would answer here; None where it takes long to find out.
+    fn unbounded(&self, limit: u64) -> Option<Answer> {
+        let state = self.rules.state.as_ref()?;
+        let places = state.slots.len() as u64 * state.capacity;
+        (places <= 4_096).then(|| Rules { lent: self.rules.lent, state: Some(state.clone()) }.answer(&Record::new(BATCH, &[limit])))
+    }
+
+    /// What a bound does, by document 02's sentences (N2) in other words than the rules': of the plain batch's items those before the first above the bound
+    /// are handed out, and it stops exactly if there is one above; else it answers as the plain one does. Where it stops, the lane in front has that item
+    /// next, the budget is not 0, and no lane keeps credit.
+    fn hold_to_bound(&self, record: &Record, unbounded: &Answer, answer: &Answer) {
+        let [limit, bound, ..] = record.fields;
+        let state = self.state();
+        let due = match unbounded {
+            Answer::Items(items) => match items.iter().position(|&item| item > bound) {
+                Some(at) => {
+                    let next = state.queue.front().and_then(|&x| state.slots[x].ring.front());
+                    let credit = state.slots.iter().filter(|slot| slot.registered).map(|slot| slot.unreleased).sum::<u64>();
+                    assert_eq!((next, credit), (Some(&items[at]), 0), "{record:?}: the next item where it stops, and credit");
+                    assert!(state.budget != 0 && (at as u64) < limit, "{record:?}: budget 0 where it stops, or at its limit");
+                    Answer::Stopped(items[..at].to_vec())
+                }
+                None => unbounded.clone(),
+            },
+            _ => unbounded.clone(),
+        };
+        assert_eq!(*answer, due, "{record:?}: a plain batch answers {unbounded}");
+    }
+
     fn over(&self) -> bool {
         self.here == 0 || self.left == 0
     }
@@ -420,10 +454,10 @@ impl<W: Write> Stream<W> {
             } else {
                 return match self.random.below(3) {
                     0 => self.emit(FAIR, &[]),
-                    1 => self.emit(BATCH, &[0]),
+                    1 => self.batch(0),
                     _ => {
                         let limit = 1 + self.random.below(64);
-                        self.emit(BATCH, &[limit])
+                        self.batch(limit)
                     }
                 };
             }
@@ -443,13 +477,44 @@ impl<W: Write> Stream<W> {
         }
     }
 
+    /// A plain batch, or one with a bound.
+    fn batch(&mut self, limit: u64) -> Answer {
+        if self.random.one_in(2) {
+            return self.emit(BATCH, &[limit]);
+        }
+        let bound = match self.random.below(12) {
+            0 => u64::MAX,
+            1 => 0,
+            2 => self.random.next(),
+            // Above it are the items that are not counted up.
+            3..=5 => self.item,
+            _ => self.bound_in_front(limit),
+        };
+        self.emit(BATCH_WHILE, &[limit, bound])
+    }
+
+    /// A bound at which the lane whose turn it is, or comes if nothing is queued, gives some items and no more: none, one, as many as end its turn, the
+    /// budget or the batch, or any number. The largest of them is the bound itself.
+    fn bound_in_front(&mut self, limit: u64) -> u64 {
+        let state = self.state();
+        let fits = |slot: &Slot| slot.registered && !slot.paused && !slot.ring.is_empty();
+        let marked = || state.marks.iter().copied().find(|&x| fits(&state.slots[x]));
+        let Some(x) = state.queue.front().copied().or_else(marked) else { return self.item };
+        let ends = [0, 0, 1, 64 - state.slots[x].burst, state.budget, limit, limit.saturating_sub(1)];
+        let held = state.slots[x].ring.len() as u64;
+        let count = if self.random.one_in(3) { self.random.below(held + 1) } else { self.random.pick(&ends) };
+        let ring = &self.state().slots[x].ring;
+        let largest = ring.iter().take(count as usize).max().copied();
+        largest.or(ring.front().map(|first| first.saturating_sub(1))).unwrap_or(self.item)
+    }
+
     fn receive(&mut self) -> Answer {
         match self.random.below(8) {
             0..=3 => self.plain(),
             4..=5 => self.emit(FAIR, &[]),
             _ => {
                 let limit = self.limit();
-                self.emit(BATCH, &[limit])
+                self.batch(limit)
             }
         }
     }
@@ -617,8 +682,8 @@ impl<W: Write> Stream<W> {
 
     fn align(&mut self) {
         for _ in 0..100 {
-            let answer = self.emit(BATCH, &[64]);
-            if self.over() || !matches!(answer, Answer::Items(_)) {
+            let answer = self.batch(64);
+            if self.over() || !matches!(answer, Answer::Items(_) | Answer::Stopped(_)) {
                 break;
             }
         }
@@ -739,7 +804,7 @@ impl<W: Write> Stream<W> {
                 }
                 13 | 14 => {
                     let limit = 1 + self.random.below(3);
-                    self.emit(BATCH, &[limit]);
+                    self.batch(limit);
                 }
                 _ => {
                     let act = self.random.pick(&[Drop, Register, PollAll, Close, Unsignalled]);
@@ -783,7 +848,7 @@ impl<W: Write> Stream<W> {
             let answer = match only {
                 0 => self.plain(),
                 1 => self.emit(FAIR, &[]),
-                2 => self.emit(BATCH, &[64]),
+                2 => self.batch(64),
                 _ => self.receive(),
             };
             if self.over() || matches!(answer, Answer::Empty | Answer::Disconnected | Answer::Refused(6)) {
@@ -854,7 +919,7 @@ impl<W: Write> Stream<W> {
             }
             Batch => {
                 let limit = self.limit();
-                self.emit(BATCH, &[limit]);
+                self.batch(limit);
             }
             Pause => {
                 let again = self.random.one_in(8);
@@ -931,7 +996,7 @@ impl<W: Write> Stream<W> {
                 1 => self.emit(DROP, &[0, 0]),
                 2 => self.emit(TARGETED, &id),
                 3 => self.emit(PAUSE, &id),
-                4 => self.emit(BATCH, &[0]),
+                4 => self.batch(0),
                 5 => self.emit(RELEASE, &[]),
                 6 => self.emit(POLL_ALL, &[]),
                 7 => self.emit(REGISTER, &[0]),
@@ -1038,13 +1103,18 @@ impl<W: Write> Stream<W> {
 
     /// A record that is not one; it is the stream's last.
     fn malformed(&mut self) {
-        let bytes: &[u8] = match self.random.below(7) {
+        let bytes: &[u8] = match self.random.below(11) {
             0 => &[2],
             1 => &[2, 0],
             2 => &[2, 0, 5],
-            3 => &[2, 0, 16, 0],
+            3 => &[2, 0, 17, 0],
             4 => &[3, 0, 5, 0, 0],
             5 => &[10, 0, 8, 0, 1, 0, 0],
+            // A batch with a bound that has neither limit nor bound, no bound, or one field more, and one that is cut.
+            6 => &[2, 0, 16, 0],
+            7 => &[10, 0, 16, 0, 4, 0, 0, 0, 0, 0, 0, 0],
+            8 => &[26, 0, 16, 0, 4, 0, 0, 0, 0, 0, 0, 0, 5, 0, 0, 0, 0, 0, 0, 0, 0, 0, 0, 0, 0, 0, 0, 0],
+            9 => &[18, 0, 16, 0, 4, 0, 0, 0, 0, 0, 0, 0, 5, 0, 0, 0, 0, 0, 0],
             _ => &[0, 0],
         };
         self.output.write_all(bytes).expect("output is open");

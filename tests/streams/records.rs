@@ -19,9 +19,11 @@ pub const RELEASE: u16 = 12;
 pub const POLL_ALL: u16 = 13;
 pub const CLOSE_RECEIVER: u16 = 14;
 pub const HELD: u16 = 15;
+/// Document 02's (N2), as are `Answer::Stopped` and its line.
+pub const BATCH_WHILE: u16 = 16;
 
 /// The names of the kinds in the text form, and the number of fields of each.
-pub const KINDS: [(&str, usize); 16] = [
+pub const KINDS: [(&str, usize); 17] = [
     ("open", 6),
     ("register", 1),
     ("send", 3),
@@ -38,6 +40,7 @@ pub const KINDS: [(&str, usize); 16] = [
     ("poll-all", 0),
     ("close-receiver", 0),
     ("held", 0),
+    ("batch-while", 2),
 ];
 
 /// A well-formed record; fields that its kind lacks are 0.
@@ -155,6 +158,8 @@ pub enum Answer {
     Taken(bool, Option<u64>),
     Item(u64, u64, u64),
     Items(Vec<u64>),
+    /// A batch's items, and that it stopped in front of an item above its bound.
+    Stopped(Vec<u64>),
     Empty,
     Disconnected,
     Held(u64),
@@ -173,9 +178,10 @@ impl fmt::Display for Answer {
                 free.iter().try_for_each(|free| write!(f, " {free}"))
             }
             Self::Item(item, slot, generation) => write!(f, "item {item} {slot} {generation}"),
-            Self::Items(items) => {
+            Self::Items(items) | Self::Stopped(items) => {
                 write!(f, "items {}", items.len())?;
-                items.iter().try_for_each(|item| write!(f, " {item}"))
+                items.iter().try_for_each(|item| write!(f, " {item}"))?;
+                f.write_str(if matches!(self, Self::Stopped(_)) { " stopped" } else { "" })
             }
             Self::Empty => f.write_str("empty"),
             Self::Disconnected => f.write_str("disconnected"),
