@@ -425,7 +425,8 @@ impl State {
 
     /// "an item is admitted if it is at most a bound given with the call" (document 02, N2)
     fn next_is_above(&self, bound: u64) -> bool {
-        self.queue.front().is_some_and(|&x| self.slots[x].ring[0] > bound)
+        let next = self.queue.front().and_then(|&x| self.slots[x].ring.front());
+        next.is_some_and(|&item| item > bound)
     }
 
     /// "after any collection due there, in the lane whose turn it is, which stays in front with its burst" (document 02, N2): after the look nothing is

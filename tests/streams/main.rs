@@ -6,8 +6,8 @@
 //!
 //! A stream is a row of openings, each in a style of its own; the first has style SEED modulo the number of those that take turns. The rules run
 //! along, so that a style can aim at a state; on the way their free places are held to the sends that follow, their answers to
-//! ids to the opening's record, their registrations to the free list before and after, and their batches with a bound to plain ones. Half of all batches
-//! have a bound, and two thirds of these stop somewhere.
+//! ids to the opening's record, their registrations to the free list before and after, and their batches with a bound to plain ones. About half of all
+//! batches have a bound; of those of them that find an item, two in five stop.
 //! --slots N makes every opening wide: up to N lanes, for stores that hold them. --deep gives every opening a
 //! large capacity, up to 65,536, as far as the stores hold it, and so many records that its rings fill.
 //! --shifted gives every opening a first cursor and generation near 2^64, which the original does not have.
@@ -73,6 +73,8 @@ enum Act {
     LetGo,
     /// Registrations until one is refused.
     Crowd,
+    /// A batch that stops, and calls that show what it leaves.
+    Stop,
 }
 
 use Act::*;
@@ -193,6 +195,16 @@ const STYLES: &[Style] = &[
         acts: &[
             (Register, 10), (Send, 40), (Unsignalled, 6), (Fill, 6), (Drop, 4), (Plain, 14), (Fair, 8), (Targeted, 4), (Batch, 8), (Pause, 4),
             (Resume, 5), (Close, 2), (Release, 1), (PollAll, 1), (Held, 1), (Stale, 1), (Drain, 1), (Churn, 2), (Zero, 1), (Aim, 2),
+        ],
+    },
+    Style {
+        name: "stops",
+        capacities: &[2, 4, 64, 128, 256],
+        slots: &[(2, 7)],
+        lanes: 3,
+        acts: &[
+            (Stop, 24), (Register, 5), (Send, 12), (Unsignalled, 2), (Fill, 2), (Drop, 3), (Plain, 2), (Fair, 2), (Targeted, 3), (Batch, 8), (Pause, 4),
+            (Resume, 5), (Close, 1), (Release, 1), (PollAll, 1), (Held, 2), (Zero, 1), (Aim, 1), (Tangle, 1), (Drain, 1), (End, 1),
         ],
     },
     // The rest only by name: the styles of a seed stay as they were.
@@ -452,9 +464,10 @@ impl<W: Write> Stream<W> {
             if self.random.one_in(60) {
                 self.here = self.here.min(12);
             } else {
-                return match self.random.below(3) {
+                return match self.random.below(4) {
                     0 => self.emit(FAIR, &[]),
                     1 => self.batch(0),
+                    2 => self.stop_in_front(),
                     _ => {
                         let limit = 1 + self.random.below(64);
                         self.batch(limit)
@@ -500,12 +513,59 @@ impl<W: Write> Stream<W> {
         let fits = |slot: &Slot| slot.registered && !slot.paused && !slot.ring.is_empty();
         let marked = || state.marks.iter().copied().find(|&x| fits(&state.slots[x]));
         let Some(x) = state.queue.front().copied().or_else(marked) else { return self.item };
-        let ends = [0, 0, 1, 64 - state.slots[x].burst, state.budget, limit, limit.saturating_sub(1)];
+        let ends = [0, 0, 1, 64 - state.slots[x].burst, state.budget, state.budget, limit, limit.saturating_sub(1)];
         let held = state.slots[x].ring.len() as u64;
         let count = if self.random.one_in(3) { self.random.below(held + 1) } else { self.random.pick(&ends) };
         let ring = &self.state().slots[x].ring;
         let largest = ring.iter().take(count as usize).max().copied();
         largest.or(ring.front().map(|first| first.saturating_sub(1))).unwrap_or(self.item)
+    }
+
+    fn stop_in_front(&mut self) -> Answer {
+        let limit = self.limit().max(1);
+        let bound = self.bound_in_front(limit);
+        self.emit(BATCH_WHILE, &[limit, bound])
+    }
+
+    /// Often near budget 0, and with lanes paused in their turn, which come back after it; lanes are made ready before it and after it.
+    fn stop(&mut self) {
+        if self.random.one_in(2) {
+            let near = self.random.pick(&[0, 0, 1, 2]);
+            let limit = self.state().budget.saturating_sub(near);
+            self.send(SEND, limit + 4);
+            self.emit(BATCH, &[limit]);
+        }
+        match self.random.below(4) {
+            0 | 1 if self.state().budget == 0 => self.empty_queue(),
+            0..=2 => self.pause_front(PAUSE),
+            _ => {}
+        }
+        self.make_ready();
+        self.stop_in_front();
+        self.after_stop();
+    }
+
+    /// What a stop leaves shows in the order of a lane made ready after it and one that comes back.
+    fn after_stop(&mut self) {
+        if !self.random.one_in(4) {
+            self.make_ready();
+        }
+        if !self.random.one_in(4) {
+            self.plain();
+        }
+        for _ in 0..self.random.below(3) {
+            self.act(Resume);
+        }
+        self.act(Plain);
+    }
+
+    /// One to three items to a lane that is not queued, if there is one.
+    fn make_ready(&mut self) {
+        let [slot, generation] = self.key(|slot| slot.living && slot.registered && !slot.paused && !slot.queued);
+        for _ in 0..1 + self.random.below(3) {
+            let item = self.next_item();
+            self.emit(SEND, &[slot, generation, item]);
+        }
     }
 
     fn receive(&mut self) -> Answer {
@@ -746,15 +806,26 @@ impl<W: Write> Stream<W> {
             let act = self.random.pick(&[Send, Unsignalled, Drop, Resume, PollAll, Targeted, Register, Churn]);
             self.act(act);
         }
-        self.receive();
+        if self.random.one_in(3) {
+            self.stop_in_front();
+            self.after_stop();
+        } else {
+            self.receive();
+        }
     }
 
     /// Pauses, or now and then closes, all that is queued.
     fn empty_queue(&mut self) {
         for _ in 0..self.state().queue.len() {
-            let Some(&x) = self.state().queue.front() else { break };
-            let id = self.id_of([x as u64, self.state().slots[x].generation]);
             let kind = if self.random.one_in(12) { CLOSE } else { PAUSE };
+            self.pause_front(kind);
+        }
+    }
+
+    /// Pauses or closes the lane in front, if there is one.
+    fn pause_front(&mut self, kind: u16) {
+        if let Some(&x) = self.state().queue.front() {
+            let id = self.id_of([x as u64, self.state().slots[x].generation]);
             self.emit(kind, &id);
         }
     }
@@ -787,7 +858,7 @@ impl<W: Write> Stream<W> {
             self.plain();
         }
         for _ in 0..8 + self.random.below(24) {
-            match self.random.below(16) {
+            match self.random.below(18) {
                 0..=2 => self.act(Resume),
                 3 => self.act(Pause),
                 4..=7 => {
@@ -805,6 +876,9 @@ impl<W: Write> Stream<W> {
                 13 | 14 => {
                     let limit = 1 + self.random.below(3);
                     self.batch(limit);
+                }
+                15 | 16 => {
+                    self.stop_in_front();
                 }
                 _ => {
                     let act = self.random.pick(&[Drop, Register, PollAll, Close, Unsignalled]);
@@ -965,6 +1039,7 @@ impl<W: Write> Stream<W> {
             }
             LetGo => self.by_closed(DROP),
             Crowd => self.crowd(),
+            Stop => self.stop(),
         }
     }
 
