@@ -21,6 +21,8 @@ pub struct Counts {
     pub out_of_order: u64,
     pub refused: u64,
     pub accepted: u64,
+    /// Of these batches that stopped.
+    pub stopped: u64,
     /// Stores that nobody vouched for, and how many of them were in order.
     pub stores: u64,
     pub in_order: u64,
@@ -120,6 +122,7 @@ impl Bench {
             Answer::Refused(_) => counts.refused += 1,
             _ => counts.accepted += 1,
         }
+        counts.stopped += u64::from(matches!(answer, Answer::Stopped(_)));
         let wide = self.table_before.first().is_some_and(|&issued| (4_097..=8_192).contains(&issued));
         let slowest = if wide { &mut counts.slowest_wide } else { &mut counts.slowest };
         *slowest = took.max(*slowest);
@@ -130,7 +133,7 @@ impl Bench {
         let used = match answer {
             Answer::Item(..) => 5,
             Answer::Lane(..) | Answer::Taken(..) => 2,
-            Answer::Items(_) | Answer::Held(_) | Answer::Refused(_) => 1,
+            Answer::Items(_) | Answer::Stopped(_) | Answer::Held(_) | Answer::Refused(_) => 1,
             _ => 0,
         };
         assert!(self.words.words()[used..].iter().all(|&word| word == UNSET), "{record:?}: {answer} leaves other words");
@@ -175,7 +178,7 @@ impl Bench {
     }
 
     /// A refusal changes nothing; a send writes one item and says the free places that it leaves, a batch writes its items, and no other call writes to
-    /// rings or output.
+    /// rings or output. A batch has no item above its bound, and only one with a bound stops, below its limit.
     fn look_at_stores(&mut self, record: &Record, answer: &Answer) {
         let (table, rings, output) = (self.table.words(), self.rings.words(), self.output.words());
         if matches!(answer, Answer::Refused(_) | Answer::Held(_)) {
@@ -192,7 +195,14 @@ impl Bench {
             }
         }
         assert!(*rings == self.rings_before[..], "{record:?}: {answer} changes the ring store");
-        let written = if let Answer::Items(items) = answer { items.len() } else { 0 };
+        let (written, stopped) = match answer {
+            Answer::Items(items) => (items.len(), false),
+            Answer::Stopped(items) => (items.len(), true),
+            _ => (0, false),
+        };
+        let [limit, bound] = if record.kind == records::BATCH_WHILE { [record.fields[0], record.fields[1]] } else { [0, u64::MAX] };
+        assert!(output[..written].iter().all(|&item| item <= bound), "{record:?}: {answer} has an item above its bound");
+        assert!(!stopped || (written as u64) < limit, "{record:?}: {answer} stops at its limit, or without one");
         assert!(output[written..] == self.output_before[written..], "{record:?}: {answer} changes the output");
         self.output_before[..written].copy_from_slice(&output[..written]);
     }

@@ -6,8 +6,8 @@ use crate::records::*;
 
 /// Each kind of call but the opening, as often as it is made.
 const KINDS: &[(u16, u64)] = &[
-    (REGISTER, 6), (SEND, 20), (UNSIGNALLED, 5), (DROP, 3), (PLAIN, 16), (FAIR, 9), (TARGETED, 7), (BATCH, 7), (PAUSE, 6), (RESUME, 6), (CLOSE, 2),
-    (RELEASE, 3), (POLL_ALL, 3), (HELD, 3),
+    (REGISTER, 6), (SEND, 20), (UNSIGNALLED, 5), (DROP, 3), (PLAIN, 16), (FAIR, 9), (TARGETED, 7), (BATCH, 5), (BATCH_WHILE, 5), (PAUSE, 6), (RESUME, 6),
+    (CLOSE, 2), (RELEASE, 3), (POLL_ALL, 3), (HELD, 3),
 ];
 
 pub struct Episode<'a> {
@@ -72,10 +72,12 @@ impl<'a> Episode<'a> {
             SEND | UNSIGNALLED => Record::new(kind, &[slot, generation, self.random.next()]),
             DROP => Record::new(kind, &[slot, generation]),
             TARGETED | PAUSE | RESUME | CLOSE => Record::new(kind, &[channel, slot, generation, opening]),
-            BATCH => {
+            BATCH | BATCH_WHILE => {
                 let most = self.bench.output_length() as u64;
                 let limit = if self.random.one_in(8) { self.number() } else { self.random.below(most + 2) };
-                Record::new(kind, &[limit])
+                // Items are any numbers: half of all bounds are in the upper half, and the batch goes some items far.
+                let bound = if self.random.one_in(4) { self.number() } else { self.random.next() | self.random.pick(&[0, 1 << 63, 31 << 59]) };
+                Record::new(kind, &[limit, bound][..if kind == BATCH { 1 } else { 2 }])
             }
             _ => Record::new(kind, &[]),
         }
@@ -125,7 +127,7 @@ impl<'a> Episode<'a> {
         let record = self.record();
         if self.call(&record) == Answer::Refused(5) {
             let all = self.random.one_in(32);
-            for kind in REGISTER..=HELD {
+            for kind in REGISTER..=BATCH_WHILE {
                 if all || self.random.one_in(5) {
                     let record = self.record_of(kind);
                     self.call(&record);
@@ -139,7 +141,7 @@ impl<'a> Episode<'a> {
             match self.call(&record) {
                 Answer::Taken(..) => held += 1,
                 Answer::Item(..) => held -= 1,
-                Answer::Items(items) => held -= items.len() as u64,
+                Answer::Items(items) | Answer::Stopped(items) => held -= items.len() as u64,
                 Answer::Held(count) => assert_eq!(count, held, "held"),
                 Answer::Done if record.kind == CLOSE => {
                     let left = self.held();

@@ -4,7 +4,7 @@
 //!
 //! Every call must end; touch nothing outside its slices, which end or begin at guard pages; leave every word as it was where it refuses; answer 5 exactly
 //! if document 01's list, read once more in order.rs, does not hold of the stores; and leave stores in order where it does not answer 5. An accepted send
-//! must answer the free places that the store's words then have, a registration the slot that they say is due.
+//! must answer the free places that the store's words then have, a registration the slot that they say is due, a batch no item above its bound.
 //! --episode runs the one episode that a failure names.
 
 mod bench;
@@ -63,12 +63,13 @@ fn main() {
     }
     let counts = bench.counts;
     println!(
-        "hostile: seed {seed}, {} calls: {} refused 5, {} refused otherwise, {} accepted; {} stores that nobody vouched for, {} of them in order; \
-         slowest call {} us, with more than 4,096 slots {} us; {} s",
+        "hostile: seed {seed}, {} calls: {} refused 5, {} refused otherwise, {} accepted, {} of them batches that stopped; \
+         {} stores that nobody vouched for, {} of them in order; slowest call {} us, with more than 4,096 slots {} us; {} s",
         counts.calls,
         counts.out_of_order,
         counts.refused,
         counts.accepted,
+        counts.stopped,
         counts.stores,
         counts.in_order,
         counts.slowest.as_micros(),

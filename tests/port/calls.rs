@@ -12,6 +12,7 @@ type ByKey = unsafe extern "C" fn(*mut u64, usize, *const u64, usize, u64, u64, 
 type ById = unsafe extern "C" fn(*mut u64, usize, *const u64, usize, u64, u64, u64, u64, *mut Words) -> u64;
 type Send = unsafe extern "C" fn(*mut u64, usize, *mut u64, usize, u64, u64, u64, *mut Words) -> u64;
 type Batch = unsafe extern "C" fn(*mut u64, usize, *const u64, usize, *mut u64, usize, u64, *mut Words) -> u64;
+type BatchWhile = unsafe extern "C" fn(*mut u64, usize, *const u64, usize, *mut u64, usize, u64, u64, *mut Words) -> u64;
 type Held = unsafe extern "C" fn(*const u64, usize, *const u64, usize, *mut Words) -> u64;
 
 /// Every call but the opening.
@@ -24,6 +25,7 @@ pub struct Calls {
     fair: Bare,
     targeted: ById,
     batch: Batch,
+    batch_while: BatchWhile,
     pause: ById,
     resume: ById,
     close_lane: ById,
@@ -35,7 +37,7 @@ pub struct Calls {
 
 macro_rules! calls {
     ($name:ident: $register:ident $send:ident $unsignalled:ident $drop:ident $plain:ident $fair:ident $targeted:ident $batch:ident
-     $pause:ident $resume:ident $close:ident $release:ident $poll_all:ident $close_receiver:ident $held:ident) => {
+     $batch_while:ident $pause:ident $resume:ident $close:ident $release:ident $poll_all:ident $close_receiver:ident $held:ident) => {
         unsafe extern "C" {
             fn $register(t: *mut u64, tl: usize, r: *const u64, rl: usize, most: u64, words: *mut Words) -> u64;
             fn $send(t: *mut u64, tl: usize, r: *mut u64, rl: usize, slot: u64, generation: u64, item: u64, words: *mut Words) -> u64;
@@ -45,6 +47,7 @@ macro_rules! calls {
             fn $fair(t: *mut u64, tl: usize, r: *const u64, rl: usize, words: *mut Words) -> u64;
             fn $targeted(t: *mut u64, tl: usize, r: *const u64, rl: usize, channel: u64, slot: u64, generation: u64, opening: u64, words: *mut Words) -> u64;
             fn $batch(t: *mut u64, tl: usize, r: *const u64, rl: usize, out: *mut u64, ol: usize, limit: u64, words: *mut Words) -> u64;
+            fn $batch_while(t: *mut u64, tl: usize, r: *const u64, rl: usize, out: *mut u64, ol: usize, limit: u64, bound: u64, words: *mut Words) -> u64;
             fn $pause(t: *mut u64, tl: usize, r: *const u64, rl: usize, channel: u64, slot: u64, generation: u64, opening: u64, words: *mut Words) -> u64;
             fn $resume(t: *mut u64, tl: usize, r: *const u64, rl: usize, channel: u64, slot: u64, generation: u64, opening: u64, words: *mut Words) -> u64;
             fn $close(t: *mut u64, tl: usize, r: *const u64, rl: usize, channel: u64, slot: u64, generation: u64, opening: u64, words: *mut Words) -> u64;
@@ -63,6 +66,7 @@ macro_rules! calls {
             fair: $fair,
             targeted: $targeted,
             batch: $batch,
+            batch_while: $batch_while,
             pause: $pause,
             resume: $resume,
             close_lane: $close,
@@ -75,13 +79,13 @@ macro_rules! calls {
 }
 
 calls!(CHECKED: fanring_register_sender fanring_try_send fanring_try_send_unsignaled fanring_drop_sender fanring_try_recv fanring_try_recv_fair
-    fanring_try_recv_from fanring_try_recv_batch_into fanring_pause fanring_resume fanring_close_lane fanring_release_consumed
-    fanring_poll_all_lanes fanring_close_receiver fanring_held);
+    fanring_try_recv_from fanring_try_recv_batch_into fanring_try_recv_batch_into_while fanring_pause fanring_resume fanring_close_lane
+    fanring_release_consumed fanring_poll_all_lanes fanring_close_receiver fanring_held);
 
 calls!(INNER: fanring_inner_register_sender fanring_inner_try_send fanring_inner_try_send_unsignaled fanring_inner_drop_sender
-    fanring_inner_try_recv fanring_inner_try_recv_fair fanring_inner_try_recv_from fanring_inner_try_recv_batch_into fanring_inner_pause
-    fanring_inner_resume fanring_inner_close_lane fanring_inner_release_consumed fanring_inner_poll_all_lanes
-    fanring_inner_close_receiver fanring_inner_held);
+    fanring_inner_try_recv fanring_inner_try_recv_fair fanring_inner_try_recv_from fanring_inner_try_recv_batch_into
+    fanring_inner_try_recv_batch_into_while fanring_inner_pause fanring_inner_resume fanring_inner_close_lane fanring_inner_release_consumed
+    fanring_inner_poll_all_lanes fanring_inner_close_receiver fanring_inner_held);
 
 unsafe extern "C" {
     fn fanring_open(
@@ -121,6 +125,7 @@ impl Calls {
                 records::FAIR => (self.fair)(t, tl, r, rl, words),
                 records::TARGETED => (self.targeted)(t, tl, r, rl, a, b, c, d, words),
                 records::BATCH => (self.batch)(t, tl, r, rl, stores.output.as_mut_ptr(), stores.output.len(), a, words),
+                records::BATCH_WHILE => (self.batch_while)(t, tl, r, rl, stores.output.as_mut_ptr(), stores.output.len(), a, b, words),
                 records::PAUSE => (self.pause)(t, tl, r, rl, a, b, c, d, words),
                 records::RESUME => (self.resume)(t, tl, r, rl, a, b, c, d, words),
                 records::CLOSE => (self.close_lane)(t, tl, r, rl, a, b, c, d, words),
@@ -147,6 +152,7 @@ pub fn answer(tag: u64, words: &Words, output: &[u64]) -> Answer {
         6 => Answer::Disconnected,
         7 => Answer::Held(a),
         8 => Answer::Refused(a),
+        9 => Answer::Stopped(output[..a as usize].to_vec()),
         _ => panic!("no answer has tag {tag} and words {words:?}"),
     }
 }
