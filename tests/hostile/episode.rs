@@ -75,7 +75,7 @@ impl<'a> Episode<'a> {
             BATCH | BATCH_WHILE => {
                 let most = self.bench.output_length() as u64;
                 let limit = if self.random.one_in(8) { self.number() } else { self.random.below(most + 2) };
-                // Items are any numbers: half of all bounds are in the upper half, and the batch goes some items far.
+                // Items are any numbers: most bounds are in the upper half, so that a batch goes some items far.
                 let bound = if self.random.one_in(4) { self.number() } else { self.random.next() | self.random.pick(&[0, 1 << 63, 31 << 59]) };
                 Record::new(kind, &[limit, bound][..if kind == BATCH { 1 } else { 2 }])
             }
