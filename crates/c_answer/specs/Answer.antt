@@ -4,7 +4,7 @@ use mathlib.Core.List.{List}
 use Prim.Native.Nat.{ℕ}
 use lib.ListN.{set}
 use Rattle.model.specs.declared.Answer.{Answer}
-use Rattle.model.specs.declared.Answer.the-variants.{Done, Registered, Taken, Item, Items, Empty, Disconnected, Held, Refused}
+use Rattle.model.specs.declared.Answer.the-variants.{Done, Registered, Taken, Item, Items, Stopped, Empty, Disconnected, Held, Refused}
 use Rattle.model.specs.Answers.{bit, number}
 use Rattle.store.specs.Words.{Words}
 
@@ -15,6 +15,7 @@ tag (Registered k) = 1
 tag (Taken w f) = 2
 tag (Item v i) = 3
 tag (Items n) = 4
+tag (Stopped n) = 9
 tag Empty = 5
 tag Disconnected = 6
 tag (Held n) = 7
@@ -31,6 +32,8 @@ put (Taken w f) ws = set (set ws 0 (bit w)) 1 f
 put (Item v i) ws = set (set (set (set (set ws 0 v) 1 (i .channel .id)) 2 (i .key .slot)) 3 (i .key .generation)) 4 (i .channel .opening)
 -- "`items N`"; the N values are in the output
 put (Items n) ws = set ws 0 n
+-- "it answers the count and whether it stopped so" (document 02, N2): the count as of other batches, and that it stopped is the tag
+put (Stopped n) ws = set ws 0 n
 put Empty ws = ws
 put Disconnected ws = ws
 -- "`held N`; `refused N`", N of a refusal being the number in document 01's table

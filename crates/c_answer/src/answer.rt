@@ -47,6 +47,7 @@ pub fn tell(answer: Answer, words: &mut [u64; 8]) -> u64
         Answer::Taken { woken, free } => put_two(words, woken as u64, free, 2),
         Answer::Item { item, lane } => put_item(words, item, lane),
         Answer::Items { count } => put_one(words, count, 4),
+        Answer::Stopped { count } => put_one(words, count, 9),
         Answer::Empty => 5,
         Answer::Disconnected => 6,
         Answer::Held { count } => put_one(words, count, 7),

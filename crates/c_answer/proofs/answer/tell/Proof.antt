@@ -31,19 +31,23 @@ returns-5 c = tells (c .before .before .before .before .before .args .words .now
 
 returns-6 : tie.Need-returns-6
 unfolding tag put
-returns-6 c = tells (c .before .before .args .words .now) (c .enum-told2 .given .1) (refl, refl)
+returns-6 c = tells (c .before .before .before .before .before .args .words .now) (c .before .before .before .answer5 .given .1) (c .put-one2 .ensures)
 
 returns-7 : tie.Need-returns-7
 unfolding tag put
-returns-7 c = tells (c .before .before .args .words .now) (c .enum-told3 .given .1) (refl, refl)
+returns-7 c = tells (c .before .before .args .words .now) (c .enum-told2 .given .1) (refl, refl)
 
 returns-8 : tie.Need-returns-8
 unfolding tag put
-returns-8 c = tells (c .before .before .before .before .before .args .words .now) (c .before .before .before .answer5 .given .1) (c .put-one2 .ensures)
+returns-8 c = tells (c .before .before .args .words .now) (c .enum-told3 .given .1) (refl, refl)
 
 returns-9 : tie.Need-returns-9
 unfolding tag put
-returns-9 c = tells (c .before .before .before .before .before .before .args .words .now) (c .before .before .before .before .answer6 .given .1) (c .put-one3 .ensures .0, c .put-one3 .ensures .1 ∙ ap (λ (x : ℕ). set (c .before .before .before .before .before .before .args .words .now) 0 x) (c .before .number .ensures))
+returns-9 c = tells (c .before .before .before .before .before .args .words .now) (c .before .before .before .answer6 .given .1) (c .put-one3 .ensures)
+
+returns-10 : tie.Need-returns-10
+unfolding tag put
+returns-10 c = tells (c .before .before .before .before .before .before .args .words .now) (c .before .before .before .before .answer7 .given .1) (c .put-one4 .ensures .0, c .put-one4 .ensures .1 ∙ ap (λ (x : ℕ). set (c .before .before .before .before .before .before .args .words .now) 0 x) (c .before .number .ensures))
 
 pub tell-spec : {M : Type 1} → statement M
 tell-spec =
@@ -53,6 +57,8 @@ tell-spec =
     (λ c. search needs)
     (λ c κs. search needs)
     (λ c. search needs)
+    (λ c. search needs)
+    (λ c κs. search needs)
     (λ c. search needs)
     (λ c κs. search needs)
     (λ c. search needs)
@@ -74,4 +80,5 @@ tell-spec =
     returns-6
     returns-7
     returns-8
-    returns-9)
+    returns-9
+    returns-10)
