@@ -2,7 +2,7 @@
 -- Assumes nothing.
 use mathlib.Core.Path.{_≡_, refl}
 use mathlib.Core.List.{List, [], _∷_, _++_, map}
-use Rattle.model.specs.declared.ReceiveCall.the-variants.{TryRecv, TryRecvBatchInto}
+use Rattle.model.specs.declared.ReceiveCall.the-variants.{TryRecv, TryRecvBatchInto, TryRecvBatchIntoWhile}
 use Rattle.model.specs.declared.Call.the-variants.{Receive}
 use Rattle.wire_record.specs.declared.record.Record.the-variants.{Call}
 use Rattle.wire_record.specs.declared.record.Parsed.the-variants.{Incomplete, Malformed, Whole}
@@ -33,7 +33,7 @@ unfolding stream streamIn parse parseAs number
 stops-there = refl
 
 -- "a kind not listed", in its low and in its high byte, and "a length that is not its kind's"
-pub not-listed : parse (2 ∷ 0 ∷ 16 ∷ 0 ∷ []) ≡ Malformed
+pub not-listed : parse (2 ∷ 0 ∷ 17 ∷ 0 ∷ []) ≡ Malformed
 unfolding parse parseAs number
 not-listed = refl
 
@@ -61,6 +61,12 @@ pub without-number :
 unfolding parse parseAs number
 without-number = refl
 
+-- document 02, N2: "kind 16 (limit, bound)", so any number of fields but two is not its kind's: none, one and three
+pub other-length-while :
+    map parse ((2 ∷ 0 ∷ 16 ∷ 0 ∷ []) ∷ ((10 ∷ 0 ∷ 16 ∷ 0 ∷ []) ++ u64 4) ∷ ((26 ∷ 0 ∷ 16 ∷ 0 ∷ []) ++ u64 4 ++ u64 5 ++ u64 6) ∷ []) ≡ Malformed ∷ Malformed ∷ Malformed ∷ []
+unfolding parse parseAs number
+other-length-while = refl
+
 -- the beginning of a batch, and a batch with each byte of its limit another
 pub begun : parse (10 ∷ 0 ∷ 8 ∷ 0 ∷ 1 ∷ 0 ∷ 0 ∷ []) ≡ Incomplete
 unfolding parse parseAs number
@@ -69,3 +75,12 @@ begun = refl
 pub batch : parse (10 ∷ 0 ∷ 8 ∷ 0 ∷ 8 ∷ 7 ∷ 6 ∷ 5 ∷ 4 ∷ 3 ∷ 2 ∷ 1 ∷ 255 ∷ []) ≡ Whole (Call (Receive (TryRecvBatchInto 72623859790382856 64))) 12
 unfolding parse parseAs number
 batch = refl
+
+-- a batch with a bound whose bytes end inside the bound, and one with each byte of its bound another, and a byte after it
+pub begun-while : parse ((18 ∷ 0 ∷ 16 ∷ 0 ∷ []) ++ u64 4 ++ (5 ∷ 0 ∷ 0 ∷ [])) ≡ Incomplete
+unfolding parse parseAs number
+begun-while = refl
+
+pub batch-while : parse ((18 ∷ 0 ∷ 16 ∷ 0 ∷ []) ++ u64 4 ++ (8 ∷ 7 ∷ 6 ∷ 5 ∷ 4 ∷ 3 ∷ 2 ∷ 1 ∷ 255 ∷ [])) ≡ Whole (Call (Receive (TryRecvBatchIntoWhile 4 72623859790382856 64))) 20
+unfolding parse parseAs number
+batch-while = refl

@@ -29,7 +29,7 @@ room-for j {k} {l} e h = subst (λ (x : ℕ). size (fieldsOf x) ≤ l) e h
 pub said-as : (j : ℕ) {k : ℕ} (b : List ℕ) → k ≡ j → said k b ≡ said j b
 said-as j b e = ap (λ (x : ℕ). said x b) e
 
--- ---- a number is listed exactly if it is below 16
+-- ---- a number is listed exactly if it is below 17
 
 past-list : (l : List Kind) (k : ℕ) → length l ≤ k → getElem? l k ≡ none
 past-list [] k h = refl
@@ -44,7 +44,7 @@ in-list (x ∷ l) (suc k) h e = in-list l k (le-of-suc-le-suc h) e
 -- ---- the number of fields, as the code has it
 
 abbrev pub counts : List ℕ
-counts = 6 ∷ 1 ∷ 3 ∷ 3 ∷ 2 ∷ 0 ∷ 0 ∷ 4 ∷ 1 ∷ 4 ∷ 4 ∷ 4 ∷ 0 ∷ 0 ∷ 0 ∷ 0 ∷ []
+counts = 6 ∷ 1 ∷ 3 ∷ 3 ∷ 2 ∷ 0 ∷ 0 ∷ 4 ∷ 1 ∷ 4 ∷ 4 ∷ 4 ∷ 0 ∷ 0 ∷ 0 ∷ 0 ∷ 2 ∷ []
 
 abbrev fieldCounts : List Kind → List ℕ
 fieldCounts [] = []
@@ -98,7 +98,7 @@ module _ (b : List ℕ) where
     unfolding parse
     from-kind = simp (le-ltb _ _ h, ← ek)
 
-    pub parse-unlisted : 15 < k → Malformed ≡ parse b
+    pub parse-unlisted : 16 < k → Malformed ≡ parse b
     unfolding parseAs
     parse-unlisted l = sym (from-kind ∙ ap (λ (o : Option Kind). parseAs o b) (past-list kinds k l))
 
@@ -110,7 +110,7 @@ module _ (b : List ℕ) where
       unfolding fieldsOf
       parse-other-length f = other-length (getElem? kinds k) (λ e. f (el ∙ e ∙ sym (ap (λ (x : ℕ). 2 + 8 * x) en))) ∙ sym from-kind
 
-      pub parse-cut : k ≤ 15 → len ≡ 2 + 8 * n → length b < size n → Incomplete ≡ parse b
+      pub parse-cut : k ≤ 16 → len ≡ 2 + 8 * n → length b < size n → Incomplete ≡ parse b
       unfolding fieldsOf
       parse-cut l e c = cut-short (getElem? kinds k) (in-list kinds k (omega arith)) (own-length e) (subst (λ (x : ℕ). length b < size x) en c) ∙ sym from-kind
 

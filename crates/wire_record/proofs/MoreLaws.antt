@@ -46,9 +46,9 @@ id-by-fields b d f =
       key = record { slot = f 1 (omega arith) z; generation = f 2 (omega arith) z };
     }
 
--- kinds 12 to 15, 9 to 11, 5 to 8, and all
+-- kinds 12 to 16, 9 to 11, 5 to 8, and all
 last-by-fields : AllByFields (drop 12 kinds)
-last-by-fields = (λ b d f. refl, (λ b d f. refl, (λ b d f. refl, (λ b d f. refl, tt))))
+last-by-fields = (λ b d f. refl, (λ b d f. refl, (λ b d f. refl, (λ b d f. refl, (λ b d f. cc (f 0 (omega arith), f 1 (omega arith)), tt)))))
 
 controls-by-fields : AllByFields (drop 9 kinds)
 controls-by-fields = (

@@ -5,7 +5,7 @@ use Prim.Native.Nat.{ℕ}
 use Rattle.model.specs.declared.LaneKey.{LaneKey}
 use Rattle.model.specs.declared.LaneId.{LaneId}
 use Rattle.model.specs.declared.SenderCall.the-variants.{RegisterSender, TrySend, TrySendUnsignaled, DropSender}
-use Rattle.model.specs.declared.ReceiveCall.the-variants.{TryRecv, TryRecvFair, TryRecvFrom, TryRecvBatchInto}
+use Rattle.model.specs.declared.ReceiveCall.the-variants.{TryRecv, TryRecvFair, TryRecvFrom, TryRecvBatchInto, TryRecvBatchIntoWhile}
 use Rattle.model.specs.declared.ControlCall.the-variants.{Pause, Resume, CloseLane, ReleaseConsumed, PollAllLanes, CloseReceiver, CountHeld}
 use Rattle.model.specs.declared.Call.the-variants.{Sender, Receive, Control}
 use Rattle.wire_record.specs.declared.record.Record.{Record}
@@ -40,7 +40,7 @@ sevenRecords =
     ∷ Call (Receive TryRecv)
     ∷ []
 
--- a record of each kind in turn, 0 to 15, each field another number where there are several: "0 open (capacity, S, channel, cursor, generation), 1 register (most), 2 send, 3 unsignalled (slot, generation, item), [..]", with "the number as a last field" of kinds 0, 7, 9, 10 and 11
+-- a record of each kind in turn, 0 to 16, each field another number where there are several: "0 open (capacity, S, channel, cursor, generation), 1 register (most), 2 send, 3 unsignalled (slot, generation, item), [..]", with "the number as a last field" of kinds 0, 7, 9, 10 and 11
 abbrev pub eachKindBytes : List ℕ
 eachKindBytes =
     (50 ∷ 0 ∷ 0 ∷ 0 ∷ []) ++ u64 4 ++ u64 2 ++ u64 7 ++ u64 9 ++ u64 3 ++ u64 8
@@ -59,6 +59,7 @@ eachKindBytes =
     ++ (2 ∷ 0 ∷ 13 ∷ 0 ∷ [])
     ++ (2 ∷ 0 ∷ 14 ∷ 0 ∷ [])
     ++ (2 ∷ 0 ∷ 15 ∷ 0 ∷ [])
+    ++ (18 ∷ 0 ∷ 16 ∷ 0 ∷ []) ++ u64 4 ++ u64 5
 
 abbrev pub eachKindRecords : List Record
 eachKindRecords =
@@ -78,6 +79,7 @@ eachKindRecords =
     ∷ Call (Control PollAllLanes)
     ∷ Call (Control CloseReceiver)
     ∷ Call (Control CountHeld)
+    ∷ Call (Receive (TryRecvBatchIntoWhile 4 5 64))
     ∷ []
   where
     lane : LaneKey

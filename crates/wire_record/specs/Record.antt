@@ -10,7 +10,7 @@ use Rattle.model.specs.declared.LaneKey.{LaneKey}
 use Rattle.model.specs.declared.LaneId.{LaneId}
 use Rattle.model.specs.declared.Opening.{Opening}
 use Rattle.model.specs.declared.SenderCall.the-variants.{RegisterSender, TrySend, TrySendUnsignaled, DropSender}
-use Rattle.model.specs.declared.ReceiveCall.the-variants.{TryRecv, TryRecvFair, TryRecvFrom, TryRecvBatchInto}
+use Rattle.model.specs.declared.ReceiveCall.the-variants.{TryRecv, TryRecvFair, TryRecvFrom, TryRecvBatchInto, TryRecvBatchIntoWhile}
 use Rattle.model.specs.declared.ControlCall.the-variants.{Pause, Resume, CloseLane, ReleaseConsumed, PollAllLanes, CloseReceiver, CountHeld}
 use Rattle.model.specs.declared.Call.the-variants.{Sender, Receive, Control}
 use Rattle.wire_record.specs.declared.record.Record.{Record}
@@ -50,7 +50,7 @@ pub record Kind : Type 0 where
 
 -- "Kinds: 0 open (..), 1 register (most), 2 send, 3 unsignalled (slot, generation, item), 4 drop (slot, generation), 5 plain, 6 fair, 7 targeted (channel, slot, generation), 8 batch (limit),
 -- 9 pause, 10 resume, 11 close (as 7), 12 release, 13 poll all, 14 close receiver, 15 held." Document 02, N7: "kind 0 and kinds 7, 9, 10 and 11 get the number as
--- a last field".
+-- a last field"; N2: "kind 16 (limit, bound)".
 abbrev pub kinds : List Kind
 kinds =
     record { fields = 6; says = λ (b : List ℕ). Open (opening b) }
@@ -69,6 +69,7 @@ kinds =
     ∷ record { fields = 0; says = λ (b : List ℕ). Call (Control PollAllLanes) }
     ∷ record { fields = 0; says = λ (b : List ℕ). Call (Control CloseReceiver) }
     ∷ record { fields = 0; says = λ (b : List ℕ). Call (Control CountHeld) }
+    ∷ record { fields = 2; says = λ (b : List ℕ). Call (Receive (TryRecvBatchIntoWhile (field b 0) (field b 1) room)) }
     ∷ []
 
 -- the fields of an opening; no kind has more

@@ -30,7 +30,7 @@ pub enum Parsed {
 }
 
 // How many u64 fields a record has, by its kind.
-const FIELDS: [u64; 16] = [6, 1, 3, 3, 2, 0, 0, 4, 1, 4, 4, 4, 0, 0, 0, 0];
+const FIELDS: [u64; 17] = [6, 1, 3, 3, 2, 0, 0, 4, 1, 4, 4, 4, 0, 0, 0, 0, 2];
 
 // The room of the output that the replay program lends to a batch.
 const ROOM: u64 = 64;
@@ -135,6 +135,18 @@ fn receive_call(b: &[u8], kind: u64) -> ReceiveCall
     }
 }
 
+// Kind 16 stands behind the calls that hand nothing out.
+fn batch_while(b: &[u8]) -> ReceiveCall
+    requires { ⌜ size (fieldsOf 16) ≤ length (now b) ⌝ }
+    ensures { λ r. ⌜ said 16 (now (b .entry)) ≡ some (Record.Call (Call.Receive r)) ⌝ }
+{
+    ReceiveCall::TryRecvBatchIntoWhile {
+        limit: field(b, 0),
+        bound: field(b, 1),
+        room: ROOM,
+    }
+}
+
 fn control_call(b: &[u8], kind: u64) -> ControlCall
     requires { ⌜ (9 ≤ kind) × (kind ≤ 15) × (size (fieldsOf kind) ≤ length (now b)) ⌝ }
     ensures { λ r. ⌜ said kind (now (b .entry)) ≡ some (Record.Call (Call.Control r)) ⌝ }
@@ -151,7 +163,7 @@ fn control_call(b: &[u8], kind: u64) -> ControlCall
 }
 
 fn record_of(b: &[u8], kind: u64) -> Record
-    requires { ⌜ (kind ≤ 15) × (size (fieldsOf kind) ≤ length (now b)) ⌝ }
+    requires { ⌜ (kind ≤ 16) × (size (fieldsOf kind) ≤ length (now b)) ⌝ }
     ensures { λ r. ⌜ said kind (now (b .entry)) ≡ some r ⌝ }
 {
     match kind {
@@ -164,14 +176,17 @@ fn record_of(b: &[u8], kind: u64) -> Record
         5..=8 => Record::Call {
             call: Call::Receive(receive_call(b, kind)),
         },
-        _ => Record::Call {
+        9..=15 => Record::Call {
             call: Call::Control(control_call(b, kind)),
+        },
+        _ => Record::Call {
+            call: Call::Receive(batch_while(b)),
         },
     }
 }
 
 fn fields_of(kind: u64) -> u64
-    requires { ⌜ kind < 16 ⌝ }
+    requires { ⌜ kind < 17 ⌝ }
     ensures { λ r. ⌜ (r ≡ fieldsOf kind) × (r ≤ mostFields) ⌝ }
 {
     FIELDS[kind as usize]
@@ -185,7 +200,7 @@ pub fn parse(b: &[u8]) -> Parsed
         return Parsed::Incomplete;
     }
     let kind = u16_at(b, 2);
-    if kind > 15 {
+    if kind > 16 {
         return Parsed::Malformed;
     }
     let fields = fields_of(kind);

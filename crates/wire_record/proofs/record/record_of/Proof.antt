@@ -16,6 +16,12 @@ returns : tie.Need-returns
 unfolding fieldsOf said
 returns c = said-as 0 _ (c .before .match .keys1) ∙ cc
 
+batch-while-requires : tie.Need-batch-while-requires
+batch-while-requires c κs = room-for 16 {k = c .before .before .before .before .before .args .kind} (omega arith) (c .before .before .before .before .before .pre .1)
+
+returns-5 : tie.Need-returns-5
+returns-5 c = said-as 16 {k = c .before .before .before .before .before .before .args .kind} _ (omega arith) ∙ c .batch-while .ensures
+
 pub record-of-spec : {M : Type 1} → statement M
 record-of-spec =
     tie.close
@@ -24,7 +30,9 @@ record-of-spec =
     (λ c κs. search needs)
     (λ c κs. search needs)
     (λ c κs. search needs)
+    batch-while-requires
     returns
     (λ c. search needs)
     (λ c. search needs)
-    (λ c. search needs))
+    (λ c. search needs)
+    returns-5)
