@@ -4,7 +4,7 @@ use mathlib.Core.Path.{_≡_, refl}
 use mathlib.Core.Bool.{false}
 use mathlib.Core.List.{[], _∷_}
 use Rattle.model.specs.Answers.{line, number}
-use Rattle.model.specs.declared.Answer.the-variants.{Taken, Items, Held, Refused}
+use Rattle.model.specs.declared.Answer.the-variants.{Taken, Items, Stopped, Held, Refused}
 use Rattle.model.specs.declared.Refusal.the-variants as Refusal
 use Rattle.wire_line.specs.Text.{codes, digitsIn, digits, decimal, spaced}
 use Rattle.wire_line.specs.Examples.{sevenAnswers, texts}
@@ -18,3 +18,8 @@ seven-lines = refl
 pub other-lines : texts (Items 2 ∷ Items 0 ∷ Held 1203 ∷ Refused Refusal.Malformed ∷ Taken false 65535 ∷ []) (100 ∷ 9 ∷ 7 ∷ []) ≡ codes "items 2 100 9\nitems 0\nheld 1203\nrefused 15\ntaken 0 65535\n"
 unfolding line number spaced decimal digits digitsIn
 other-lines = refl
+
+-- document 02, N2: "the line `items N` followed by the items and `stopped` where it was", beside a batch that was not; a stop at count 0 has no item
+pub stopped-lines : texts (Stopped 2 ∷ Items 2 ∷ Stopped 0 ∷ Items 0 ∷ []) (21 ∷ 22 ∷ 7 ∷ []) ≡ codes "items 2 21 22 stopped\nitems 2 21 22\nitems 0 stopped\nitems 0\n"
+unfolding line spaced decimal digits digitsIn
+stopped-lines = refl

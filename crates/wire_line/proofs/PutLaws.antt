@@ -8,7 +8,9 @@ use native.Mathlib.Omega.{arith}
 use lib.ListN.{length, getD, set, take, drop, length-append, length-drop, length-set}
 use lib.Seq.{sets, take-suc, take-length, take-all}
 use Rattle.model.specs.declared.Answer.{Answer}
-use Rattle.wire_line.specs.Text.{Puts, spaced, decimal, codes, answerText}
+use Rattle.model.specs.declared.Answer.the-variants.{Stopped}
+use Rattle.model.specs.Answers.{stopped, line}
+use Rattle.wire_line.specs.Text.{Puts, spaced, decimal, codes, ending, answerText}
 
 sets-append : (t : List ℕ) (a : ℕ) (s v : List ℕ) → sets (sets t a s) (a + length s) v ≡ sets t a (s ++ v)
 sets-append t a [] v = let e : a + 0 ≡ a = omega arith in ap (λ (i : ℕ). sets t i v) e
@@ -96,16 +98,21 @@ numbers-end l i p e = puts-as (ap spaced (ap (λ (j : ℕ). take j l) e ∙ take
 
 -- ---- whole lines
 
-pub line-put : {t u v x word : List ℕ} {a b c d : ℕ} (l : List ℕ) → Puts t a word u b → Puts u b (spaced l) v c → Puts v c (codes "\n") x d → Puts t a (word ++ spaced l ++ codes "\n") x d
+pub line-put : {t u v x word ending : List ℕ} {a b c d : ℕ} (l : List ℕ) → Puts t a word u b → Puts u b (spaced l) v c → Puts v c ending x d → Puts t a (word ++ spaced l ++ ending) x d
 line-put l p q r = puts-then (puts-then p q) r
 
-pub items-put : {t u v w x word : List ℕ} {a b c d e : ℕ} (k : ℕ) {l m : List ℕ} → Puts t a word u b → Puts u b (spaced (k ∷ [])) v c → Puts v c (spaced l) w d → l ≡ m → Puts w d (codes "\n") x e
-    → Puts t a (word ++ spaced (k ∷ m) ++ codes "\n") x e
+pub items-put : {t u v w x word ending : List ℕ} {a b c d e : ℕ} (k : ℕ) {l m : List ℕ} → Puts t a word u b → Puts u b (spaced (k ∷ [])) v c → Puts v c (spaced l) w d → l ≡ m → Puts w d ending x e
+    → Puts t a (word ++ spaced (k ∷ m) ++ ending) x e
 items-put k {m = m} p q r e s = line-put (k ∷ m) p (puts-as (spaced-append (k ∷ []) m) (puts-then q (puts-as (ap spaced e) r))) s
 
 -- a line whose one number is known by another name
 pub line-with : {t u : List ℕ} {a b : ℕ} (word : List ℕ) {m n : ℕ} → m ≡ n → Puts t a (word ++ spaced (m ∷ []) ++ codes "\n") u b → Puts t a (word ++ spaced (n ∷ []) ++ codes "\n") u b
 line-with word e p = puts-as (ap (λ (k : ℕ). word ++ spaced (k ∷ []) ++ codes "\n") e) p
+
+-- the line of a batch that stopped; its ending is an equation of its own, so that an edit that puts another is one that is false
+pub stopped-line : {t u e : List ℕ} {a b : ℕ} (n : ℕ) (out : List ℕ) → Puts t a (codes "items" ++ spaced (n ∷ take n out) ++ e) u b → e ≡ ending (stopped ∷ []) → Puts t a (answerText (Stopped n) out) u b
+unfolding line
+stopped-line n out p q = puts-as (ap (λ (l : List ℕ). codes "items" ++ spaced (n ∷ take n out) ++ l) q) p
 
 -- the line of an answer that is known
 pub line-of : {t u : List ℕ} {a b : ℕ} (out : List ℕ) {x y : Answer} → x ≡ y → Puts t a (answerText y out) u b → Puts t a (answerText x out) u b

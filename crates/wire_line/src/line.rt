@@ -1,4 +1,4 @@
-// Writes document 01's line of an answer: its word, its numbers in decimal with a space before each, and a line end.
+// Writes document 01's line of an answer: its word, its numbers in decimal with a space before each, `stopped` of a batch that stopped, and a line end.
 ghost use mathlib.Core.List.{_∷_, [], _++_};
 ghost use mathlib.Core.Path.{_≡_};
 ghost use Prim.Native.Nat.{_+_, _*_, _<_, _≤_};
@@ -10,7 +10,7 @@ use model::LaneId;
 use model::LaneKey;
 
 // What the longest line takes: `longest`.
-pub const LONGEST: usize = 5 + 65 * 21 + 1;
+pub const LONGEST: usize = 5 + 65 * 21 + 8 + 1;
 
 fn last_digit(n: u64) -> u8
     ensures { λ r. ⌜ r ≡ lastDigit n ⌝ }
@@ -126,15 +126,16 @@ fn items_in(out: &[u64], count: u64) -> usize
     }
 }
 
-fn put_items(text: &mut [u8], at: usize, count: u64, out: &[u64]) -> usize
-    requires { ⌜ (length (now out) ≤ 64) × (at + longest ≤ length (now text)) ⌝ }
-    ensures { λ r. ⌜ Puts (now (text .entry)) at (answerText (Answer.Items count) (now (out .entry))) (now (text .exit)) r × (r ≤ at + longest) ⌝ }
+// Puts the line of a batch, which ends with a line end alone or with `stopped` before it.
+fn put_items(text: &mut [u8], at: usize, count: u64, out: &[u64], ending: &[u8]) -> usize
+    requires { ⌜ (length (now out) ≤ 64) × (length (now ending) ≤ 9) × (at + longest ≤ length (now text)) ⌝ }
+    ensures { λ r. ⌜ Puts (now (text .entry)) at (codes "items" ++ spaced (count ∷ take count (now (out .entry))) ++ now (ending .entry)) (now (text .exit)) r × (r ≤ at + longest) ⌝ }
 {
     let start = put(text, at, b"items");
     let middle = put_number(text, start, count);
     let n = items_in(out, count);
     let end = put_numbers(text, middle, &out[..n]);
-    put(text, end, b"\n")
+    put(text, end, ending)
 }
 
 fn bit_of(woken: bool) -> u64
@@ -154,7 +155,8 @@ pub fn put_line(text: &mut [u8], at: usize, answer: Answer, out: &[u64]) -> usiz
         Answer::Registered { key } => put_lane(text, at, key),
         Answer::Taken { woken, free } => put_taken(text, at, woken, free),
         Answer::Item { item, lane } => put_item(text, at, item, lane),
-        Answer::Items { count } => put_items(text, at, count, out),
+        Answer::Items { count } => put_items(text, at, count, out, b"\n"),
+        Answer::Stopped { count } => put_items(text, at, count, out, b" stopped\n"),
         Answer::Empty => put(text, at, b"empty\n"),
         Answer::Disconnected => put(text, at, b"disconnected\n"),
         Answer::Held { count } => put_one(text, at, b"held", count),

@@ -1,6 +1,5 @@
 -- `wire_line::line::put_items` meets its contract.
 -- Assumes nothing.
-use Rattle.model.specs.Answers.{line}
 use native.Mathlib.Omega.{arith}
 use mathlib.Core.Path.{sym}
 use lib.Seq.{length-take-le}
@@ -13,16 +12,15 @@ slice-aggregate-put-numbers : tie.Need-slice-aggregate-put-numbers
 slice-aggregate-put-numbers c = sym (length-take-le _ _ (c .before .before .items-in .ensures .0))
 
 put-numbers-requires : tie.Need-put-numbers-requires
-put-numbers-requires c κs = omega (arith, length-take-le (c .before .before .items-in .result) (c .before .before .before .before .before .before .before .before .before .before .before .before .before .before .args .out .now) (c .before .before .items-in .ensures .0), c .before .before .items-in .ensures .0, c .before .before .before .before .before .put-number .ensures .1, c .before .before .before .before .before .put-number .ensures .0 .long, c .before .before .before .before .before .before .before .before .before .put .ensures .end, c .before .before .before .before .before .before .before .before .before .put .ensures .long)
+put-numbers-requires c κs = omega (arith, length-take-le (c .before .before .items-in .result) (c .before .before .before .before .before .before .before .before .before .before .before .before .before .before .before .args .out .now) (c .before .before .items-in .ensures .0), c .before .before .items-in .ensures .0, c .before .before .before .before .before .put-number .ensures .1, c .before .before .before .before .before .put-number .ensures .0 .long, c .before .before .before .before .before .before .before .before .before .put .ensures .end, c .before .before .before .before .before .before .before .before .before .put .ensures .long)
 
 put-requires-2 : tie.Need-put-requires-2
-put-requires-2 c κs = omega (arith, length-take-le (c .before .before .before .before .before .before .before .items-in .result) (c .before .before .before .before .before .before .before .before .before .before .before .before .before .before .before .before .before .before .before .args .out .now) (c .before .before .before .before .before .before .before .items-in .ensures .0), c .before .before .before .before .before .before .before .items-in .ensures .0, c .before .before .before .before .put-numbers .ensures .1, c .before .before .before .before .put-numbers .ensures .0 .long, c .before .before .before .before .before .before .before .before .before .before .put-number .ensures .1, c .before .before .before .before .before .before .before .before .before .before .put-number .ensures .0 .long, c .before .before .before .before .before .before .before .before .before .before .before .before .before .before .put .ensures .end, c .before .before .before .before .before .before .before .before .before .before .before .before .before .before .put .ensures .long)
+put-requires-2 c κs = omega (arith, length-take-le (c .before .before .before .before .before .before .items-in .result) (c .before .before .before .before .before .before .before .before .before .before .before .before .before .before .before .before .before .before .before .args .out .now) (c .before .before .before .before .before .before .items-in .ensures .0), c .before .before .before .before .before .before .items-in .ensures .0, c .before .before .before .put-numbers .ensures .1, c .before .before .before .put-numbers .ensures .0 .long, c .before .before .before .before .before .before .before .before .before .put-number .ensures .1, c .before .before .before .before .before .before .before .before .before .put-number .ensures .0 .long, c .before .before .before .before .before .before .before .before .before .before .before .before .before .put .ensures .end, c .before .before .before .before .before .before .before .before .before .before .before .before .before .put .ensures .long)
 
 returns : tie.Need-returns
-unfolding line
 returns c = (
-  items-put _ (c .before .before .before .before .before .before .before .before .before .before .before .before .before .before .before .before .before .put .ensures) (c .before .before .before .before .before .before .before .before .before .before .before .before .before .put-number .ensures .0) (c .before .before .before .before .before .before .before .put-numbers .ensures .0) (c .before .before .before .before .before .before .before .before .before .before .items-in .ensures .1) (c .before .before .put2 .ensures),
-  omega (arith, length-take-le (c .before .before .before .before .before .before .before .before .before .before .items-in .result) (c .before .before .before .before .before .before .before .before .before .before .before .before .before .before .before .before .before .before .before .before .before .before .args .out .now) (c .before .before .before .before .before .before .before .before .before .before .items-in .ensures .0), c .before .before .before .before .before .before .before .before .before .before .items-in .ensures .0, c .before .before .before .before .before .before .before .put-numbers .ensures .1, c .before .before .before .before .before .before .before .before .before .before .before .before .before .put-number .ensures .1, c .before .before .before .before .before .before .before .before .before .before .before .before .before .before .before .before .before .put .ensures .end, c .before .before .put2 .ensures .end),
+  items-put _ (c .before .before .before .before .before .before .before .before .before .before .before .before .before .before .before .before .put .ensures) (c .before .before .before .before .before .before .before .before .before .before .before .before .put-number .ensures .0) (c .before .before .before .before .before .before .put-numbers .ensures .0) (c .before .before .before .before .before .before .before .before .before .items-in .ensures .1) (c .before .before .put2 .ensures),
+  omega (arith, length-take-le (c .before .before .before .before .before .before .before .before .before .items-in .result) (c .before .before .before .before .before .before .before .before .before .before .before .before .before .before .before .before .before .before .before .before .before .before .args .out .now) (c .before .before .before .before .before .before .before .before .before .items-in .ensures .0), c .before .before .before .before .before .before .before .before .before .items-in .ensures .0, c .before .before .before .before .before .before .put-numbers .ensures .1, c .before .before .before .before .before .before .before .before .before .before .before .before .put-number .ensures .1, c .before .before .before .before .before .before .before .before .before .before .before .before .before .before .before .before .put .ensures .end, c .before .before .put2 .ensures .end),
 )
 
 pub put-items-spec : {M : Type 1} → statement M
@@ -35,7 +33,6 @@ put-items-spec =
     (λ c κs. search needs)
     slice-aggregate-put-numbers
     put-numbers-requires
-    (λ c. search needs)
     put-requires-2
     (λ c. search needs)
     returns)

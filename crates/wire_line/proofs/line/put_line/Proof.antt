@@ -1,9 +1,10 @@
 -- `wire_line::line::put_line` meets its contract.
 -- Assumes nothing.
+use mathlib.Core.Path.{refl}
 use Rattle.model.specs.Answers.{line}
 use native.Mathlib.Omega.{arith}
 use Rattle.wire_line.specs.Text.{codes, spaced}
-use Rattle.wire_line.proofs.PutLaws.{line-with, line-of}
+use Rattle.wire_line.proofs.PutLaws.{line-with, stopped-line, line-of}
 use borrow.Author.Needs.{needs}
 use Rattle.wire_line.proofs.line.put_line.Statement.{statement}
 use Rattle.wire_line.proofs.line.put_line.Tie as tie
@@ -26,23 +27,27 @@ returns-4 c = (line-of (c .before .before .before .before .before .before .befor
 
 returns-5 : tie.Need-returns-5
 unfolding line spaced
-returns-5 c = (line-of (c .before .before .before .before .before .before .before .before .before .args .out .now) (c .before .before .before .before .before .answer4 .given .1) (c .before .before .put-items .ensures .0), c .before .before .put-items .ensures .1)
+returns-5 c = (line-of (c .before .before .before .before .before .before .before .before .before .before .args .out .now) (c .before .before .before .before .before .before .answer4 .given .1) (c .before .before .put-items .ensures .0), c .before .before .put-items .ensures .1)
 
 returns-6 : tie.Need-returns-6
 unfolding line spaced
-returns-6 c = (line-of (c .before .before .before .before .before .before .before .before .before .args .out .now) (c .before .before .before .before .before .enum-told2 .given .1) (c .before .before .put2 .ensures), omega (arith, c .before .before .put2 .ensures .end))
+returns-6 c = (line-of (c .before .before .before .before .before .before .before .before .before .before .args .out .now) (c .before .before .before .before .before .before .answer5 .given .1) (stopped-line _ (c .before .before .before .before .before .before .before .before .before .before .args .out .now) (c .before .before .put-items2 .ensures .0) refl), c .before .before .put-items2 .ensures .1)
 
 returns-7 : tie.Need-returns-7
 unfolding line spaced
-returns-7 c = (line-of (c .before .before .before .before .before .before .before .before .before .args .out .now) (c .before .before .before .before .before .enum-told3 .given .1) (c .before .before .put3 .ensures), omega (arith, c .before .before .put3 .ensures .end))
+returns-7 c = (line-of (c .before .before .before .before .before .before .before .before .before .args .out .now) (c .before .before .before .before .before .enum-told2 .given .1) (c .before .before .put2 .ensures), omega (arith, c .before .before .put2 .ensures .end))
 
 returns-8 : tie.Need-returns-8
 unfolding line spaced
-returns-8 c = (line-of (c .before .before .before .before .before .before .before .before .before .before .args .out .now) (c .before .before .before .before .before .before .answer5 .given .1) (c .before .before .put-one .ensures .0), omega (arith, c .before .before .put-one .ensures .1))
+returns-8 c = (line-of (c .before .before .before .before .before .before .before .before .before .args .out .now) (c .before .before .before .before .before .enum-told3 .given .1) (c .before .before .put3 .ensures), omega (arith, c .before .before .put3 .ensures .end))
 
 returns-9 : tie.Need-returns-9
 unfolding line spaced
-returns-9 c = (line-of (c .before .before .before .before .before .before .before .before .before .before .before .args .out .now) (c .before .before .before .before .before .before .before .answer6 .given .1) (line-with (codes "refused") (c .before .before .before .number .ensures) (c .before .before .put-one2 .ensures .0)), omega (arith, c .before .before .put-one2 .ensures .1))
+returns-9 c = (line-of (c .before .before .before .before .before .before .before .before .before .before .args .out .now) (c .before .before .before .before .before .before .answer6 .given .1) (c .before .before .put-one .ensures .0), omega (arith, c .before .before .put-one .ensures .1))
+
+returns-10 : tie.Need-returns-10
+unfolding line spaced
+returns-10 c = (line-of (c .before .before .before .before .before .before .before .before .before .before .before .args .out .now) (c .before .before .before .before .before .before .before .answer7 .given .1) (line-with (codes "refused") (c .before .before .before .number .ensures) (c .before .before .put-one2 .ensures .0)), omega (arith, c .before .before .put-one2 .ensures .1))
 
 pub put-line-spec : {M : Type 1} → statement M
 put-line-spec =
@@ -57,6 +62,10 @@ put-line-spec =
     (λ c κs. search needs)
     (λ c. search needs)
     (λ c κs. search needs)
+    (λ c. search needs)
+    (λ c. search needs)
+    (λ c κs. search needs)
+    (λ c. search needs)
     (λ c. search needs)
     (λ c κs. search needs)
     (λ c. search needs)
@@ -89,4 +98,6 @@ put-line-spec =
     (λ c. search needs)
     returns-8
     (λ c. search needs)
-    returns-9)
+    returns-9
+    (λ c. search needs)
+    returns-10)
