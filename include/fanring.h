@@ -43,10 +43,11 @@
 
    SLEEP. No call waits. A send that finds its lane's signal idle answers woken 1: wake the receiver if it sleeps, and do nothing else.
    To look is to make a plain receive, a fair one or a batch of a limit other than 0. A receiver may sleep after a look that answered FANRING_EMPTY or
-   FANRING_DISCONNECTED, and after a batch that answered fewer items than its limit. From such an answer on, while no calls but sender calls and held are
-   made, the first fanring_try_send that is taken, to a lane that is not paused, answers woken 1.
-   It may not sleep after a single item, a batch that reached its limit, a batch of limit 0 or a targeted receive: a lane may still be pending, and then
-   its sends answer woken 0 until its ring is full. After the receiver's other calls it looks again first; made while it sleeps, they are to wake it.
+   FANRING_DISCONNECTED, and after a batch that answered FANRING_ITEMS with fewer than its limit. From such an answer on, while no calls but sender calls and
+   held are made, the first fanring_try_send that is taken, to a lane that is not paused, answers woken 1.
+   It may not sleep after a single item, a batch that reached its limit, a batch that stopped (FANRING_STOPPED), a batch of limit 0 or a targeted receive: a
+   lane may still be pending, and then its sends answer woken 0 until its ring is full. After a stop one is: the item in front of which the batch stopped
+   waits in it. After the receiver's other calls it looks again first; made while it sleeps, they are to wake it.
    A drop, an unsignalled send and a send that is refused wake nobody. A drop is seen at the latest by a look that finds nothing, so wake the receiver
    after it. Unsignalled sends may fill a ring while the receiver sleeps; ordinary ones are then refused 11, so wake it there too. Nor does a batch tell
    that its items were the last: FANRING_DISCONNECTED comes with the look after it, for which nobody is woken. Once all senders are dropped, look until it
@@ -62,6 +63,11 @@
    refused 11. It is C less the items in the ring and the items handed out whose credit has not gone back, so a receive does not always raise it. Whatever
    calls come between, an opening aside, no send to the lane is refused 11 before so many more were taken; nor after its registration before C were. So one is
    refused 11 only where the last one taken answered 0, and a sender can slow down before that: examples/c/belt.c.
+
+   MARKS. A mark is an item above any sample, as of a technician's button for lights-out. A host that is to act between the samples before a mark and those
+   after it receives by fanring_try_recv_batch_into_while, with a bound that the mark is above and no sample is: the batch stops in front of the mark. A plain
+   or fair receive then hands it out, with its lane's id, and batches go on behind it (examples/c/first.c). It parts the items of its own lane alone: between
+   lanes no order is kept. Until the mark is taken, or its lane paused or closed, each such batch stops there, and the other lanes wait: so take it soon.
 
    WHAT EVERY CALL RELIES ON. Each pointer is to as many words as its length says, `words` to FANRING_WORDS, aligned as uint64_t is; it is not NULL, also
    where the length is 0. `table`, `rings`, `out` and `words` do not overlap. Nothing else uses them during the call: one call at a time on a pair of
@@ -103,7 +109,8 @@ enum fanring_tag {
     FANRING_EMPTY = 5,        /* no words */
     FANRING_DISCONNECTED = 6, /* no words */
     FANRING_HELD = 7,         /* count */
-    FANRING_REFUSED = 8       /* the refusal's number */
+    FANRING_REFUSED = 8,      /* the refusal's number */
+    FANRING_STOPPED = 9       /* count, 0 too; the items are in the output, and the next one is above the bound */
 };
 
 /* The refusals' numbers; the first that applies is given, in this order. */
@@ -185,6 +192,19 @@ uint64_t fanring_try_recv_batch_into(
     uint64_t *table, size_t table_len, const uint64_t *rings, size_t rings_len, uint64_t *out, size_t out_len,
     uint64_t limit, uint64_t words[FANRING_WORDS]);
 
+/* Receives items as fanring_try_recv_batch_into does, but admits only those that are at most `bound`: below its limit it stops in front of the first item
+   above the bound. That item stays where it is, the oldest of its lane, and the lane stays in front with what is left of its turn: with no other call
+   between, a plain or fair receive hands out this item, and this call with the same bound and a limit other than 0 stops again, at count 0. Stopped or not,
+   every lane then gives back its credit. (In the original a closure admits items, and Ok(0) is a stop at count 0.)
+   Answers FANRING_STOPPED with words[0] the count of items, 0 and up, if it stopped. If it did not, answers as fanring_try_recv_batch_into: FANRING_ITEMS
+   with words[0] their count; FANRING_EMPTY or FANRING_DISCONNECTED if there was no item, admitted or not, but 0 items if the limit is 0. At its limit a
+   batch has not stopped, whatever item is next. A stop at count 0 is never FANRING_EMPTY nor FANRING_DISCONNECTED, whether a sender lives or not, and unlike
+   these it retires no empty paused lane. After a stop the receiver must not sleep (SLEEP, above). Or refused 5, 6, 14: 14 if out is shorter than the limit,
+   however many items would be admitted. The rest of out is as it was. */
+uint64_t fanring_try_recv_batch_into_while(
+    uint64_t *table, size_t table_len, const uint64_t *rings, size_t rings_len, uint64_t *out, size_t out_len,
+    uint64_t limit, uint64_t bound, uint64_t words[FANRING_WORDS]);
+
 /* Takes the lane with this id out of all receives but targeted ones; its credit goes back. While no sender lives and a paused lane has items, plain, fair
    and non-zero batch receives that have no item answer FANRING_EMPTY and not FANRING_DISCONNECTED, until that lane is resumed, closed or emptied by
    targeted ones. Answers FANRING_DONE; or refused 5, 6, 13. */
@@ -260,6 +280,13 @@ uint64_t fanring_inner_try_recv_from(
 uint64_t fanring_inner_try_recv_batch_into(
     uint64_t *table, size_t table_len, const uint64_t *rings, size_t rings_len, uint64_t *out, size_t out_len,
     uint64_t limit, uint64_t words[FANRING_WORDS]);
+
+/* Premise: the stores are in order. As fanring_try_recv_batch_into_while: receives items that are at most the bound into out, and below its limit stops in
+   front of the first one above it; the receiver must not sleep after a stop. Answers FANRING_STOPPED, FANRING_ITEMS, FANRING_EMPTY, FANRING_DISCONNECTED;
+   or refused 6, 14. */
+uint64_t fanring_inner_try_recv_batch_into_while(
+    uint64_t *table, size_t table_len, const uint64_t *rings, size_t rings_len, uint64_t *out, size_t out_len,
+    uint64_t limit, uint64_t bound, uint64_t words[FANRING_WORDS]);
 
 /* Premise: the stores are in order. As fanring_pause: takes the lane with this id out of all receives but targeted ones. Answers FANRING_DONE;
    or refused 6, 13. */
