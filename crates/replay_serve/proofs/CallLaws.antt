@@ -8,7 +8,7 @@ use lib.ListN.{length}
 use Rattle.model.specs.declared.Opening.{Opening}
 use Rattle.model.specs.declared.SenderCall.{SenderCall}
 use Rattle.model.specs.declared.ReceiveCall.{ReceiveCall}
-use Rattle.model.specs.declared.ReceiveCall.the-variants.{TryRecv, TryRecvFair, TryRecvFrom, TryRecvBatchInto}
+use Rattle.model.specs.declared.ReceiveCall.the-variants.{TryRecv, TryRecvFair, TryRecvFrom, TryRecvBatchInto, TryRecvBatchIntoWhile}
 use Rattle.model.specs.declared.ControlCall.{ControlCall}
 use Rattle.model.specs.declared.Call.{Call}
 use Rattle.model.specs.declared.Call.the-variants.{Sender, Receive, Control}
@@ -75,11 +75,16 @@ module _ (t r out : List ℕ) where
   abbrev leavesInto : Answer × List ℕ × List ℕ × List ℕ → Answer × Stores
   leavesInto w = (w .0, record { table = w .1; rings = w .2; out = w .3 })
 
-  -- what the batch's contract names, by the room that it is lent
-  abbrev batchLeaves : ℕ → ℕ → Answer × List ℕ × List ℕ × List ℕ
-  batchLeaves limit n = let v = checkedWords t r (Receive (TryRecvBatchInto limit n)) in (v .0, v .1, v .2, checkedOutput t r (TryRecvBatchInto limit n) out)
+  -- what a batch's contract names: b is the batch, by the room that it is lent
+  abbrev batchLeaves : ReceiveCall → Answer × List ℕ × List ℕ × List ℕ
+  batchLeaves b = let v = checkedWords t r (Receive b) in (v .0, v .1, v .2, checkedOutput t r b out)
 
-  pub batch-answered : {x : ReceiveCall} {limit asked : ℕ} {w : Answer × List ℕ × List ℕ × List ℕ} → x ≡ TryRecvBatchInto limit asked → length out ≡ room → w ≡ batchLeaves limit (length out)
+  pub batch-answered : {x : ReceiveCall} {limit asked : ℕ} {w : Answer × List ℕ × List ℕ × List ℕ} → x ≡ TryRecvBatchInto limit asked → length out ≡ room → w ≡ batchLeaves (TryRecvBatchInto limit (length out))
       → leavesInto w ≡ answered (Record.Call (Receive x)) before
   unfolding answered
-  batch-answered {limit = limit} f l e = as-called before (ap Receive f) (ap leavesInto (e ∙ ap (batchLeaves limit) l))
+  batch-answered {limit = limit} f l e = as-called before (ap Receive f) (ap leavesInto (e ∙ ap (λ (n : ℕ). batchLeaves (TryRecvBatchInto limit n)) l))
+
+  pub while-answered : {x : ReceiveCall} {limit bound asked : ℕ} {w : Answer × List ℕ × List ℕ × List ℕ} → x ≡ TryRecvBatchIntoWhile limit bound asked → length out ≡ room
+      → w ≡ batchLeaves (TryRecvBatchIntoWhile limit bound (length out)) → leavesInto w ≡ answered (Record.Call (Receive x)) before
+  unfolding answered
+  while-answered {limit = limit} {bound = bound} f l e = as-called before (ap Receive f) (ap leavesInto (e ∙ ap (λ (n : ℕ). batchLeaves (TryRecvBatchIntoWhile limit bound n)) l))

@@ -4,7 +4,7 @@ use mathlib.Core.List.{List, [], _∷_, _++_}
 use Prim.Native.Nat.{ℕ}
 use lib.ListN.{replicate}
 use Rattle.model.specs.declared.ReceiveCall.{ReceiveCall}
-use Rattle.model.specs.declared.ReceiveCall.the-variants.{TryRecv, TryRecvFair, TryRecvFrom, TryRecvBatchInto}
+use Rattle.model.specs.declared.ReceiveCall.the-variants.{TryRecv, TryRecvFair, TryRecvFrom, TryRecvBatchInto, TryRecvBatchIntoWhile}
 use Rattle.model.specs.declared.Call.{Call}
 use Rattle.model.specs.declared.Call.the-variants.{Sender, Receive, Control}
 use Rattle.model.specs.declared.Answer.{Answer}
@@ -26,6 +26,7 @@ lent TryRecv = TryRecv
 lent TryRecvFair = TryRecvFair
 lent (TryRecvFrom i) = TryRecvFrom i
 lent (TryRecvBatchInto limit asked) = TryRecvBatchInto limit room
+lent (TryRecvBatchIntoWhile limit bound asked) = TryRecvBatchIntoWhile limit bound room
 
 abbrev pub lentCall : Call → Call
 lentCall (Sender c) = Sender c

@@ -52,6 +52,13 @@ fn receive_call(
             out,
             limit,
         ),
+        ReceiveCall::TryRecvBatchIntoWhile { limit, bound, room: _ } => batch::try_recv_batch_into_while(
+            table,
+            rings,
+            out,
+            limit,
+            bound,
+        ),
     }
 }
 
