@@ -100,8 +100,15 @@ impl Stream {
         1 + self.random.below(most)
     }
 
+    /// With a bound each second time: items are any numbers, so that it admits about half of them, or nearly all.
     fn batch(&mut self, limit: usize) {
-        if let Batch::Items(_) = same!(self.try_recv_batch_into(limit)) {
+        let taken = if self.random.one_in(2) {
+            same!(self.try_recv_batch_into(limit))
+        } else {
+            let bound = self.random.pick(&[u64::MAX / 2, u64::MAX / 16 * 15]);
+            same!(self.try_recv_batch_into_while(limit, bound))
+        };
+        if let Batch::Items(_) | Batch::Stopped(_) = taken {
             same!(self.items());
         }
     }

@@ -11,6 +11,7 @@ const ITEM: u64 = 3;
 const ITEMS: u64 = 4;
 const EMPTY: u64 = 5;
 const FULL: u64 = 11;
+const STOPPED: u64 = 9;
 
 const CHANNEL: u64 = 7;
 /// The opening number.
@@ -65,6 +66,7 @@ calls! {
     recv_fair = fanring_try_recv_fair, fanring_inner_try_recv_fair();
     recv_from = fanring_try_recv_from, fanring_inner_try_recv_from(channel: u64, slot: u64, generation: u64, opening: u64);
     batch = fanring_try_recv_batch_into, fanring_inner_try_recv_batch_into(out: *mut u64, out_len: usize, limit: u64);
+    batch_while = fanring_try_recv_batch_into_while, fanring_inner_try_recv_batch_into_while(out: *mut u64, out_len: usize, limit: u64, bound: u64);
     pause_by_id = fanring_pause, fanring_inner_pause(channel: u64, slot: u64, generation: u64, opening: u64);
     resume_by_id = fanring_resume, fanring_inner_resume(channel: u64, slot: u64, generation: u64, opening: u64);
     close_by_id = fanring_close_lane, fanring_inner_close_lane(channel: u64, slot: u64, generation: u64, opening: u64);
@@ -89,6 +91,17 @@ impl<const CHECKED: bool> Library<CHECKED> {
             (TAKEN, woken) => Sent::Taken(woken == 1),
             (_, FULL) => Sent::Full,
             _ => Sent::Disconnected,
+        }
+    }
+
+    #[inline(always)]
+    fn taken(&mut self, tag: u64) -> Batch {
+        self.count = if tag == ITEMS || tag == STOPPED { self.words[0] as usize } else { 0 };
+        match tag {
+            ITEMS => Batch::Items(self.count),
+            STOPPED => Batch::Stopped(self.count),
+            EMPTY => Batch::Empty,
+            _ => Batch::Disconnected,
         }
     }
 
@@ -177,12 +190,14 @@ impl<const CHECKED: bool> Side for Library<CHECKED> {
     fn try_recv_batch_into(&mut self, limit: usize) -> Batch {
         let (out, out_len) = (self.output.as_mut_ptr(), self.output.len());
         let tag = self.batch(out, out_len, limit as u64);
-        self.count = if tag == ITEMS { self.words[0] as usize } else { 0 };
-        match tag {
-            ITEMS => Batch::Items(self.count),
-            EMPTY => Batch::Empty,
-            _ => Batch::Disconnected,
-        }
+        self.taken(tag)
+    }
+
+    #[inline(always)]
+    fn try_recv_batch_into_while(&mut self, limit: usize, bound: u64) -> Batch {
+        let (out, out_len) = (self.output.as_mut_ptr(), self.output.len());
+        let tag = self.batch_while(out, out_len, limit as u64, bound);
+        self.taken(tag)
     }
 
     fn items(&self) -> &[u64] {

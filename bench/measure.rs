@@ -21,6 +21,7 @@ pub enum How {
     Fair,
     Targeted,
     Batch(usize),
+    BatchWhile(usize),
 }
 
 impl How {
@@ -31,6 +32,7 @@ impl How {
             Self::Targeted => "targeted receive",
             Self::Batch(64) => "batch of 64",
             Self::Batch(_) => "batch of 4,096",
+            Self::BatchWhile(_) => "batch of 64, bound",
         }
     }
 }
@@ -45,7 +47,7 @@ pub struct Place {
     pub hows: &'static [How],
 }
 
-const ALL: &[How] = &[How::Plain, How::Fair, How::Targeted, How::Batch(64)];
+const ALL: &[How] = &[How::Plain, How::Fair, How::Targeted, How::Batch(64), How::BatchWhile(64)];
 const LARGE: &[How] = &[How::Batch(4096)];
 
 pub const PLACES: [Place; 9] = [
@@ -149,10 +151,10 @@ fn drain_targeted<S: Side>(side: &mut S, place: &Place) -> (usize, u64) {
     (place.total, sum)
 }
 
-fn drain_batches<S: Side>(side: &mut S, place: &Place, limit: usize) -> (usize, u64) {
+fn drain_batches<S: Side>(side: &mut S, place: &Place, limit: usize, mut batch: impl FnMut(&mut S) -> Batch) -> (usize, u64) {
     let (calls, mut sum) = (place.total / limit, 0);
     for _ in 0..calls {
-        assert_eq!(side.try_recv_batch_into(limit), Batch::Items(limit));
+        assert_eq!(batch(side), Batch::Items(limit));
         sum += side.items()[limit - 1];
     }
     (calls, sum)
@@ -167,10 +169,12 @@ fn round<S: Side>(side: &mut S, place: &Place, how: How) -> [f64; 2] {
         How::Plain => drain(side, S::try_recv),
         How::Fair => drain(side, S::try_recv_fair),
         How::Targeted => drain_targeted(side, place),
-        How::Batch(limit) => drain_batches(side, place, limit),
+        How::Batch(limit) => drain_batches(side, place, limit, |side| side.try_recv_batch_into(limit)),
+        // All items are admitted: what it costs to look at them.
+        How::BatchWhile(limit) => drain_batches(side, place, limit, |side| side.try_recv_batch_into_while(limit, black_box(place.total as u64))),
     };
     let receives = since(start, calls);
-    if !matches!(how, How::Batch(_)) {
+    if !matches!(how, How::Batch(_) | How::BatchWhile(_)) {
         assert_eq!(sum, place.sum(side.channel()));
     }
     // Lanes that ran empty settle, so that every round begins alike.

@@ -128,6 +128,22 @@ impl Side for Original {
         }
     }
 
+    #[inline(never)]
+    fn try_recv_batch_into_while(&mut self, limit: usize, bound: u64) -> Batch {
+        self.output.clear();
+        let mut stopped = false;
+        let admits = |item: &u64| {
+            stopped |= *item > bound;
+            *item <= bound
+        };
+        match self.receiver.try_recv_batch_into_while(&mut self.output, limit, admits) {
+            Ok(count) if stopped => Batch::Stopped(count),
+            Ok(count) => Batch::Items(count),
+            Err(TryRecvError::Empty) => Batch::Empty,
+            Err(TryRecvError::Disconnected) => Batch::Disconnected,
+        }
+    }
+
     fn items(&self) -> &[u64] {
         &self.output
     }

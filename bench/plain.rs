@@ -258,15 +258,16 @@ impl Plain {
         if self.drained() { Received::Disconnected } else { Received::Empty }
     }
 
-    /// Moves items to the output; their number.
-    fn drain(&mut self, limit: usize) -> usize {
+    /// Moves items to the output, up to the first that is not admitted; their number, and whether it stopped there.
+    fn drain(&mut self, limit: usize, admits: impl Fn(u64) -> bool) -> (usize, bool) {
         let mut count = 0;
         while count < limit {
             let Some(slot) = self.turn() else { break };
             let budget = if self.budget == 0 { BUDGET } else { self.budget };
             let lane = &mut self.lanes[slot];
             let bounds = [limit - count, budget, BURST - lane.burst, self.release_batch - lane.unreleased];
-            let take = bounds.into_iter().fold(lane.ring.len(), usize::min);
+            let most = bounds.into_iter().fold(lane.ring.len(), usize::min);
+            let take = lane.ring.iter().take(most).position(|item| !admits(*item)).unwrap_or(most);
             self.output.extend(lane.ring.drain(..take));
             lane.count(take, self.release_batch);
             lane.burst += take;
@@ -276,8 +277,26 @@ impl Plain {
             }
             self.spend(take);
             count += take;
+            if take < most {
+                return (count, true);
+            }
         }
-        count
+        (count, false)
+    }
+
+    fn batch(&mut self, limit: usize, admits: impl Fn(u64) -> bool) -> Batch {
+        self.output.clear();
+        let (count, stopped) = self.drain(limit, admits);
+        self.release_consumed();
+        if stopped {
+            Batch::Stopped(count)
+        } else if count != 0 || limit == 0 {
+            Batch::Items(count)
+        } else if self.drained() {
+            Batch::Disconnected
+        } else {
+            Batch::Empty
+        }
     }
 }
 
@@ -377,16 +396,12 @@ impl Side for Plain {
 
     #[inline(never)]
     fn try_recv_batch_into(&mut self, limit: usize) -> Batch {
-        self.output.clear();
-        let count = self.drain(limit);
-        self.release_consumed();
-        if count != 0 || limit == 0 {
-            Batch::Items(count)
-        } else if self.drained() {
-            Batch::Disconnected
-        } else {
-            Batch::Empty
-        }
+        self.batch(limit, |_| true)
+    }
+
+    #[inline(never)]
+    fn try_recv_batch_into_while(&mut self, limit: usize, bound: u64) -> Batch {
+        self.batch(limit, |item| item <= bound)
     }
 
     fn items(&self) -> &[u64] {

@@ -41,6 +41,8 @@ pub enum Received {
 #[derive(Debug, PartialEq, Eq)]
 pub enum Batch {
     Items(usize),
+    /// So many, and it stopped in front of an item above its bound.
+    Stopped(usize),
     Empty,
     Disconnected,
 }
@@ -76,6 +78,8 @@ pub trait Side: Sized {
     /// Disconnected also where there is no such lane.
     fn try_recv_from(&mut self, key: Key) -> Received;
     fn try_recv_batch_into(&mut self, limit: usize) -> Batch;
+    /// An item is admitted if it is at most the bound.
+    fn try_recv_batch_into_while(&mut self, limit: usize, bound: u64) -> Batch;
     /// The items of the last batch.
     fn items(&self) -> &[u64];
 
