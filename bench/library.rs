@@ -10,8 +10,8 @@ const TAKEN: u64 = 2;
 const ITEM: u64 = 3;
 const ITEMS: u64 = 4;
 const EMPTY: u64 = 5;
-const FULL: u64 = 11;
 const STOPPED: u64 = 9;
+const FULL: u64 = 11;
 
 const CHANNEL: u64 = 7;
 /// The opening number.
