@@ -52,13 +52,11 @@ fn receive_call(
             out,
             limit,
         ),
-        ReceiveCall::TryRecvBatchIntoWhile { limit, bound, room: _ } => batch::try_recv_batch_into_while(
-            table,
-            rings,
-            out,
+        ReceiveCall::TryRecvBatchIntoWhile {
             limit,
             bound,
-        ),
+            room: _,
+        } => batch::try_recv_batch_into_while(table, rings, out, limit, bound),
     }
 }
 
