@@ -50,7 +50,7 @@ Lends (Record.Call c) = lentCall c ≡ c
 
 kinds-lend : (b : List ℕ) → Each (λ k. Lends (k .says b)) kinds
 unfolding Each
-kinds-lend b = (tt, (refl, (refl, (refl, (refl, (refl, (refl, (refl, (refl, (refl, (refl, (refl, (refl, (refl, (refl, (refl, tt))))))))))))))))
+kinds-lend b = (tt, (refl, (refl, (refl, (refl, (refl, (refl, (refl, (refl, (refl, (refl, (refl, (refl, (refl, (refl, (refl, (refl, tt)))))))))))))))))
 
 pub record-lends : (b : List ℕ) {r : Record} {n : ℕ} → parse b ≡ Whole r n → Lends r
 record-lends b e = read-as Lends b (kinds-lend b) e
@@ -86,7 +86,7 @@ module _ (b : List ℕ) (u : Each (λ x. x < 256) b) where
       let h = field-fits 2 in
       let k = field-fits 3 in (
         (f, (g, (h, (k, (field-fits 4, (field-fits 5, tt)))))),
-        ((f, tt), ((f, (g, (h, tt))), ((f, (g, (h, tt))), ((f, (g, tt)), (tt, (tt, ((f, (g, (h, (k, tt)))), ((f, (omega arith, tt)), ((f, (g, (h, (k, tt)))), ((f, (g, (h, (k, tt)))), ((f, (g, (h, (k, tt)))), (tt, (tt, (tt, (tt, tt))))))))))))))),
+        ((f, tt), ((f, (g, (h, tt))), ((f, (g, (h, tt))), ((f, (g, tt)), (tt, (tt, ((f, (g, (h, (k, tt)))), ((f, (omega arith, tt)), ((f, (g, (h, (k, tt)))), ((f, (g, (h, (k, tt)))), ((f, (g, (h, (k, tt)))), (tt, (tt, (tt, (tt, ((f, (g, (omega arith, tt))), tt)))))))))))))))),
       )
 
   pub record-fits : {r : Record} {n : ℕ} → parse b ≡ Whole r n → RecordFits r

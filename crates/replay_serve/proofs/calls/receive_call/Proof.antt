@@ -18,7 +18,7 @@ returns-4 : tie.Need-returns-4
 returns-4 c = batch-answered _ _ _ (c .before .before .before .before .before .before .call2 .given .1) (c .before .try-recv-batch-into-arg4 .given .0 .1) (c .try-recv-batch-into .ensures)
 
 returns-5 : tie.Need-returns-5
-returns-5 c = while-answered _ _ _ (c .before .before .before .before .before .before .before .call3 .given .1) (c .before .try-recv-batch-into-while-arg4 .given .0 .1) (c .try-recv-batch-into-while .ensures)
+returns-5 c = while-answered _ _ _ (c .before .before .before .before .before .before .call3 .given .1) (c .before .try-recv-batch-into-while-arg4 .given .0 .1) (c .try-recv-batch-into-while .ensures)
 
 pub receive-call-spec : {M : Type 1} → statement M
 receive-call-spec =
