@@ -12,6 +12,8 @@ pub(crate) enum Answer {
     Item(LaneId, u64),
     /// How many; they are in the output.
     Items(u64),
+    /// The same, and the next item is above the batch's bound.
+    Stopped(u64),
     Empty,
     Disconnected,
     Held(u64),
@@ -34,7 +36,8 @@ impl Answer {
             6 => Self::Disconnected,
             7 => Self::Held(words[0]),
             8 => Self::Refused(words[0]),
-            _ => unreachable!("the tags are 0 to 8, not {tag}"),
+            9 => Self::Stopped(words[0]),
+            _ => unreachable!("the tags are 0 to 9, not {tag}"),
         }
     }
 }

@@ -277,7 +277,7 @@ impl Error for NoSuchSender {}
 /// A receive took nothing.
 ///
 /// `Empty`, `Disconnected` and `ReceiverClosed` are of every receive, `NoSuchLane` is of the targeted one, and
-/// `OutputShort` of the batch.
+/// `OutputShort` of the batches.
 #[derive(Debug, Clone, Copy, PartialEq, Eq)]
 pub enum TryRecvError {
     /// No item is visible right now. A result, and no refusal.

@@ -35,17 +35,18 @@
 //!
 //! No call waits; a host with threads puts the [`Channel`] behind a lock, and does its own waking.
 //!
-//! To look is to call [`try_recv`](Channel::try_recv), [`try_recv_fair`](Channel::try_recv_fair) or
-//! [`try_recv_batch_into`](Channel::try_recv_batch_into) with a limit other than 0. The receiver may sleep after a look
-//! that answered `Empty` or `Disconnected`, and after a batch of fewer items than its limit. From such an answer on,
-//! while no calls but those of senders and [`held`](Channel::held) are made, the first accepted
-//! [`try_send`](Channel::try_send) to a lane that is not paused answers [`woken: true`](Taken::woken): wake the
-//! receiver then.
+//! To look is to call [`try_recv`](Channel::try_recv), [`try_recv_fair`](Channel::try_recv_fair), or
+//! [`try_recv_batch_into`](Channel::try_recv_batch_into) or
+//! [`try_recv_batch_into_while`](Channel::try_recv_batch_into_while) with a limit other than 0. The receiver may sleep
+//! after a look that answered `Empty` or `Disconnected`, and after a batch of fewer items than its limit that has not
+//! [stopped](Batch::stopped). From such an answer on, while no calls but those of senders and [`held`](Channel::held) are
+//! made, the first accepted [`try_send`](Channel::try_send) to a lane that is not paused answers
+//! [`woken: true`](Taken::woken): wake the receiver then.
 //!
-//! - It may not sleep after a single item, a batch that reached its limit, a batch of limit 0, or
-//!   [`try_recv_from`](Channel::try_recv_from): a lane may still be pending, and then its sends answer `woken: false`
-//!   until its ring is full. After the receiver's other calls it looks again first; made while it sleeps, they are to
-//!   wake it.
+//! - It may not sleep after a single item, a batch that reached its limit, a batch that stopped in front of an item, a
+//!   batch of limit 0, or [`try_recv_from`](Channel::try_recv_from): a lane may still be pending, and then its sends
+//!   answer `woken: false` until its ring is full. After the receiver's other calls it looks again first; made while it
+//!   sleeps, they are to wake it.
 //! - A drop, an unsignalled send and a send that is refused wake nobody. A drop is seen at the latest by a look that finds
 //!   nothing, so wake the receiver after it. Unsignalled sends may fill a ring while the receiver sleeps; ordinary ones are
 //!   then refused as `Full`, so wake it there too.
@@ -74,6 +75,7 @@
 //! | `with_lane_ids` | [`try_recv`](Channel::try_recv) and [`try_recv_fair`](Channel::try_recv_fair) always answer the lane's id |
 //! | a lane's id, which names its channel | [`LaneId`], which names its opening too |
 //! | a closed lane's slot, which the next registration takes | passed over until the lane's sender is dropped |
+//! | `try_recv_batch_into_while(.., admit)`, with a closure | [`try_recv_batch_into_while`](Channel::try_recv_batch_into_while)`(.., bound)`: items at most the bound are admitted; [`Batch`] tells whether it stopped |
 //! | `Ok(())` of a send | [`Taken`]: whether to wake the receiver, and how many more sends the lane takes |
 //! | a `Sender` or the `Receiver` is dropped | [`drop_sender`](Channel::drop_sender), [`close_receiver`](Channel::close_receiver) |
 //!
@@ -82,8 +84,8 @@
 //! - all that waits: `send`, `send_timeout`, `send_deadline`, `recv`, `recv_timeout`, `recv_deadline`,
 //!   `recv_batch_into`, iterators, async calls, wakers and wait strategies. A caller that sleeps does its own waking, as
 //!   above;
-//! - admit predicates: `try_recv_batch_into_while`, `try_recv_scan_into_while` (without a predicate,
-//!   [`poll_all_lanes`](Channel::poll_all_lanes) and then [`try_recv_batch_into`](Channel::try_recv_batch_into));
+//! - admit predicates other than a bound; `try_recv_scan_into_while` ([`poll_all_lanes`](Channel::poll_all_lanes) and then
+//!   [`try_recv_batch_into_while`](Channel::try_recv_batch_into_while));
 //! - `try_send_deferred` and `flush`; `try_register_with_capacity`; teardown policies other than `Deferred`;
 //! - `is_full` (a send that leaves the ring full answers 0 as [`Taken::free`]), `is_disconnected`, `registered_lanes`,
 //!   `sender_count`, `receiver_count`, `same_channel`.
@@ -91,8 +93,9 @@
 //! # What is proved, and what is not
 //!
 //! Every call of a [`Channel`] is one call of the library, with the numbers that it was given; but
-//! [`try_recv_batch_into`](Channel::try_recv_batch_into) may count the items first, and lower its limit to one with
-//! which the library does and answers the same. Of the library's calls the repository proves, among other things, by
+//! [`try_recv_batch_into`](Channel::try_recv_batch_into) and
+//! [`try_recv_batch_into_while`](Channel::try_recv_batch_into_while) may count the items first, and lower their limit to
+//! one with which the library does and answers the same. Of the library's calls the repository proves, among other things, by
 //! the names in its docs/CLAIMS.md:
 //!
 //! - each call does what the rules of document 01, the customer's scope paper, say (`call-alike`, `calls-as-rules`);
@@ -146,6 +149,7 @@
 compile_error!("the proved library is built for Linux on x86-64");
 
 mod answer;
+mod batch;
 #[allow(unsafe_code)]
 mod calls;
 mod channel;
@@ -154,6 +158,7 @@ mod lane;
 mod opening;
 mod taken;
 
+pub use batch::Batch;
 pub use channel::Channel;
 pub use error::{
     ChannelError, LaneControlError, NoSuchSender, ReceiverClosed, TryRecvError, TryRegisterBoundedError, TrySendError,

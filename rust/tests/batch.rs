@@ -1,6 +1,6 @@
 //! Batches into a vector, whatever the limit.
 
-use proved_fanring::{channel, Channel, LaneKey, Opening, TryRecvError};
+use proved_fanring::{channel, Batch, Channel, LaneKey, Opening, TryRecvError};
 
 #[test]
 fn no_limit_is_too_large() {
@@ -19,6 +19,33 @@ fn no_limit_is_too_large() {
     }
     channel.close_receiver().unwrap();
     assert_eq!(channel.try_recv_batch_into(&mut output, usize::MAX), Err(TryRecvError::ReceiverClosed));
+    assert_eq!(output, [7, 8]);
+}
+
+#[test]
+fn no_limit_is_too_large_with_a_bound() {
+    let mut channel = channel(4, 2);
+    let keys = [channel.register_sender(2).unwrap(), channel.register_sender(2).unwrap()];
+    let mut output = vec![7, 8];
+    for limit in [9, 10, 1 << 20, 1 << 61, usize::MAX] {
+        assert_eq!(channel.try_recv_batch_into_while(&mut output, limit, 12), Err(TryRecvError::Empty));
+        for item in 0..4 {
+            channel.try_send(keys[0], item).unwrap();
+            channel.try_send(keys[1], 10 + item).unwrap();
+        }
+        let stopped = Ok(Batch { count: 7, stopped: true });
+        assert_eq!(channel.try_recv_batch_into_while(&mut output, limit, 12), stopped);
+        assert_eq!(output, [7, 8, 0, 1, 2, 3, 10, 11, 12]);
+        let none = Ok(Batch { count: 0, stopped: true });
+        assert_eq!(channel.try_recv_batch_into_while(&mut output, limit, 12), none);
+        let rest = Ok(Batch { count: 1, stopped: false });
+        assert_eq!(channel.try_recv_batch_into_while(&mut output, limit, 13), rest);
+        assert_eq!(output[9..], [13]);
+        output.truncate(2);
+    }
+    channel.close_receiver().unwrap();
+    let closed = Err(TryRecvError::ReceiverClosed);
+    assert_eq!(channel.try_recv_batch_into_while(&mut output, usize::MAX, 12), closed);
     assert_eq!(output, [7, 8]);
 }
 
@@ -74,18 +101,33 @@ fn any_call(channel: &mut Channel, [which, slot, number]: [u64; 3]) -> String {
     }
 }
 
-/// A batch with the limit as it is, on an output that is long enough.
-fn as_given(channel: &mut Channel, limit: usize) -> (Result<usize, TryRecvError>, Vec<u64>) {
+type Received = (Result<Batch, TryRecvError>, Vec<u64>);
+
+/// A batch into a vector; one without a bound has not stopped.
+fn into_vector(channel: &mut Channel, limit: usize, bound: Option<u64>) -> Received {
+    let mut output = Vec::new();
+    let result = match bound {
+        Some(bound) => channel.try_recv_batch_into_while(&mut output, limit, bound),
+        None => channel.try_recv_batch_into(&mut output, limit).map(|count| Batch { count, stopped: false }),
+    };
+    (result, output)
+}
+
+/// The same with the limit as it is, on an output that is long enough.
+fn as_given(channel: &mut Channel, limit: usize, bound: Option<u64>) -> Received {
     let mut output = vec![0; limit];
-    let result = channel.try_recv_batch_into_slice(&mut output, limit);
-    output.truncate(result.unwrap_or(0));
+    let result = match bound {
+        Some(bound) => channel.try_recv_batch_into_slice_while(&mut output, limit, bound),
+        None => channel.try_recv_batch_into_slice(&mut output, limit).map(|count| Batch { count, stopped: false }),
+    };
+    output.truncate(result.map_or(0, |batch| batch.count));
     (result, output)
 }
 
 #[test]
 fn as_with_the_limit_given() {
     let mut random = Random(0x9e37_79b9_7f4a_7c15);
-    let mut drained = 0;
+    let (mut drained, mut stopped) = (0, 0);
     for _ in 0..400 {
         let (capacity, slots) = (1 << random.below(6), 1 + random.below(4) as usize);
         // The same numbers for both, so that their stores can be compared.
@@ -95,10 +137,11 @@ fn as_with_the_limit_given() {
             if random.below(12) == 0 {
                 let most = slots * capacity;
                 let limit = [most - 1, most, most + 1, 16 * slots, 16 * slots + 1, 4_000][random.below(6) as usize];
-                let mut output = Vec::new();
-                let result = one.try_recv_batch_into(&mut output, limit);
-                drained += usize::from(result.is_ok_and(|count| count > 0));
-                assert_eq!((result, output), as_given(&mut other, limit));
+                let bound = Some(random.below(1_500)).filter(|_| random.below(2) == 0);
+                let (result, output) = into_vector(&mut one, limit, bound);
+                drained += usize::from(result.is_ok_and(|batch| batch.count > 0));
+                stopped += usize::from(result.is_ok_and(|batch| batch.stopped));
+                assert_eq!((result, output), as_given(&mut other, limit, bound));
             } else {
                 let numbers = [random.below(40), random.below(4), random.below(1_000)];
                 assert_eq!(any_call(&mut one, numbers), any_call(&mut other, numbers));
@@ -107,4 +150,5 @@ fn as_with_the_limit_given() {
         assert_eq!(one.into_stores(), other.into_stores());
     }
     assert!(drained > 1_000, "only {drained} batches");
+    assert!(stopped > 300, "only {stopped} batches that stopped");
 }

@@ -48,7 +48,7 @@ fn as_in_the_header() {
     let header = functions(&read("../include/fanring.h"), ");");
     let mut declared = functions(&read("src/calls/library.rs"), ") -> u64;");
     declared.append(&mut functions(&read("src/calls/tests.rs"), ") -> u64;"));
-    assert_eq!(declared.len(), 17);
+    assert_eq!(declared.len(), 18);
     for (name, parameters) in declared {
         let expected: Vec<String> = header[&name].iter().map(|parameter| in_rust(parameter)).collect();
         assert_eq!(parameters, expected, "of {name}");

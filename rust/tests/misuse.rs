@@ -1,7 +1,7 @@
 //! Keys, ids and numbers that name nothing: each is refused, and changes nothing.
 
 use proved_fanring::{
-    channel, try_channel, Channel, ChannelError, LaneControlError, LaneId, LaneKey, NoSuchSender, Opening,
+    channel, try_channel, Batch, Channel, ChannelError, LaneControlError, LaneId, LaneKey, NoSuchSender, Opening,
     ReceiverClosed, Stores, Taken, TryRecvError, TryRegisterBoundedError, TrySendError, MAX_CAPACITY_PER_SENDER,
     MAX_SLOTS,
 };
@@ -112,7 +112,13 @@ fn after_the_receiver_is_closed() {
     let mut output = vec![7];
     for limit in [0, 1, usize::MAX] {
         assert_eq!(channel.try_recv_batch_into(&mut output, limit), Err(TryRecvError::ReceiverClosed));
+        for bound in [0, 5, u64::MAX] {
+            let result = channel.try_recv_batch_into_while(&mut output, limit, bound);
+            assert_eq!(result, Err(TryRecvError::ReceiverClosed));
+        }
     }
+    // 6 goes before 14.
+    assert_eq!(channel.try_recv_batch_into_slice_while(&mut [], 1, 5), Err(TryRecvError::ReceiverClosed));
     assert_eq!(output, [7]);
     assert_eq!(channel.try_recv(), Err(TryRecvError::ReceiverClosed));
     assert_eq!(channel.try_recv_fair(), Err(TryRecvError::ReceiverClosed));
@@ -138,6 +144,15 @@ fn an_output_that_is_short() {
     assert_eq!(channel.try_recv_batch_into_slice(&mut output, 3), Err(TryRecvError::OutputShort));
     assert_eq!(channel.try_recv_batch_into_slice(&mut [], 1), Err(TryRecvError::OutputShort));
     assert_eq!(channel.try_recv_batch_into_slice(&mut [], 0), Ok(0));
+    assert_eq!((channel.held(), output), (1, [7, 7]));
+    // By the limit alone, also where nothing is admitted.
+    for bound in [0, 5, u64::MAX] {
+        let short = Err(TryRecvError::OutputShort);
+        assert_eq!(channel.try_recv_batch_into_slice_while(&mut output, 3, bound), short);
+        assert_eq!(channel.try_recv_batch_into_slice_while(&mut [], 1, bound), short);
+        let none = Ok(Batch { count: 0, stopped: false });
+        assert_eq!(channel.try_recv_batch_into_slice_while(&mut [], 0, bound), none);
+    }
     assert_eq!((channel.held(), output), (1, [7, 7]));
     assert_eq!(channel.try_recv_batch_into_slice(&mut output, 2), Ok(1));
     assert_eq!(output, [5, 7]);

@@ -5,7 +5,7 @@ use std::collections::{BTreeMap, BTreeSet, VecDeque};
 use std::mem;
 
 use proved_fanring::{
-    channel, Channel, LaneControlError, LaneId, LaneKey, Opening, Taken, TryRecvError, TryRegisterBoundedError,
+    channel, Batch, Channel, LaneControlError, LaneId, LaneKey, Opening, Taken, TryRecvError, TryRegisterBoundedError,
     TrySendError,
 };
 
@@ -87,6 +87,9 @@ struct Run {
     told_apart: u64,
     /// Registrations that were taken while a closed lane's sender lived.
     beside_living: u64,
+    /// Batches that stopped after an item, and at count 0.
+    stopped: u64,
+    stopped_at_zero: u64,
 }
 
 impl Run {
@@ -115,6 +118,8 @@ impl Run {
             foretold: 0,
             told_apart: 0,
             beside_living: 0,
+            stopped: 0,
+            stopped_at_zero: 0,
         }
     }
 
@@ -375,6 +380,83 @@ impl Run {
         assert_eq!(output[..2], [7, 8]);
     }
 
+    /// Whether a lane that may be received from has its oldest item above the bound.
+    fn oldest_above(&self, bound: u64) -> bool {
+        let above = |lane: &Lane| !lane.paused && lane.items.front().is_some_and(|(item, _)| *item > bound);
+        self.lanes.values().any(above)
+    }
+
+    fn receive_batch_while(&mut self) {
+        let limit = self.random.below(200) as usize;
+        // The item of a lane, or the one below it: most are above the bound then, or few.
+        let held: Vec<u64> = self.lanes.values().flat_map(|lane| lane.items.iter().map(|(item, _)| *item)).collect();
+        let bound = match (self.random.below(10), held.len() as u64) {
+            (0, _) => 0,
+            (1, _) | (_, 0) => u64::MAX,
+            (which, count) => held[self.random.below(count) as usize] - which % 2,
+        };
+        let above = self.oldest_above(bound);
+        let mut output = vec![7, 8];
+        match self.channel.try_recv_batch_into_while(&mut output, limit, bound) {
+            Ok(Batch { count, stopped }) => {
+                assert_eq!(count, output.len() - 2);
+                assert!(count <= limit && (count > 0 || limit == 0 || stopped));
+                for item in &output[2..] {
+                    assert!(*item <= bound, "{item} is above {bound}");
+                    let key = LaneKey { slot: item >> 48, generation: item >> 24 & 0xff_ffff };
+                    self.handed_out(key, *item, false);
+                }
+                self.released();
+                if stopped {
+                    self.stop(limit, bound, count);
+                } else if count < limit {
+                    let waits = |lane: &Lane| !lane.paused && lane.items.iter().any(|(_, ordinary)| *ordinary);
+                    assert!(!self.lanes.values().any(waits), "a lane waits, and the batch is below its limit");
+                }
+            }
+            Err(error) => {
+                // Unsignalled items are not looked for.
+                assert!(
+                    !above || self.receiver_closed || self.unsignalled_alone(bound),
+                    "{error:?} in place of a stop"
+                );
+                self.nothing(error);
+                if !self.receiver_closed {
+                    self.released();
+                }
+            }
+        }
+        assert_eq!(output[..2], [7, 8]);
+    }
+
+    /// Of the lanes whose oldest item is above the bound, each that may be received from holds unsignalled items alone.
+    fn unsignalled_alone(&self, bound: u64) -> bool {
+        let above = |lane: &&Lane| !lane.paused && lane.items.front().is_some_and(|(item, _)| *item > bound);
+        self.lanes.values().filter(above).all(|lane| lane.items.iter().all(|(_, ordinary)| !ordinary))
+    }
+
+    /// The batch stopped in front of an item above its bound, which is the next.
+    fn stop(&mut self, limit: usize, bound: u64, count: usize) {
+        assert!(count < limit && self.oldest_above(bound));
+        if count == 0 {
+            self.stopped_at_zero += 1;
+        } else {
+            self.stopped += 1;
+        }
+        match self.random.below(3) {
+            0 => {
+                let again = self.channel.try_recv_batch_into_while(&mut Vec::new(), limit, bound);
+                assert_eq!(again, Ok(Batch { count: 0, stopped: true }));
+            }
+            which => {
+                let received = if which == 1 { self.channel.try_recv() } else { self.channel.try_recv_fair() };
+                let (lane, item) = received.expect("the item in front of which the batch stopped");
+                assert!(item > bound, "{item} is at most {bound}");
+                self.handed_out(lane.key, item, false);
+            }
+        }
+    }
+
     fn released(&mut self) {
         self.lanes.values_mut().for_each(|lane| lane.unreleased = (0, 0));
     }
@@ -436,7 +518,8 @@ impl Run {
             54..=69 => self.receive(false),
             70..=82 => self.receive(true),
             83..=87 => self.receive_from(),
-            88..=91 => self.receive_batch(),
+            88..=89 => self.receive_batch(),
+            90..=91 => self.receive_batch_while(),
             92..=97 => self.control(),
             _ => self.whole_receiver(),
         }
@@ -448,6 +531,7 @@ impl Run {
 #[test]
 fn items_come_out_as_they_went_in() {
     let (mut handed_out, mut woken, mut foretold, mut told_apart, mut beside_living) = (0, 0, 0, 0, 0);
+    let (mut stopped, mut stopped_at_zero) = (0, 0);
     let mut refusals = BTreeSet::new();
     for seed in 1..=400 {
         let mut run = Run::new(seed);
@@ -460,6 +544,8 @@ fn items_come_out_as_they_went_in() {
         foretold += run.foretold;
         told_apart += run.told_apart;
         beside_living += run.beside_living;
+        stopped += run.stopped;
+        stopped_at_zero += run.stopped_at_zero;
         refusals.append(&mut run.refusals);
     }
     assert!(handed_out > 50_000, "only {handed_out} items");
@@ -467,5 +553,7 @@ fn items_come_out_as_they_went_in() {
     assert!(foretold > 5_000, "only {foretold} sends with places occupied by items taken");
     assert!(told_apart > 2_000, "only {told_apart} ids of other openings with a key of the present one");
     assert!(beside_living > 500, "only {beside_living} registrations while a closed lane's sender lived");
+    assert!(stopped > 500, "only {stopped} batches that stopped after an item");
+    assert!(stopped_at_zero > 500, "only {stopped_at_zero} batches that stopped at count 0");
     assert!((6..=13).all(|number| refusals.contains(&number)), "only refusals {refusals:?}");
 }

@@ -1,8 +1,8 @@
-//! What the documentation of the calls and include/fanring.h say of credit, free places, waking, Disconnected, lanes and
-//! slots, by running.
+//! What the documentation of the calls and include/fanring.h say of credit, free places, waking, Disconnected, lanes,
+//! slots and batches that stop, by running.
 
 use proved_fanring::{
-    channel, Channel, LaneControlError, LaneKey, NoSuchSender, Taken, TryRecvError, TryRegisterBoundedError,
+    channel, Batch, Channel, LaneControlError, LaneKey, NoSuchSender, Taken, TryRecvError, TryRegisterBoundedError,
     TrySendError,
 };
 
@@ -262,4 +262,118 @@ fn a_paused_lane_with_items_and_no_sender() {
         assert_eq!(channel.try_recv(), Err(TryRecvError::Disconnected));
         assert_eq!(channel.resume(&lane), Err(LaneControlError::NoSuchLane));
     }
+}
+
+const STOPPED_AT_ZERO: Result<Batch, TryRecvError> = Ok(Batch { count: 0, stopped: true });
+
+/// A batch with a bound, of any number of items.
+fn batch_while(channel: &mut Channel, bound: u64) -> (Result<Batch, TryRecvError>, Vec<u64>) {
+    let mut output = Vec::new();
+    (channel.try_recv_batch_into_while(&mut output, usize::MAX, bound), output)
+}
+
+#[test]
+fn a_batch_stops_in_front_of_the_first_item_above_its_bound() {
+    for fair in [false, true] {
+        let (mut channel, keys) = with_senders(8, 2, 2);
+        for item in [4, 5, 6, 1] {
+            channel.try_send(keys[0], item).unwrap();
+        }
+        channel.try_send(keys[1], 2).unwrap();
+        // The bound itself is admitted. What is behind the item stays too, and so do other lanes' items.
+        assert_eq!(batch_while(&mut channel, 5), (Ok(Batch { count: 2, stopped: true }), vec![4, 5]));
+        for bound in [0, 5] {
+            assert_eq!(batch_while(&mut channel, bound), (STOPPED_AT_ZERO, vec![]));
+        }
+        let received = if fair { channel.try_recv_fair() } else { channel.try_recv() };
+        assert_eq!(received, Ok((channel.lane(keys[0]), 6)));
+        let rest = if fair { vec![2, 1] } else { vec![1, 2] };
+        assert_eq!(batch_while(&mut channel, 5), (Ok(Batch { count: 2, stopped: false }), rest));
+        assert_eq!(batch_while(&mut channel, 5), (Err(TryRecvError::Empty), vec![]));
+    }
+}
+
+#[test]
+fn at_its_limit_a_batch_has_not_stopped() {
+    let (mut channel, keys) = with_senders(4, 1, 1);
+    for item in [1, 9] {
+        channel.try_send(keys[0], item).unwrap();
+    }
+    let mut output = Vec::new();
+    for limit in [1, 0] {
+        let result = channel.try_recv_batch_into_while(&mut output, limit, 5);
+        assert_eq!(result, Ok(Batch { count: limit, stopped: false }));
+    }
+    assert_eq!(channel.try_recv_batch_into_while(&mut output, 1, 5), STOPPED_AT_ZERO);
+    assert_eq!(output, [1]);
+}
+
+#[test]
+fn a_lane_in_which_a_batch_stopped_keeps_its_turn() {
+    let (mut channel, keys) = with_senders(128, 2, 2);
+    for item in [5; 40].into_iter().chain([99]).chain([5; 40]) {
+        channel.try_send(keys[0], item).unwrap();
+    }
+    channel.try_send(keys[1], 6).unwrap();
+    assert_eq!(batch_while(&mut channel, 50).0, Ok(Batch { count: 40, stopped: true }));
+    // 40 of the turn's 64 are gone, and a stop takes none of them.
+    for item in [99].into_iter().chain([5; 23]) {
+        assert_eq!(channel.try_recv(), Ok((channel.lane(keys[0]), item)));
+    }
+    assert_eq!(channel.try_recv(), Ok((channel.lane(keys[1]), 6)));
+}
+
+#[test]
+fn the_other_lanes_wait_until_the_item_is_gone() {
+    for end in 0..3 {
+        let (mut channel, keys) = with_senders(4, 2, 2);
+        let lane = channel.lane(keys[0]);
+        channel.try_send(keys[0], 9).unwrap();
+        channel.try_send(keys[1], 1).unwrap();
+        assert_eq!(batch_while(&mut channel, 5), (STOPPED_AT_ZERO, vec![]));
+        match end {
+            0 => assert_eq!(channel.try_recv_from(&lane), Ok(9)),
+            1 => channel.pause(&lane).unwrap(),
+            _ => channel.close_lane(&lane).unwrap(),
+        }
+        assert_eq!(batch_while(&mut channel, 5), (Ok(Batch { count: 1, stopped: false }), vec![1]));
+        assert_eq!(batch_while(&mut channel, 5), (Err(TryRecvError::Empty), vec![]));
+    }
+}
+
+#[test]
+fn a_stop_at_count_0_is_neither_empty_nor_disconnected() {
+    // Before a registration there is no item to stop at.
+    let (mut channel, _) = with_senders(4, 2, 0);
+    assert_eq!(batch_while(&mut channel, 0), (Err(TryRecvError::Disconnected), vec![]));
+    // An empty paused lane retires by a receive that finds nothing, where no sender lives; by a stop it does not.
+    let (mut channel, keys) = with_senders(4, 2, 2);
+    let paused = channel.lane(keys[0]);
+    channel.try_send(keys[1], 9).unwrap();
+    channel.pause(&paused).unwrap();
+    for key in keys {
+        channel.drop_sender(key).unwrap();
+    }
+    for _ in 0..2 {
+        assert_eq!(batch_while(&mut channel, 5), (STOPPED_AT_ZERO, vec![]));
+        assert_eq!(channel.pause(&paused), Ok(()));
+    }
+    assert_eq!(batch_while(&mut channel, 9), (Ok(Batch { count: 1, stopped: false }), vec![9]));
+    assert_eq!(batch_while(&mut channel, 5), (Err(TryRecvError::Disconnected), vec![]));
+    assert_eq!(channel.pause(&paused), Err(LaneControlError::NoSuchLane));
+}
+
+#[test]
+fn a_batch_that_stops_releases_too() {
+    // Stopped at once, places of items that were taken before; and stopped after three items of its own.
+    let (mut channel, key) = two_taken();
+    assert_eq!(batch_while(&mut channel, 1), (STOPPED_AT_ZERO, vec![]));
+    assert_eq!(free_places(&mut channel, key), 2);
+
+    let (mut channel, keys) = with_senders(4, 1, 1);
+    for item in [1, 2, 3, 9] {
+        channel.try_send(keys[0], item).unwrap();
+    }
+    assert_eq!(batch_while(&mut channel, 5), (Ok(Batch { count: 3, stopped: true }), vec![1, 2, 3]));
+    assert_eq!(free_places(&mut channel, keys[0]), 3);
 }

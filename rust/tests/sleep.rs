@@ -2,7 +2,7 @@
 
 use std::collections::BTreeMap;
 
-use proved_fanring::{channel, Channel, LaneKey, TryRecvError, TryRegisterBoundedError, TrySendError};
+use proved_fanring::{channel, Batch, Channel, LaneKey, TryRecvError, TryRegisterBoundedError, TrySendError};
 
 fn with_senders(capacity: usize, senders: usize) -> (Channel, Vec<LaneKey>) {
     let mut channel = channel(capacity, senders);
@@ -46,6 +46,25 @@ fn not_after_a_batch_that_reached_its_limit() {
     assert!(woken(&mut channel, keys[0], 1));
     assert_eq!(channel.try_recv_batch_into(&mut Vec::new(), 2), Ok(1));
     assert!(woken(&mut channel, keys[0], 2));
+}
+
+#[test]
+fn not_after_a_batch_that_stopped() {
+    // In front of the lane's first item, and after one.
+    for count in [0, 1] {
+        let (mut channel, keys) = with_senders(4, 2);
+        assert!(woken(&mut channel, keys[0], 10 - count as u64));
+        assert!(!woken(&mut channel, keys[0], 10));
+        let result = channel.try_recv_batch_into_while(&mut Vec::new(), 4, 9);
+        assert_eq!(result, Ok(Batch { count, stopped: true }));
+        full_and_nobody_woken(&mut channel, keys[0]);
+    }
+    // Without a stop it may: the batch found the lane empty.
+    let (mut channel, keys) = with_senders(4, 1);
+    assert!(woken(&mut channel, keys[0], 9));
+    let result = channel.try_recv_batch_into_while(&mut Vec::new(), 4, 9);
+    assert_eq!(result, Ok(Batch { count: 1, stopped: false }));
+    assert!(woken(&mut channel, keys[0], 10));
 }
 
 #[test]
@@ -162,6 +181,8 @@ struct Run {
     paused: BTreeMap<LaneKey, bool>,
     /// Whether the last receiver call lets the receiver sleep.
     may_sleep: bool,
+    /// Batches that stopped.
+    stops: u64,
 }
 
 impl Run {
@@ -200,7 +221,18 @@ impl Run {
         self.may_sleep = match self.random.below(20) {
             0..=3 => self.channel.try_recv().is_err_and(nothing),
             4..=7 => self.channel.try_recv_fair().is_err_and(nothing),
-            8..=13 => match self.channel.try_recv_batch_into(&mut Vec::new(), limit) {
+            // Items are 1 and, unsignalled, 2.
+            8..=10 => {
+                let bound = self.random.below(3);
+                match self.channel.try_recv_batch_into_while(&mut Vec::new(), limit, bound) {
+                    Ok(Batch { count, stopped }) => {
+                        self.stops += u64::from(stopped);
+                        !stopped && count < limit
+                    }
+                    Err(error) => limit > 0 && nothing(error),
+                }
+            }
+            11..=13 => match self.channel.try_recv_batch_into(&mut Vec::new(), limit) {
                 Ok(count) => count < limit,
                 Err(error) => limit > 0 && nothing(error),
             },
@@ -234,13 +266,14 @@ impl Run {
 
 #[test]
 fn whoever_may_sleep_is_woken() {
-    let mut woken = 0;
+    let (mut woken, mut stops) = (0, 0);
     for round in 0..600 {
         let mut run = Run {
             channel: channel(1 << (round % 7), 4),
             random: Random(0x9e37_79b9_7f4a_7c15 ^ round),
             paused: BTreeMap::new(),
             may_sleep: false,
+            stops: 0,
         };
         for _ in 0..400 {
             if run.random.below(3) == 0 {
@@ -253,6 +286,8 @@ fn whoever_may_sleep_is_woken() {
                 run.may_sleep = false;
             }
         }
+        stops += run.stops;
     }
     assert!(woken > 5_000, "only {woken} sleeps");
+    assert!(stops > 2_000, "only {stops} batches that stopped");
 }

@@ -3,7 +3,9 @@
 use std::fs;
 use std::path::Path;
 
-use proved_fanring::{Channel, LaneId, LaneKey, Opening, ReceiverClosed, Stores, Taken, TryRecvError, TrySendError};
+use proved_fanring::{
+    Batch, Channel, LaneId, LaneKey, Opening, ReceiverClosed, Stores, Taken, TryRecvError, TrySendError,
+};
 
 /// Stores as the replay program has them, or of other lengths.
 struct Lengths {
@@ -64,10 +66,17 @@ fn not_received(error: TryRecvError) -> String {
     }
 }
 
-fn batch(channel: &mut Channel, limit: usize) -> String {
+fn batch(channel: &mut Channel, limit: usize, bound: Option<u64>) -> String {
     let mut output = [0; 64];
-    match channel.try_recv_batch_into_slice(&mut output, limit) {
-        Ok(count) => output[..count].iter().fold(format!("items {count}"), |line, item| format!("{line} {item}")),
+    let result = match bound {
+        Some(bound) => channel.try_recv_batch_into_slice_while(&mut output, limit, bound),
+        None => channel.try_recv_batch_into_slice(&mut output, limit).map(|count| Batch { count, stopped: false }),
+    };
+    match result {
+        Ok(Batch { count, stopped }) => {
+            let items = output[..count].iter().fold(format!("items {count}"), |line, item| format!("{line} {item}"));
+            format!("{items}{}", if stopped { " stopped" } else { "" })
+        }
         Err(error) => not_received(error),
     }
 }
@@ -95,7 +104,8 @@ fn line(channel: &mut Channel, call: &str, numbers: &[u64]) -> String {
         "plain" => received(own, channel.try_recv()),
         "fair" => received(own, channel.try_recv_fair()),
         "targeted" => received(own, channel.try_recv_from(&id()).map(|item| (id(), item))),
-        "batch" => batch(channel, numbers[0] as usize),
+        "batch" => batch(channel, numbers[0] as usize, None),
+        "batch-while" => batch(channel, numbers[0] as usize, Some(numbers[1])),
         "pause" => done(channel.pause(&id()), |error| error.refusal()),
         "resume" => done(channel.resume(&id()), |error| error.refusal()),
         "close" => done(channel.close_lane(&id()), |error| error.refusal()),
@@ -223,6 +233,12 @@ fn opening_numbers() {
 #[test]
 fn slots_passed_over() {
     assert!(replay(&data("passed-over.txt"), &REPLAY) >= 100, "passed-over.txt is shorter than it was");
+}
+
+/// Batches with a bound.
+#[test]
+fn stops() {
+    assert!(replay(&data("stops.txt"), &REPLAY) >= 100, "stops.txt is shorter than it was");
 }
 
 #[test]

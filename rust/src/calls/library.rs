@@ -92,6 +92,17 @@ extern "C" {
         limit: u64,
         words: *mut Words,
     ) -> u64;
+    pub(super) fn fanring_inner_try_recv_batch_into_while(
+        table: *mut u64,
+        table_len: usize,
+        rings: *const u64,
+        rings_len: usize,
+        out: *mut u64,
+        out_len: usize,
+        limit: u64,
+        bound: u64,
+        words: *mut Words,
+    ) -> u64;
     pub(super) fn fanring_inner_pause(
         table: *mut u64,
         table_len: usize,

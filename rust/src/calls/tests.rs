@@ -2,7 +2,8 @@
 //! that answers set.
 
 use super::library::{
-    fanring_inner_try_recv, fanring_inner_try_recv_fair, fanring_inner_try_recv_from, fanring_inner_try_send,
+    fanring_inner_try_recv, fanring_inner_try_recv_batch_into, fanring_inner_try_recv_batch_into_while,
+    fanring_inner_try_recv_fair, fanring_inner_try_recv_from, fanring_inner_try_send,
     fanring_inner_try_send_unsignaled,
 };
 use super::{StoresInOrder, Words};
@@ -72,7 +73,8 @@ fn any_call(stores: &mut StoresInOrder, key: LaneKey, random: &mut Random, outpu
         20..=24 => stores.try_recv(),
         25..=28 => stores.try_recv_fair(),
         29..=30 => stores.try_recv_from(id),
-        31..=32 => stores.try_recv_batch_into(output, random.below(10)),
+        31 => stores.try_recv_batch_into(output, random.below(10)),
+        32 => stores.try_recv_batch_into_while(output, random.below(10), random.below(1_000)),
         33 => stores.pause(id),
         34..=35 => stores.resume(id),
         36 if random.below(4) == 0 => stores.close_lane(id),
@@ -182,6 +184,45 @@ fn an_item_sets_the_words_of_its_answer_and_no_others() {
             }
         };
         assert_eq!((tag, words), (3, [5, 7, 0, 3, NUMBER, 9, 9, 9]));
+    }
+}
+
+#[test]
+fn a_batch_sets_the_words_of_its_answer_and_no_others() {
+    let Ok(mut stores) = StoresInOrder::open(&Opening::new(4, 1), Stores { table: vec![0; 536], rings: vec![0; 4] })
+    else {
+        panic!("the opening is refused")
+    };
+    assert_eq!(stores.register_sender(1), Answer::Registered(LaneKey { slot: 0, generation: 0 }));
+    for item in [1, 2, 7, 3] {
+        stores.try_send(LaneKey { slot: 0, generation: 0 }, item);
+    }
+    // A limit, and a bound or none; the tag, the first word and the output. Tag 9 is a batch that stopped.
+    let batches = [
+        (1, Some(5), 4, 1, [1, 8, 8, 8]),
+        (4, Some(5), 9, 1, [2, 8, 8, 8]),
+        (4, Some(5), 9, 0, [8; 4]),
+        (0, Some(5), 4, 0, [8; 4]),
+        (5, Some(7), 8, 14, [8; 4]),
+        (4, None, 4, 2, [7, 3, 8, 8]),
+    ];
+    for (limit, bound, tag, first, output) in batches {
+        let Stores { table, rings } = &mut stores.stores;
+        let (mut words, mut out) = ([9; 8], [8; 4]);
+        let (table, table_len, rings, rings_len) = (table.as_mut_ptr(), table.len(), rings.as_ptr(), rings.len());
+        let (to, to_len) = (out.as_mut_ptr(), out.len());
+        // SAFETY: the stores are in order; the slices are whole and apart.
+        let told = unsafe {
+            match bound {
+                None => {
+                    fanring_inner_try_recv_batch_into(table, table_len, rings, rings_len, to, to_len, limit, &mut words)
+                }
+                Some(bound) => fanring_inner_try_recv_batch_into_while(
+                    table, table_len, rings, rings_len, to, to_len, limit, bound, &mut words,
+                ),
+            }
+        };
+        assert_eq!((told, words, out), (tag, [first, 9, 9, 9, 9, 9, 9, 9], output), "limit {limit}, bound {bound:?}");
     }
 }
 

@@ -1,9 +1,9 @@
-//! The batch, and the calls on all lanes.
+//! The batches, and the calls on all lanes.
 
 use super::receiver::not_received;
 use super::{never, Channel};
 use crate::answer::Answer;
-use crate::{ReceiverClosed, TryRecvError};
+use crate::{Batch, ReceiverClosed, TryRecvError};
 
 impl Channel {
     /// Append up to `limit` immediately available items to `output`, returning the number appended.
@@ -103,11 +103,115 @@ impl Channel {
         }
     }
 
+    /// Append up to `limit` immediately available items to `output`, stopping in front of the first one above `bound`.
+    ///
+    /// [`try_recv_batch_into`](Self::try_recv_batch_into), but an item is admitted only if it is at most the bound. Below
+    /// its limit the batch stops in front of the first item that is not: [`stopped`](Batch::stopped). That item stays
+    /// the oldest of its lane, and the lane keeps its turn, with what is left of it. So with no other call between,
+    /// [`try_recv`](Self::try_recv) and [`try_recv_fair`](Self::try_recv_fair) hand it out, and this call with the same
+    /// bound and a limit other than 0 stops again, with a [`count`](Batch::count) of 0. Until it is taken, or its lane
+    /// paused or closed, the other lanes wait. In the end every lane's places of items already taken are released,
+    /// stopped or not.
+    ///
+    /// fanring's call of this name takes a closure in place of the bound, and does not tell whether it stopped, but for
+    /// `Ok(0)` with a limit other than 0.
+    ///
+    /// After a stop [the receiver must not sleep](crate#when-a-receiver-may-sleep): an item waits. After fewer items than
+    /// `limit` without a stop it may, as after `try_recv_batch_into`.
+    ///
+    /// # Errors
+    ///
+    /// As [`try_recv_batch_into`](Self::try_recv_batch_into). A stop at count 0 is never
+    /// [`Empty`](TryRecvError::Empty) nor [`Disconnected`](TryRecvError::Disconnected), whether a sender lives or not:
+    /// these are answered when `limit` is not zero and there was no item, admitted or not.
+    ///
+    /// ```
+    /// use proved_fanring::{channel, Batch, TryRecvError};
+    ///
+    /// // A button for lights-out sends a mark, which is above any sample.
+    /// const LIGHTS_OUT: u64 = u64::MAX;
+    /// let mut channel = channel(4, 1);
+    /// let key = channel.register_sender(1).unwrap();
+    /// for item in [11, 12, LIGHTS_OUT, 13] {
+    ///     channel.try_send(key, item).unwrap();
+    /// }
+    /// let mut samples = Vec::new();
+    /// let batch = channel.try_recv_batch_into_while(&mut samples, 4, LIGHTS_OUT - 1);
+    /// assert_eq!(batch, Ok(Batch { count: 2, stopped: true }));
+    /// let again = channel.try_recv_batch_into_while(&mut samples, 4, LIGHTS_OUT - 1);
+    /// assert_eq!(again, Ok(Batch { count: 0, stopped: true }));
+    /// assert_eq!(channel.try_recv(), Ok((channel.lane(key), LIGHTS_OUT)));
+    /// let batch = channel.try_recv_batch_into_while(&mut samples, 4, LIGHTS_OUT - 1);
+    /// assert_eq!(batch, Ok(Batch { count: 1, stopped: false }));
+    /// assert_eq!(samples, [11, 12, 13]);
+    /// let nothing = channel.try_recv_batch_into_while(&mut samples, 4, LIGHTS_OUT - 1);
+    /// assert_eq!(nothing, Err(TryRecvError::Empty));
+    /// ```
+    pub fn try_recv_batch_into_while(
+        &mut self,
+        output: &mut Vec<u64>,
+        limit: usize,
+        bound: u64,
+    ) -> Result<Batch, TryRecvError> {
+        let before = output.len();
+        // With the smaller limit the plain batch has the same items, so that this one stops in front of the same.
+        let limit = self.limit_that_counts(limit);
+        // The receiver may be closed as well, which goes first: then the call answers so, for any output.
+        if output.try_reserve(limit).is_err() {
+            return self.try_recv_batch_into_slice_while(&mut [], limit, bound);
+        }
+        output.resize(before + limit, 0);
+        let result = self.try_recv_batch_into_slice_while(&mut output[before..], limit, bound);
+        output.truncate(before + result.map_or(0, |batch| batch.count));
+        result
+    }
+
+    /// Receive up to `limit` immediately available items into the front of `output`, stopping in front of the first one
+    /// above `bound`.
+    ///
+    /// [`try_recv_batch_into_while`](Self::try_recv_batch_into_while) without a vector. Words of the output beyond those
+    /// received stay as they were.
+    ///
+    /// # Errors
+    ///
+    /// As [`try_recv_batch_into_while`](Self::try_recv_batch_into_while), and
+    /// [`OutputShort`](TryRecvError::OutputShort) when `output` is shorter than `limit`, however few items would be
+    /// admitted.
+    ///
+    /// ```
+    /// use proved_fanring::{channel, Batch, TryRecvError};
+    ///
+    /// let mut channel = channel(4, 1);
+    /// let key = channel.register_sender(1).unwrap();
+    /// for item in [1, 5, 9] {
+    ///     channel.try_send(key, item).unwrap();
+    /// }
+    /// let mut output = [0; 4];
+    /// assert_eq!(channel.try_recv_batch_into_slice_while(&mut output, 5, 5), Err(TryRecvError::OutputShort));
+    /// // The bound itself is admitted.
+    /// let batch = channel.try_recv_batch_into_slice_while(&mut output, 4, 5);
+    /// assert_eq!(batch, Ok(Batch { count: 2, stopped: true }));
+    /// assert_eq!(output, [1, 5, 0, 0]);
+    /// ```
+    pub fn try_recv_batch_into_slice_while(
+        &mut self,
+        output: &mut [u64],
+        limit: usize,
+        bound: u64,
+    ) -> Result<Batch, TryRecvError> {
+        match self.stores.try_recv_batch_into_while(output, limit as u64, bound) {
+            Answer::Items(count) => Ok(Batch { count: count as usize, stopped: false }),
+            Answer::Stopped(count) => Ok(Batch { count: count as usize, stopped: true }),
+            answer => Err(not_received(answer)),
+        }
+    }
+
     /// Release the places of all items that were taken, in all lanes, so that senders can use them again.
     ///
     /// Otherwise a lane's places come back in batches: when as many were taken as the release batch,
     /// min(max(C / 2 rounded up, 64), C) with C the [capacity](Self::capacity_per_sender); when a receive finds the
-    /// lane empty; on [`pause`](Self::pause); and with every [`try_recv_batch_into`](Self::try_recv_batch_into).
+    /// lane empty; on [`pause`](Self::pause); and with every batch, [`try_recv_batch_into`](Self::try_recv_batch_into) or
+    /// [`try_recv_batch_into_while`](Self::try_recv_batch_into_while).
     ///
     /// # Errors
     ///
