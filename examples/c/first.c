@@ -1,4 +1,4 @@
-/* Document 01's example of the replay program, by the checked calls; then a batch, by the inner ones.
+/* Document 01's example of the replay program, by the checked calls; then batches, by the inner ones, the last ones up to a mark for lights-out.
    cc -I target/library examples/c/first.c -L target/library -lfanring */
 #include "fanring.h"
 #include <inttypes.h>
@@ -24,6 +24,7 @@ static void print(uint64_t tag) {
     case FANRING_TAKEN: numbers("taken", words, 2); break;
     case FANRING_ITEM: numbers("item", words, 1); numbers("", words + 2, 2); break;
     case FANRING_ITEMS: numbers("items", words, 1); numbers("", out, words[0]); break;
+    case FANRING_STOPPED: numbers("items", words, 1); numbers("", out, words[0]); numbers(" stopped", words, 0); break;
     case FANRING_EMPTY: numbers("empty", words, 0); break;
     case FANRING_DISCONNECTED: numbers("disconnected", words, 0); break;
     case FANRING_HELD: numbers("held", words, 1); break;
@@ -53,5 +54,15 @@ int main(void) {
     print(fanring_inner_held(STORES, words));
     print(fanring_inner_try_recv_batch_into(STORES, out, LENGTH(out), 9, words));
     print(fanring_inner_try_recv_batch_into(STORES, out, LENGTH(out), 8, words));
+
+    /* The button sends a mark, which is above any sample. The batch stops in front of it, and the host has the samples before lights-out. */
+    const uint64_t lights_out = 1000;
+    print(fanring_inner_try_send(STORES, slot, generation, 23, words));
+    print(fanring_inner_try_send(STORES, slot, generation, lights_out, words));
+    print(fanring_inner_try_send(STORES, slot, generation, 24, words));
+    print(fanring_inner_try_recv_batch_into_while(STORES, out, LENGTH(out), 8, lights_out - 1, words));
+    print(fanring_inner_try_recv_batch_into_while(STORES, out, LENGTH(out), 8, lights_out - 1, words));
+    print(fanring_inner_try_recv(STORES, words));
+    print(fanring_inner_try_recv_batch_into_while(STORES, out, LENGTH(out), 8, lights_out - 1, words));
     return 0;
 }

@@ -1,4 +1,4 @@
-// Document 01's example of the replay program, by the checked calls; then a batch, by the inner ones.
+// Document 01's example of the replay program, by the checked calls; then batches, by the inner ones, the last ones up to a mark for lights-out.
 // rustc --edition 2024 -L target/library -l static=fanring examples/rust/first.rs
 
 #[rustfmt::skip]
@@ -10,7 +10,9 @@ unsafe extern "C" {
     fn fanring_try_recv(table: *mut u64, table_len: usize, rings: *const u64, rings_len: usize, words: *mut [u64; 8]) -> u64;
     fn fanring_inner_register_sender(table: *mut u64, table_len: usize, rings: *const u64, rings_len: usize, most: u64, words: *mut [u64; 8]) -> u64;
     fn fanring_inner_try_send(table: *mut u64, table_len: usize, rings: *mut u64, rings_len: usize, slot: u64, generation: u64, item: u64, words: *mut [u64; 8]) -> u64;
+    fn fanring_inner_try_recv(table: *mut u64, table_len: usize, rings: *const u64, rings_len: usize, words: *mut [u64; 8]) -> u64;
     fn fanring_inner_try_recv_batch_into(table: *mut u64, table_len: usize, rings: *const u64, rings_len: usize, out: *mut u64, out_len: usize, limit: u64, words: *mut [u64; 8]) -> u64;
+    fn fanring_inner_try_recv_batch_into_while(table: *mut u64, table_len: usize, rings: *const u64, rings_len: usize, out: *mut u64, out_len: usize, limit: u64, bound: u64, words: *mut [u64; 8]) -> u64;
     fn fanring_inner_held(table: *const u64, table_len: usize, rings: *const u64, rings_len: usize, words: *mut [u64; 8]) -> u64;
 }
 
@@ -29,6 +31,7 @@ fn line(tag: u64, words: &[u64; 8], out: &[u64]) -> String {
         5 => "empty".to_string(),
         6 => "disconnected".to_string(),
         7 => numbers("held", &words[..1]),
+        9 => numbers(&numbers("items", &words[..1]), &out[..words[0] as usize]) + " stopped",
         _ => numbers("refused", &words[..1]),
     }
 }
@@ -73,6 +76,16 @@ fn inner(s: &mut Stores) {
     print!(s, fanring_inner_held);
     print!(s, fanring_inner_try_recv_batch_into, s.out.as_mut_ptr(), s.out.len(), 9);
     print!(s, fanring_inner_try_recv_batch_into, s.out.as_mut_ptr(), s.out.len(), 8);
+
+    // The button sends a mark, which is above any sample. The batch stops in front of it, and the host has the samples before lights-out.
+    let lights_out = 1000;
+    print!(s, fanring_inner_try_send, slot, generation, 23);
+    print!(s, fanring_inner_try_send, slot, generation, lights_out);
+    print!(s, fanring_inner_try_send, slot, generation, 24);
+    print!(s, fanring_inner_try_recv_batch_into_while, s.out.as_mut_ptr(), s.out.len(), 8, lights_out - 1);
+    print!(s, fanring_inner_try_recv_batch_into_while, s.out.as_mut_ptr(), s.out.len(), 8, lights_out - 1);
+    print!(s, fanring_inner_try_recv);
+    print!(s, fanring_inner_try_recv_batch_into_while, s.out.as_mut_ptr(), s.out.len(), 8, lights_out - 1);
 }
 
 fn main() {
