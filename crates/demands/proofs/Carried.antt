@@ -31,7 +31,7 @@ use Rattle.model.specs.Registration.{TakesFirstClear, TakesNextUnused, EightExa
 use Rattle.model.specs.PollLoop.{NothingLeft}
 use Rattle.model.specs.ReceivesEnd.{itemsAsked, EndsWithNothingLeft}
 use Rattle.model.specs.Stretch.{saysStopped}
-use Rattle.model.specs.Stops.{StopsInFront, StoppedInFront, StopsExactly, StopAtZero, SameReceive, PlainWhereAdmitted, RefusedAsBatch}
+use Rattle.model.specs.Stops.{StopsInFront, StoppedInFront, StopsExactly, StopAtZero, OnlyBoundedStop, StopKeepsPaused, SameReceive, PlainWhereAdmitted, RefusedAsBatch}
 use Rattle.model.specs.Simulation.{Simulation}
 use Rattle.demands.proofs.Budget.{budget-counts-items, events-tell}
 use Rattle.demands.proofs.OneTurn.{at-most-64-in-one-turn}
@@ -43,7 +43,7 @@ use Rattle.demands.proofs.ClosedSignal.{closed-signal-kept}
 use Rattle.demands.proofs.Registration.{takes-first-clear, takes-next-unused, eight-exactly, nine-exactly, refused-only-in-vain}
 use Rattle.demands.proofs.FreedOnTop.{freed-on-top}
 use Rattle.demands.proofs.ReceivesEnd.{ends-with-nothing-left}
-use Rattle.demands.proofs.Stops.{stopped-in-front, stops-exactly, stop-at-zero, plain-where-admitted, refused-as-batch}
+use Rattle.demands.proofs.Stops.{stopped-in-front, stops-exactly, stop-at-zero, only-bounded-stop, stop-keeps-paused, plain-where-admitted, refused-as-batch}
 use Rattle.demands.proofs.Simulation.{accepted-too, opened-after, opened-events}
 
 module _ (W : Viewed) (sim : Simulation W) where
@@ -188,6 +188,16 @@ module _ (W : Viewed) (sim : Simulation W) where
       let k = sim .answers-alike s (Receive r) o in
       let d = stop-at-zero (W .view s) tt limit bound room (ap accepted (sym k) ∙ a) g l e h in
       (k ∙ d .0, sim .hands-alike s r o ∙ d .1)
+
+  pub words-only-bounded-stop : OnlyBoundedStop W
+  unfolding OnlyBoundedStop
+  words-only-bounded-stop s o c w = only-bounded-stop (W .view s) tt c (ap saysStopped (sym (sim .answers-alike s c o)) ∙ w)
+
+  pub words-stop-keeps-paused : StopKeepsPaused W
+  unfolding StopKeepsPaused
+  words-stop-keeps-paused s o c w x r p =
+      subst (λ (u : State). SameLane (W .view s .slotOf x) (u .slotOf x)) (sym (sim .leaves-alike s c o))
+      (stop-keeps-paused (W .view s) (sim .shows-in-order s o) c (ap saysStopped (sym (sim .answers-alike s c o)) ∙ w) x r p)
 
   same-receive : (s : W .rules .State) (r other : ReceiveCall) → W .Ok s → SameReceive rulesOnAnyState (W .view s) r other → SameReceive W s r other
   same-receive s r other o k = record {

@@ -51,6 +51,7 @@ pub mod ClosedSignal
 pub mod Registration
 pub mod FreedOnTop
 pub mod ReceivesEnd
+pub mod PausedKept
 pub mod Stops
 pub mod Carried
 pub mod BudgetAfterNothing

@@ -18,7 +18,7 @@ use Rattle.model.specs.declared.Answer.{Answer}
 use Rattle.model.specs.declared.Answer.the-variants.{Done, Registered, Taken, Item, Items, Stopped, Empty, Disconnected, Held, Refused}
 use Rattle.model.specs.Lists.{Each}
 use Rattle.model.specs.State.{State, ringOf}
-use Rattle.model.specs.Runs.{Lent, allRuns, accepted, Tick, ends, handed, ticks, trace, afterList, sameKey, countTicks, ofLane}
+use Rattle.model.specs.Runs.{Lent, allRuns, accepted, Tick, gives, ends, handed, ticks, trace, afterList, sameKey, countTicks, ofLane}
 use Rattle.model.specs.Sender.{senderOutcome}
 use Rattle.model.specs.Receive.{receiveOutcome, outputAfter}
 use Rattle.model.specs.Control.{controlOutcome}
@@ -28,12 +28,12 @@ use Rattle.model.specs.Stretch.{endsWait, endsStretch, stretch, looks, findsNot
 use Rattle.model.specs.Demand2.{Demand2, Demand2In, outOf, into, shuts, values, Tells, HasRoom, HandsAsAnswered}
 use Rattle.model.specs.Demand3.{Demand3, Demand3In}
 use Rattle.model.specs.Held.{HeldAsCounted, HeldAsCountedIn, heldBy, heldByLanes}
-use Rattle.model.specs.Stops.{oldestAbove, someAbove, StopsOnlyAtItemsIn, StopsOnlyAtItems, HandsOnlyAdmittedIn, HandsOnlyAdmitted}
+use Rattle.model.specs.Stops.{oldestAbove, someAbove, StopsAt, isPlain, ofPlain, givesAbove, NextIsAboveIn, NextIsAbove, StopsOnlyAtItemsIn, StopsOnlyAtItems, HandsOnlyAdmittedIn, HandsOnlyAdmitted}
 use Rattle.model.specs.Simulation.{Simulation}
 use Rattle.model.specs.Keys.{registersAs, answersKeyThat, KeysNeverAgainIn, KeysNeverAgain}
 use Rattle.model.specs.Wake.{itemsBelow, belowLimit, maySleep, endsSleep, sendsTo, saysWoken, wakes, pausedIn, NoLostWakeIn, NoLostWake}
 use Rattle.model.specs.Examples.Calls.{compute}
-use Rattle.model.specs.ShutOut.{callBy, outputBy, receiveBeforeLooking, emptyBeforeLooking, receiveOfFront, fairServesFrontOnly, sendRefused, sendFullAlways, sendUnstored, sendStoresNothing, batchBy, whileBy, stoppedAtOnce, batchAlwaysStops, stoppedAtEnd, batchStopsAtEnd, neverStopped, batchNeverStops, firstMoved, batchMovesFirstOnly, othersReported, batchReportsOthers, oneMoreCounted, batchCountsOneMore, receiveLeavesItem, itemForEver, countsNone, heldZero, issuedAgain, registerSameKey, sameKeyAgain, sendUnwoken, sendNeverWakes}
+use Rattle.model.specs.ShutOut.{callBy, outputBy, receiveBeforeLooking, emptyBeforeLooking, receiveOfFront, fairServesFrontOnly, sendRefused, sendFullAlways, sendUnstored, sendStoresNothing, batchBy, whileBy, stoppedAtOnce, batchAlwaysStops, stoppedAtEnd, batchStopsAtEnd, itemAbove, stoppedTooSoon, batchStopsTooSoon, neverStopped, batchNeverStops, firstMoved, batchMovesFirstOnly, othersReported, batchReportsOthers, oneMoreCounted, batchCountsOneMore, receiveLeavesItem, itemForEver, countsNone, heldZero, issuedAgain, registerSameKey, sameKeyAgain, sendUnwoken, sendNeverWakes}
 use Rattle.demands.proofs.Counting.{no}
 use Rattle.demands.proofs.Simulation.{opened-trace}
 
@@ -188,22 +188,33 @@ held-zero-shut-out h =
 
 -- document 02, N2: a batch that answers a stop at count 0 whatever there is: on an empty channel no item is next
 pub always-stops-shut-out : StopsOnlyAtItems batchAlwaysStops → ⊥
-unfolding computeWrong StopsOnlyAtItems StopsOnlyAtItemsIn someAbove oldestAbove
-always-stops-shut-out h = no ((h opening lent refl calls tt [] [] 4 5 4 0 refl) .1) refl
+unfolding computeWrong StopsOnlyAtItems StopsOnlyAtItemsIn StopsAt someAbove oldestAbove
+always-stops-shut-out h = no ((h opening lent refl calls tt [] [] (Receive (TryRecvBatchIntoWhile 4 5 4)) 0 refl) .1) refl
   where
     calls : List Call
     calls = Receive (TryRecvBatchIntoWhile 4 5 4) ∷ []
 
 -- one that says so after all items, which were admitted: none is left
 pub stops-at-end-shut-out : StopsOnlyAtItems batchStopsAtEnd → ⊥
-unfolding computeWrong StopsOnlyAtItems StopsOnlyAtItemsIn someAbove oldestAbove
-stops-at-end-shut-out h = no ((h opening lent refl calls tt (take 3 run) [] 4 5 4 1 refl) .1) refl
+unfolding computeWrong StopsOnlyAtItems StopsOnlyAtItemsIn StopsAt someAbove oldestAbove
+stops-at-end-shut-out h = no ((h opening lent refl calls tt (take 3 run) [] (Receive (TryRecvBatchIntoWhile 4 5 4)) 1 refl) .1) refl
   where
     calls : List Call
     calls = registers ∷ sends 0 5 ∷ Receive (TryRecvBatchIntoWhile 4 5 4) ∷ []
 
     run : List Tick
     run = trace batchStopsAtEnd ((batchStopsAtEnd .opens opening lent) .1) calls
+
+-- one that stops at once for an item that is not in front: a plain receive then hands out lane 0's
+pub stops-too-soon-shut-out : NextIsAbove batchStopsTooSoon → ⊥
+unfolding computeWrong NextIsAbove NextIsAboveIn stoppedTooSoon itemAbove isPlain ofPlain givesAbove
+stops-too-soon-shut-out h =
+    no (h opening lent refl calls tt
+    (ends registers (Registered (lane 0)) ∷ ends registers (Registered (lane 1)) ∷ ends (sends 0 1) (Taken true 3) ∷ ends (sends 1 9) (Taken true 3) ∷ [])
+    (ends plain (Item 1 record { channel = record { id = 7; opening = 0 }; key = lane 0 }) ∷ []) 4 5 4 0 (gives TryRecv (lane 0) 1) refl refl) refl
+  where
+    calls : List Call
+    calls = registers ∷ registers ∷ sends 0 1 ∷ sends 1 9 ∷ Receive (TryRecvBatchIntoWhile 4 5 4) ∷ plain ∷ []
 
 -- and one that does not stop: an item of 9 is handed out under a bound of 5
 pub never-stops-shut-out : HandsOnlyAdmitted batchNeverStops → ⊥

@@ -26,7 +26,7 @@ use Rattle.model.specs.EqualTurns.{EqualTurnsIn, EqualTurns}
 use Rattle.model.specs.FreePlaces.{sendTo, FreePlacesIn, FreePlaces}
 use Rattle.model.specs.Closed.{NoneAfterCloseIn, NoneAfterClose}
 use Rattle.model.specs.Held.{HeldAsCountedIn, HeldAsCounted}
-use Rattle.model.specs.Stops.{StopsOnlyAtItemsIn, StopsOnlyAtItems, HandsOnlyAdmittedIn, HandsOnlyAdmitted}
+use Rattle.model.specs.Stops.{StopsOnlyAtItemsIn, StopsOnlyAtItems, NextIsAboveIn, NextIsAbove, HandsOnlyAdmittedIn, HandsOnlyAdmitted}
 use Rattle.model.specs.Wake.{NoLostWakeIn, NoLostWake, NothingWaitsIn, NothingWaits}
 use Rattle.model.specs.Keys.{KeysNeverAgainIn, KeysNeverAgain, IssuedAsAnsweredIn, IssuedAsAnswered}
 use Rattle.model.specs.FreePlaces.{NotFullBeforeIn, NotFullBefore}
@@ -41,7 +41,7 @@ use Rattle.demands.proofs.Closed.{none-after-close}
 use Rattle.demands.proofs.InOrder.{call-keeps-order, opening-in-order}
 use Rattle.demands.proofs.Held.{held-as-counted}
 use Rattle.demands.proofs.HandsAsAnswered.{hands-as-answered}
-use Rattle.demands.proofs.Stops.{stops-only-at-items, hands-only-admitted}
+use Rattle.demands.proofs.Stops.{stops-only-at-items, next-is-above, hands-only-admitted}
 use Rattle.demands.proofs.Wake.{no-lost-wake, nothing-waits}
 use Rattle.demands.proofs.Keys.{keys-never-again, issued-as-answered}
 use Rattle.demands.proofs.NotFull.{not-full-before}
@@ -244,8 +244,13 @@ module _ (W : Viewed) (sim : Simulation W) where
 
   transfer-stops : StopsOnlyAtItems theRules → StopsOnlyAtItemsIn (W .rules) (W .runs)
   unfolding StopsOnlyAtItems StopsOnlyAtItemsIn
-  transfer-stops h o lent d calls f before rest limit bound room n e =
-      h o (W .rules .lengths lent) (accepted-too W sim o lent d) calls tt before rest limit bound room n (sym (opened-trace W sim o lent d calls f) ∙ e)
+  transfer-stops h o lent d calls f before rest c n e =
+      h o (W .rules .lengths lent) (accepted-too W sim o lent d) calls tt before rest c n (sym (opened-trace W sim o lent d calls f) ∙ e)
+
+  transfer-next : NextIsAbove theRules → NextIsAboveIn (W .rules) (W .runs)
+  unfolding NextIsAbove NextIsAboveIn
+  transfer-next h o lent d calls f before rest limit bound room n t e =
+      h o (W .rules .lengths lent) (accepted-too W sim o lent d) calls tt before rest limit bound room n t (sym (opened-trace W sim o lent d calls f) ∙ e)
 
   transfer-admitted : HandsOnlyAdmitted theRules → HandsOnlyAdmittedIn (W .rules) (W .runs)
   unfolding HandsOnlyAdmitted HandsOnlyAdmittedIn
@@ -304,6 +309,9 @@ words-no-lost-wake W sim = transfer-wake W sim no-lost-wake
 
 pub words-stops-only-at-items : (W : Viewed) → Simulation W → StopsOnlyAtItemsIn (W .rules) (W .runs)
 words-stops-only-at-items W sim = transfer-stops W sim stops-only-at-items
+
+pub words-next-is-above : (W : Viewed) → Simulation W → NextIsAboveIn (W .rules) (W .runs)
+words-next-is-above W sim = transfer-next W sim next-is-above
 
 pub words-hands-only-admitted : (W : Viewed) → Simulation W → HandsOnlyAdmittedIn (W .rules) (W .runs)
 words-hands-only-admitted W sim = transfer-admitted W sim hands-only-admitted

@@ -12,6 +12,11 @@ use borrow.Author.Tests.{lt-leb, lt-ltb}
 use Rattle.model.specs.declared.LaneKey.{LaneKey}
 use Rattle.model.specs.declared.ReceiveCall.{ReceiveCall}
 use Rattle.model.specs.declared.ReceiveCall.the-variants.{TryRecv, TryRecvFair, TryRecvFrom, TryRecvBatchInto, TryRecvBatchIntoWhile}
+use Rattle.model.specs.declared.Opening.{Opening}
+use Rattle.model.specs.declared.SenderCall.{SenderCall}
+use Rattle.model.specs.declared.SenderCall.the-variants.{RegisterSender, TrySend, TrySendUnsignaled, DropSender}
+use Rattle.model.specs.declared.ControlCall.{ControlCall}
+use Rattle.model.specs.declared.ControlCall.the-variants.{Pause, Resume, CloseLane, ReleaseConsumed, PollAllLanes, CloseReceiver, CountHeld}
 use Rattle.model.specs.declared.Call.{Call}
 use Rattle.model.specs.declared.Call.the-variants.{Sender, Receive, Control}
 use Rattle.model.specs.declared.Refusal.{Refusal}
@@ -19,22 +24,28 @@ use Rattle.model.specs.declared.Refusal.the-variants.{ReceiverClosed, OutputSho
 use Rattle.model.specs.declared.Answer.{Answer}
 use Rattle.model.specs.declared.Answer.the-variants.{Done, Registered, Taken, Item, Items, Stopped, Empty, Disconnected, Held, Refused}
 use Rattle.model.specs.Lists.{if, both, either, count, Each}
-use Rattle.model.specs.State.{State, keyOf}
-use Rattle.model.specs.Turn.{refill, Took, polled}
+use Rattle.model.specs.State.{Slot, State, keyOf}
+use Rattle.model.specs.Turn.{refill, Took, giveItem, polled, takeOne}
 use Rattle.model.specs.Outcome.{Outcome, unless}
-use Rattle.model.specs.Runs.{accepted, Tick, gives, ends, handed, ticks, trace, afterList}
+use Rattle.model.specs.Runs.{Lent, accepted, Tick, gives, ends, handed, ticks, trace, afterList}
 use Rattle.model.specs.Ledger.{HeldItem, Lane, Ledger, atOpening, addRegistered, applyCall, note, ledgerAfter}
-use Rattle.model.specs.Receive.{takeUpTo, releaseAll, answerItems, admitted, halted, takeWhile, answerWhile, tryRecvBatchInto, tryRecvBatchIntoWhile, receiveOutcome}
+use Rattle.model.specs.Receive.{answerOne, andMore, tryRecv, tryRecvFair, tryRecvFrom, takeUpTo, releaseAll, answerItems, admitted, halted, takeWhile, answerWhile, tryRecvBatchInto, tryRecvBatchIntoWhile, receiveOutcome}
 use Rattle.model.specs.Stretch.{endsWait, endsStretch, saysStopped}
 use Rattle.model.specs.Opening.{openingOutcome}
 use Rattle.model.specs.Rules.{outcome, theRules}
 use Rattle.model.specs.Order.{Ordered}
-use Rattle.model.specs.Viewed.{rulesOnAnyState}
-use Rattle.model.specs.Stops.{plainItems, polledAfter, AllAdmitted, StopsInFront, StoppedInFront, StopsExactly, StopAtZero, SameReceive, PlainWhereAdmitted, RefusedAsBatch, StillWaits, oldestAbove, someAbove, StopsOnlyAtItemsIn, StopsOnlyAtItems, HandsOnlyAdmittedIn, HandsOnlyAdmitted}
-use Rattle.demands.proofs.Counting.{no}
-use Rattle.demands.proofs.OrderKept.{first-own, refill-pos, front-registered}
-use Rattle.demands.proofs.StopLaws.{NextUp, Stops, take-prefix, admitted-each, admitted-next, admitted-all, all-admitted, while-law, answer-items-unstopped}
-use Rattle.demands.proofs.Moves.{unless-law, nothing-taken-gives-none, call-chain, trace-chain}
+use Rattle.model.specs.Viewed.{rulesViewed, rulesOnAnyState}
+use Rattle.model.specs.Disconnected.{SameLane}
+use Rattle.model.specs.Sender.{clearSlots, issueSlot, senderOutcome, registerSender, trySend, trySendUnsignaled, dropSender}
+use Rattle.model.specs.Control.{controlOutcome, pause, resume, closeLane, releaseConsumed, pollAllLanes, closeReceiver, countHeld}
+use Rattle.model.specs.Stops.{plainItems, polledAfter, AllAdmitted, StopsInFront, StoppedInFront, StopsExactly, StopAtZero, hasBound, OnlyBoundedStop, StopKeepsPaused, SameReceive, PlainWhereAdmitted, RefusedAsBatch, StillWaits, oldestAbove, someAbove, StopsAt, isPlain, ofPlain, givesAbove, NextIsAboveIn, NextIsAbove, StopsOnlyAtItemsIn, StopsOnlyAtItems, HandsOnlyAdmittedIn, HandsOnlyAdmitted}
+use Rattle.demands.proofs.Counting.{no, not-false}
+use Rattle.demands.proofs.Quiet.{poll, poll-quiet, polled-quiet}
+use Rattle.demands.proofs.FrontItem.{take-one-front}
+use Rattle.demands.proofs.PausedKept.{polled-kept, take-up-to-kept}
+use Rattle.demands.proofs.OrderKept.{first-own, refill-pos, front-registered, take-up-to-ordered}
+use Rattle.demands.proofs.StopLaws.{NextUp, Stops, take-prefix, admitted-each, admitted-next, admitted-all, all-admitted, while-law, answer-one-unstopped, answer-items-unstopped, take-from-unstopped}
+use Rattle.demands.proofs.Moves.{unless-law, TakeResult, took-none, took-one, take-one-taken, nothing-taken-gives-none, call-chain, trace-chain}
 use Rattle.demands.proofs.Points.{ends-at, after-append}
 use Rattle.demands.proofs.LedgerLaws.{alike, unlike, keys?, look}
 use Rattle.demands.proofs.LedgerAgrees.{Agrees}
@@ -148,6 +159,72 @@ stop-at-zero s any limit bound room acc g l e h =
 
     none : admitted bound (plainItems limit s) ≡ 0
     none = ap (admitted bound) e ∙ first-out bound g l h
+
+-- ---- no other call answers so
+
+issue-unstopped : (f : List ℕ) (s : State) → saysStopped ((issueSlot f s) .1 .0) ≡ false
+unfolding issueSlot saysStopped
+issue-unstopped [] s = refl
+issue-unstopped (x ∷ f) s = refl
+
+other-unstopped : (s : State) (c : Call) → hasBound c ≡ false → saysStopped ((outcome s c) .1 .0) ≡ false
+unfolding hasBound outcome senderOutcome registerSender trySend trySendUnsignaled dropSender receiveOutcome tryRecv tryRecvFair tryRecvFrom tryRecvBatchInto controlOutcome pause resume closeLane releaseConsumed pollAllLanes closeReceiver countHeld saysStopped
+other-unstopped s (Sender (RegisterSender most)) b = unless-law Unstopped _ s _ (λ n. refl) (λ p. issued (clearSlots s))
+  where
+    Unstopped : Outcome → Type 0
+    Unstopped o = saysStopped (o .1 .0) ≡ false
+
+    issued : (f : List ℕ) → Unstopped (issueSlot f s)
+    issued f = issue-unstopped f s
+other-unstopped s (Sender (TrySend k v)) b = unless-law (λ o. saysStopped (o .1 .0) ≡ false) _ s _ (λ n. refl) (λ p. refl)
+other-unstopped s (Sender (TrySendUnsignaled k v)) b = unless-law (λ o. saysStopped (o .1 .0) ≡ false) _ s _ (λ n. refl) (λ p. refl)
+other-unstopped s (Sender (DropSender k)) b = unless-law (λ o. saysStopped (o .1 .0) ≡ false) _ s _ (λ n. refl) (λ p. refl)
+other-unstopped s (Receive TryRecv) b = unless-law (λ o. saysStopped (o .1 .0) ≡ false) _ s _ (λ n. refl) (λ p. answer-one-unstopped _ _)
+other-unstopped s (Receive TryRecvFair) b = unless-law (λ o. saysStopped (o .1 .0) ≡ false) _ s _ (λ n. refl) (λ p. answer-one-unstopped _ _)
+other-unstopped s (Receive (TryRecvFrom i)) b = unless-law (λ o. saysStopped (o .1 .0) ≡ false) _ s _ (λ n. refl) (λ p. take-from-unstopped _ _ s)
+other-unstopped s (Receive (TryRecvBatchInto m n)) b = unless-law (λ o. saysStopped (o .1 .0) ≡ false) _ s _ (λ n. refl) (λ p. answer-items-unstopped m _ _)
+other-unstopped s (Receive (TryRecvBatchIntoWhile m a n)) b = absurd (no refl b)
+other-unstopped s (Control (Pause i)) b = unless-law (λ o. saysStopped (o .1 .0) ≡ false) _ s _ (λ n. refl) (λ p. refl)
+other-unstopped s (Control (Resume i)) b = unless-law (λ o. saysStopped (o .1 .0) ≡ false) _ s _ (λ n. refl) (λ p. refl)
+other-unstopped s (Control (CloseLane i)) b = unless-law (λ o. saysStopped (o .1 .0) ≡ false) _ s _ (λ n. refl) (λ p. refl)
+other-unstopped s (Control ReleaseConsumed) b = unless-law (λ o. saysStopped (o .1 .0) ≡ false) _ s _ (λ n. refl) (λ p. refl)
+other-unstopped s (Control PollAllLanes) b = unless-law (λ o. saysStopped (o .1 .0) ≡ false) _ s _ (λ n. refl) (λ p. refl)
+other-unstopped s (Control CloseReceiver) b = unless-law (λ o. saysStopped (o .1 .0) ≡ false) _ s _ (λ n. refl) (λ p. refl)
+other-unstopped s (Control CountHeld) b = refl
+
+pub only-bounded-stop : OnlyBoundedStop rulesOnAnyState
+unfolding OnlyBoundedStop
+only-bounded-stop s any c w = go (hasBound c) refl
+  where
+    go : (b : Bool) → hasBound c ≡ b → b ≡ true
+    go true e = refl
+    go false e = absurd (no w (other-unstopped s c e))
+
+-- ---- paused lanes
+
+-- the budget and the credit leave it as it was
+credited-lane : (x : ℕ) (l : Slot) (s : State) → SameLane l (s .slotOf x) → SameLane l ((releaseAll (halted s)) .slotOf x)
+unfolding releaseAll halted
+credited-lane x l s k = record { still-registered = k .still-registered; still-paused = k .still-paused; same-generation = k .same-generation; same-items = k .same-items }
+
+pub stop-keeps-paused : StopKeepsPaused rulesViewed
+unfolding StopKeepsPaused hasBound outcome receiveOutcome tryRecvBatchIntoWhile answerWhile saysStopped
+stop-keeps-paused s i (Receive (TryRecvBatchIntoWhile limit bound room)) w x r p =
+    unless-law Keeps _ s _ (λ n z. absurd (no z refl))
+    (λ q. while-law (λ t es. Keeps (answerWhile limit (t .0) (t .1 .0) (releaseAll (t .1 .1)))) bound limit s
+    (λ all z. absurd (no z (answer-items-unstopped limit _ _))) (λ k h z. credited-lane x (s .slotOf x) _ (polled-kept x (s .slotOf x) _ (take-up-to-ordered k s (i .ordered)) (take-up-to-kept x (s .slotOf x) k s (i .ordered) as-it-is)))) w
+  where
+    Keeps : Outcome → Type 0
+    Keeps o = saysStopped (o .1 .0) ≡ true → SameLane (s .slotOf x) (o .1 .1 .slotOf x)
+
+    as-it-is : SameLane (s .slotOf x) (s .slotOf x)
+    as-it-is = record { still-registered = r; still-paused = p; same-generation = refl; same-items = refl }
+stop-keeps-paused s i (Receive (TryRecvBatchInto limit room)) w x r p = absurd (no w (other-unstopped s (Receive (TryRecvBatchInto limit room)) refl))
+stop-keeps-paused s i (Receive TryRecv) w x r p = absurd (no w (other-unstopped s (Receive TryRecv) refl))
+stop-keeps-paused s i (Receive TryRecvFair) w x r p = absurd (no w (other-unstopped s (Receive TryRecvFair) refl))
+stop-keeps-paused s i (Receive (TryRecvFrom j)) w x r p = absurd (no w (other-unstopped s (Receive (TryRecvFrom j)) refl))
+stop-keeps-paused s i (Sender c) w x r p = absurd (no w (other-unstopped s (Sender c) refl))
+stop-keeps-paused s i (Control c) w x r p = absurd (no w (other-unstopped s (Control c) refl))
 
 -- two receives with one outcome
 same-receive : (s : State) (r other : ReceiveCall) → receiveOutcome s r ≡ receiveOutcome s other → SameReceive rulesOnAnyState s r other
@@ -301,9 +378,11 @@ stop-ledger L s r done n e =
     ∙ ap (λ (a : Answer). note (ledgerAfter (ledgerAfter L done) (handed theRules s (Receive r))) (ends (Receive r) a)) e
     ∙ sym (after-append L done (handed theRules s (Receive r)))
 
-pub stops-only-at-items : StopsOnlyAtItems theRules
-unfolding StopsOnlyAtItems StopsOnlyAtItemsIn StoppedInFront
-stops-only-at-items o lent d calls all before rest limit bound room n e =
+stops-at-item : (o : Opening) (lent : Lent) → (openingOutcome o lent) .1 .0 ≡ Done → (calls : List Call) (before rest : List Tick) (limit bound room n : ℕ)
+    → trace theRules ((openingOutcome o lent) .1 .1) calls ≡ before ++ (ends (Receive (TryRecvBatchIntoWhile limit bound room)) (Stopped n) ∷ rest)
+    → (n < limit) × (someAbove bound ((ledgerAfter atOpening before) .lanes) ≡ true)
+unfolding StoppedInFront
+stops-at-item o lent d calls before rest limit bound room n e =
     let c = Receive (TryRecvBatchIntoWhile limit bound room) in
     let s = (openingOutcome o lent) .1 .1 in
     let i = opening-in-order o lent d in
@@ -323,3 +402,111 @@ stops-only-at-items o lent d calls all before rest limit bound room n e =
           (m .matches .pauses-same ∙ ordered .each-slot (f .lane) .queued-unpaused (omega (arith, ap (count (f .lane)) (f .in-front), first-own (f .lane) (f .others)))) (m .matches .unclosed)
           (oldest-above bound (f .item) (m .entry .holds) (f .left) (m .matches .values-same ∙ f .oldest) (f .not-admitted)),
     )
+
+pub stops-only-at-items : StopsOnlyAtItems theRules
+unfolding StopsOnlyAtItems StopsOnlyAtItemsIn StopsAt hasBound
+stops-only-at-items o lent d calls all before rest c n e = go c e (λ b. let p = ends-at calls s before rest c (Stopped n) e in no (is-stop (sym (p .answered))) (other-unstopped (afterList theRules s (p .made)) c b))
+  where
+    s : State
+    s = (openingOutcome o lent) .1 .1
+
+    go : (c : Call) → trace theRules s calls ≡ before ++ (ends c (Stopped n) ∷ rest) → (hasBound c ≡ false → ⊥) → StopsAt c n ((ledgerAfter atOpening before) .lanes)
+    go (Receive (TryRecvBatchIntoWhile limit bound room)) e f = stops-at-item o lent d calls before rest limit bound room n e
+    go (Receive (TryRecvBatchInto limit room)) e f = f refl
+    go (Receive TryRecv) e f = f refl
+    go (Receive TryRecvFair) e f = f refl
+    go (Receive (TryRecvFrom i)) e f = f refl
+    go (Sender c) e f = f refl
+    go (Control c) e f = f refl
+
+-- ---- the next item
+
+give-item-open : (s : State) (y : ℕ) (q vs : List ℕ) (back : Bool) → (giveItem s y q vs back) .isOpen ≡ s .isOpen
+unfolding giveItem
+give-item-open s y q vs back = refl
+
+take-up-to-open : (n : ℕ) (s : State) → (takeUpTo n s) .1 .isOpen ≡ s .isOpen
+unfolding takeUpTo andMore
+take-up-to-open zero s = refl
+take-up-to-open (suc n) s = go ((takeOne s) .0) (take-up-to-open n ((takeOne s) .1)) (one (takeOne s) (take-one-taken s))
+  where
+    one : (t : Took) → TakeResult false s t → t .1 .isOpen ≡ s .isOpen
+    one t (took-none e) = poll-quiet false s .opens
+    one t (took-one y v q vs e g) = give-item-open (poll false s) y q vs _ ∙ poll-quiet false s .opens
+
+    go : (l : List (LaneKey × ℕ)) → (takeUpTo n ((takeOne s) .1)) .1 .isOpen ≡ (takeOne s) .1 .isOpen → (takeOne s) .1 .isOpen ≡ s .isOpen
+        → (andMore l ((takeOne s) .1) (takeUpTo n ((takeOne s) .1))) .1 .isOpen ≡ s .isOpen
+    go [] ih e = e
+    go (g ∷ l) ih e = ih ∙ e
+
+-- one that stopped was not refused, and leaves the receiver open
+stop-open : (s : State) (limit bound room n : ℕ) → let o = receiveOutcome s (TryRecvBatchIntoWhile limit bound room) in o .1 .0 ≡ Stopped n → o .1 .1 .isOpen ≡ true
+unfolding receiveOutcome tryRecvBatchIntoWhile answerWhile saysStopped releaseAll halted
+stop-open s limit bound room n =
+    unless-law Open _ s _ (λ c e. absurd (no (is-stop e) refl))
+    (λ p. while-law (λ t es. Open (answerWhile limit (t .0) (t .1 .0) (releaseAll (t .1 .1)))) bound limit s
+    (λ all e. absurd (no (is-stop e) (answer-items-unstopped limit _ _)))
+    (λ k w e. polled-quiet ((takeUpTo k s) .1) .opens ∙ take-up-to-open k s ∙ not-false (p .0)))
+  where
+    Open : Outcome → Type 0
+    Open o = o .1 .0 ≡ Stopped n → o .1 .1 .isOpen ≡ true
+
+answer-one-hands : (g : LaneKey × ℕ) (u : State) → (answerOne (g ∷ []) u) .0 ≡ g ∷ []
+unfolding answerOne
+answer-one-hands g u = refl
+
+-- what a plain receive hands out where the front lane holds an item and no collection is due
+plain-hands : (s : State) (y v : ℕ) (q vs : List ℕ) → s .isOpen ≡ true → s .queue ≡ y ∷ q → s .slotOf y .ring ≡ v ∷ vs → 1 ≤ s .budget → (receiveOutcome s TryRecv) .0 ≡ (keyOf s y, v) ∷ []
+unfolding receiveOutcome tryRecv unless
+plain-hands s y v q vs o e r b =
+    ap (λ (c : Bool). (unless ((not c, ReceiverClosed) ∷ []) s (answerOne ((takeOne s) .0) ((takeOne s) .1))) .0) o
+    ∙ ap (λ (t : Took). (answerOne (t .0) (t .1)) .0) (take-one-front s y v q vs e r b) ∙ answer-one-hands (keyOf s y, v) _
+
+not-plain-sender : (c : SenderCall) (a : Answer) (t : Tick) → t ≡ ends (Sender c) a → ofPlain t ≡ false
+unfolding ofPlain
+not-plain-sender c a t k = ap ofPlain k
+
+not-plain-control : (c : ControlCall) (a : Answer) (t : Tick) → t ≡ ends (Control c) a → ofPlain t ≡ false
+unfolding ofPlain
+not-plain-control c a t k = ap ofPlain k
+
+-- the first thing of a call's: which receive's
+first-of : (r : ReceiveCall) (l : List (LaneKey × ℕ)) (a : Answer) (more : List Tick) (t : Tick) (rest : List Tick)
+    → t ∷ rest ≡ (map (λ g. gives r (g .0) (g .1)) l ++ (ends (Receive r) a ∷ [])) ++ more → ofPlain t ≡ isPlain r
+unfolding ofPlain
+first-of r [] a more t rest e = let h : t ≡ ends (Receive r) a = cc in ap ofPlain h
+first-of r (g ∷ l) a more t rest e = let h : t ≡ gives r (g .0) (g .1) = cc in ap ofPlain h
+
+first-of-call : (s : State) (r : ReceiveCall) (cs : List Call) (t : Tick) (rest : List Tick) → t ∷ rest ≡ trace theRules s (Receive r ∷ cs) → ofPlain t ≡ isPlain r
+unfolding trace ticks handed
+first-of-call s r cs t rest e = first-of r ((receiveOutcome s r) .0) ((outcome s (Receive r)) .1 .0) (trace theRules ((outcome s (Receive r)) .1 .1) cs) t rest e
+
+first-item : (r : ReceiveCall) (g : LaneKey × ℕ) (l : List (LaneKey × ℕ)) (a : Answer) (more : List Tick) (t : Tick) (rest : List Tick) (b : ℕ) → b < g .1
+    → t ∷ rest ≡ (map (λ h. gives r (h .0) (h .1)) (g ∷ l) ++ (ends (Receive r) a ∷ [])) ++ more → givesAbove b t ≡ true
+unfolding givesAbove
+first-item r g l a more t rest b h e = let k : t ≡ gives r (g .0) (g .1) = cc in ap (givesAbove b) k ∙ lt-ltb b (g .1) h
+
+plain-first : (s : State) (bound y v : ℕ) (q vs : List ℕ) → s .isOpen ≡ true → s .queue ≡ y ∷ q → s .slotOf y .ring ≡ v ∷ vs → 1 ≤ s .budget → bound < v
+    → (calls : List Call) (t : Tick) (rest : List Tick) → t ∷ rest ≡ trace theRules s calls → ofPlain t ≡ true → givesAbove bound t ≡ true
+unfolding trace ticks handed isPlain
+plain-first s bound y v q vs o e r b h [] t rest f w = let z : _≡_ {A = ℕ} 0 1 = cc in absurd (omega arith)
+plain-first s bound y v q vs o e r b h (Sender c ∷ cs) t rest f w = let k : t ≡ ends (Sender c) ((outcome s (Sender c)) .1 .0) = cc in absurd (no w (not-plain-sender c _ t k))
+plain-first s bound y v q vs o e r b h (Control c ∷ cs) t rest f w = let k : t ≡ ends (Control c) ((outcome s (Control c)) .1 .0) = cc in absurd (no w (not-plain-control c _ t k))
+plain-first s bound y v q vs o e r b h (Receive TryRecv ∷ cs) t rest f w =
+    first-item TryRecv (keyOf s y, v) [] ((outcome s (Receive TryRecv)) .1 .0) _ t rest bound h
+    (f ∙ ap (λ (l : List (LaneKey × ℕ)). (map (λ g. gives TryRecv (g .0) (g .1)) l ++ (ends (Receive TryRecv) ((outcome s (Receive TryRecv)) .1 .0) ∷ [])) ++ trace theRules ((outcome s (Receive TryRecv)) .1 .1) cs) (plain-hands s y v q vs o e r b))
+plain-first s bound y v q vs o e r b h (Receive TryRecvFair ∷ cs) t rest f w = absurd (no w (first-of-call s TryRecvFair cs t rest f))
+plain-first s bound y v q vs o e r b h (Receive (TryRecvFrom i) ∷ cs) t rest f w = absurd (no w (first-of-call s (TryRecvFrom i) cs t rest f))
+plain-first s bound y v q vs o e r b h (Receive (TryRecvBatchInto m n) ∷ cs) t rest f w = absurd (no w (first-of-call s (TryRecvBatchInto m n) cs t rest f))
+plain-first s bound y v q vs o e r b h (Receive (TryRecvBatchIntoWhile m a n) ∷ cs) t rest f w = absurd (no w (first-of-call s (TryRecvBatchIntoWhile m a n) cs t rest f))
+
+pub next-is-above : NextIsAbove theRules
+unfolding NextIsAbove NextIsAboveIn StoppedInFront outcome
+next-is-above o lent d calls all before rest limit bound room n t e w =
+    let c = Receive (TryRecvBatchIntoWhile limit bound room) in
+    let s = (openingOutcome o lent) .1 .1 in
+    let p = ends-at calls s before (t ∷ rest) c (Stopped n) e in
+    let u = afterList theRules s (p .made) in
+    let f = stopped-in-front u tt limit bound room n (sym (p .answered)) in
+    plain-first ((outcome u c) .1 .1) bound (f .lane) (f .item) (f .others) (f .left) (stop-open u limit bound room n (sym (p .answered))) (f .in-front) (f .oldest) (f .none-due) (f .not-admitted)
+    (p .left) t rest (p .goes-on) w

@@ -1,6 +1,6 @@
 -- What is claimed of the checked calls: of each on any two stores, and of lists of them from an accepted opening on.
--- Most claims are crate `model`'s (its specs/Demand2.antt, Demand3.antt, EqualTurns.antt, FreePlaces.antt, LaneIds.antt, Renumbered.antt, Closed.antt,
--- Held.antt, Wake.antt, Keys.antt), here of the words that the calls' contracts name; others are crate `refinement`'s (its specs/RulesOnWords.antt, AsRules.antt).
+-- Most claims are crate `model`'s (its specs/Demand2.antt, Demand3.antt, Stops.antt, EqualTurns.antt, FreePlaces.antt, LaneIds.antt, Renumbered.antt,
+-- Closed.antt, Held.antt, Wake.antt, Keys.antt), here of the words that the calls' contracts name; others are crate `refinement`'s (its specs/RulesOnWords.antt, AsRules.antt).
 -- Assumes nothing.
 use mathlib.Core.Path.{_≡_}
 use mathlib.Core.List.{List, map}
@@ -14,7 +14,7 @@ use Rattle.model.specs.Opening.{openingOutcome}
 use Rattle.model.specs.Simulation.{runsThatFit}
 use Rattle.model.specs.Demand2.{Demand2In, HandsAsAnsweredIn}
 use Rattle.model.specs.Demand3.{Demand3In, Demand3UnstoppedIn}
-use Rattle.model.specs.Stops.{StopsOnlyAtItemsIn, HandsOnlyAdmittedIn}
+use Rattle.model.specs.Stops.{StopsOnlyAtItemsIn, NextIsAboveIn, HandsOnlyAdmittedIn}
 use Rattle.model.specs.EqualTurns.{EqualTurnsIn}
 use Rattle.model.specs.FreePlaces.{FreePlacesIn, NotFullBeforeIn}
 use Rattle.model.specs.LaneIds.{OpeningsToldApartIn, SavedIdsRefusedIn}
@@ -90,11 +90,15 @@ LanesWaitBounded = Demand3In theCalls runs
 abbrev pub LanesWaitUnstopped : Type 0
 LanesWaitUnstopped = Demand3UnstoppedIn theCalls runs
 
--- document 02, N2: a batch answers that it stopped only below its limit, where an unpaused, unclosed lane's oldest item is above its bound
+-- document 02, N2: only a batch with a bound answers that it stopped, only below its limit, where an unpaused, unclosed lane's oldest item is above its bound
 abbrev pub StopsOnlyAtItems : Type 0
 StopsOnlyAtItems = StopsOnlyAtItemsIn theCalls runs
 
--- and hands out none above it
+-- an item above its bound is what a plain receive hands out right after the stop
+abbrev pub NextIsAbove : Type 0
+NextIsAbove = NextIsAboveIn theCalls runs
+
+-- and it hands out none above it
 abbrev pub HandsOnlyAdmitted : Type 0
 HandsOnlyAdmitted = HandsOnlyAdmittedIn theCalls runs
 
@@ -132,7 +136,7 @@ abbrev pub HeldIsCounted : Type 0
 HeldIsCounted = HeldAsCountedIn theCalls runs
 
 -- document 01's sentences on order kept, the poll budget, turns of 64, collections, where receives end, Disconnected and Empty, refusal 13, signals, first cursors
--- and queued keys, and document 02's on registrations and the free list (N4), one field for each
+-- and queued keys, and document 02's on registrations and the free list (N4) and on a batch that stops (N2), one field for each
 abbrev pub RulesKept : Type 0
 RulesKept = KeepsRules checkedCalls
 

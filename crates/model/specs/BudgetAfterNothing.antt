@@ -55,7 +55,7 @@ BudgetAfterNothing W =
     (w : W .rules .State) (r : ReceiveCall) → HandsNothing W w r → saysStopped ((W .rules .step w (Receive r)) .0) ≡ false
     → W .view ((W .rules .step w (Receive r)) .1) .budget ≡ budgetLeft (W .view w) r
 
--- Document 02, N2: a stop at count 0 leaves a budget of 0 at 64, as an item's turn would find it, and any other as it was.
+-- Document 02, N2: a stop at count 0 leaves a budget of 0 at 64, as just before an item is taken, and any other as it was.
 unfoldable pub BudgetAfterStop : Viewed → Type 0
 BudgetAfterStop W =
     (w : W .rules .State) (r : ReceiveCall) → HandsNothing W w r → saysStopped ((W .rules .step w (Receive r)) .0) ≡ true

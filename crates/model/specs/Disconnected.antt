@@ -41,7 +41,7 @@ pub record SameLane (l m : Slot) : Type 0 where
   pub same-generation : m .generation ≡ l .generation
   pub same-items : m .ring ≡ l .ring
 
--- A lane that is left when nothing is handed out and no sender lives.
+-- A lane that is left when nothing is found and no sender lives.
 pub record PausedWithItems (l : Slot) : Type 0 where
   pub is-paused : l .paused ≡ true
   pub holds-items : l .ring ≢ []

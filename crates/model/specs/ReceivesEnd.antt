@@ -1,5 +1,5 @@
--- Where the receives end: with what was asked for, with nothing left, or, of a batch with a bound, in front of an item above it. PollLoop.antt has it of the steps inside them; this is of the whole calls, which may
--- retire lanes and give back credit after these steps.
+-- Where the receives end: with what was asked for, with nothing left, or, of a batch with a bound, in front of an item above it. PollLoop.antt has it of the
+-- steps inside them; this is of the whole calls, which may retire lanes and give back credit after these steps.
 -- Assumes nothing.
 use mathlib.Core.Path.{_≡_}
 use mathlib.Core.Logic.{_⊎_}

@@ -19,7 +19,7 @@ use Rattle.model.specs.declared.Call.the-variants.{Sender, Receive, Cont
 use Rattle.model.specs.declared.Refusal.the-variants.{StoreNotInOrder, ReceiverClosed, OutputShort, Full}
 use Rattle.model.specs.declared.Answer.{Answer}
 use Rattle.model.specs.declared.Answer.the-variants.{Done, Registered, Taken, Item, Items, Stopped, Empty, Disconnected, Held, Refused}
-use Rattle.model.specs.Lists.{if, both, without}
+use Rattle.model.specs.Lists.{if, both, nonEmpty, without, keep, from}
 use Rattle.model.specs.State.{State, keyOf, hasLaneId, freePlaces}
 use Rattle.model.specs.Changes.{withQueue, withFree, withIssued, withBudget, put, withRing, newLane}
 use Rattle.model.specs.Ready.{collectReady}
@@ -27,7 +27,7 @@ use Rattle.model.specs.Turn.{runDown, giveFront, polled}
 use Rattle.model.specs.Outcome.{Outcome, says, unless}
 use Rattle.model.specs.Runs.{Lent, Rules, accepted}
 use Rattle.model.specs.Sender.{clearSlots, issueSlot, registerSender, trySend, trySendUnsignaled, senderOutcome}
-use Rattle.model.specs.Receive.{answerOne, takeUpTo, releaseAll, answerItems, takeWhile, writtenTo, receiveOutcome}
+use Rattle.model.specs.Receive.{answerOne, takeUpTo, releaseAll, answerItems, takeWhile, answerWhile, writtenTo, receiveOutcome}
 use Rattle.model.specs.Control.{controlOutcome}
 use Rattle.model.specs.Opening.{openedState, openingOutcome}
 use Rattle.model.specs.Wake.{saysWoken}
@@ -150,6 +150,20 @@ stoppedAtEnd limit bound s = let t = takeWhile bound limit s in (t .1 .0, (Stopp
 
 abbrev pub batchStopsAtEnd : Rules
 batchStopsAtEnd = rulesBy senderOutcome (whileBy stoppedAtEnd) controlOutcome
+
+-- one that stops at once where any unpaused lane's oldest item is above the bound, in front or not
+unfoldable pub itemAbove : ℕ → List ℕ → Bool
+itemAbove bound [] = false
+itemAbove bound (v ∷ vs) = ltb bound v
+
+unfoldable pub stoppedTooSoon : ℕ → ℕ → State → Outcome
+stoppedTooSoon limit bound s =
+    let t = takeWhile bound limit s in
+    let above = keep (λ x. both (s .slotOf x .registered) (both (not (s .slotOf x .paused)) (itemAbove bound (s .slotOf x .ring)))) (from 0 (s .issued)) in
+    if (nonEmpty above) ([], (Stopped 0, s)) (answerWhile limit (t .0) (t .1 .0) (releaseAll (t .1 .1)))
+
+abbrev pub batchStopsTooSoon : Rules
+batchStopsTooSoon = rulesBy senderOutcome (whileBy stoppedTooSoon) controlOutcome
 
 -- and one that hands out what is above the bound
 unfoldable pub neverStopped : ℕ → ℕ → State → Outcome

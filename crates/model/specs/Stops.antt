@@ -9,9 +9,9 @@ use lib.Dec.{ltb}
 use Rattle.model.specs.declared.LaneKey.{LaneKey}
 use Rattle.model.specs.declared.Opening.{Opening}
 use Rattle.model.specs.declared.ReceiveCall.{ReceiveCall}
-use Rattle.model.specs.declared.ReceiveCall.the-variants.{TryRecvBatchInto, TryRecvBatchIntoWhile}
+use Rattle.model.specs.declared.ReceiveCall.the-variants.{TryRecv, TryRecvFair, TryRecvFrom, TryRecvBatchInto, TryRecvBatchIntoWhile}
 use Rattle.model.specs.declared.Call.{Call}
-use Rattle.model.specs.declared.Call.the-variants.{Receive}
+use Rattle.model.specs.declared.Call.the-variants.{Sender, Receive, Control}
 use Rattle.model.specs.declared.Answer.the-variants.{Done, Stopped}
 use Rattle.model.specs.Lists.{both, either, Each}
 use Rattle.model.specs.State.{State, keyOf}
@@ -21,6 +21,7 @@ use Rattle.model.specs.Runs.{Rules, RunsOf, allRuns, accepted, Tick, giv
 use Rattle.model.specs.Ledger.{HeldItem, Lane, Ledger, atOpening, note, ledgerAfter, waits}
 use Rattle.model.specs.Receive.{takeUpTo, releaseAll}
 use Rattle.model.specs.Stretch.{endsStretch, saysStopped}
+use Rattle.model.specs.Disconnected.{SameLane}
 use Rattle.model.specs.Viewed.{Viewed, itemsOf, answerOf, viewAfter}
 
 -- ---- one call, by the rules' states
@@ -66,6 +67,16 @@ pub record StopsInFront (bound limit n : ℕ) (s u : State) (l : List (LaneKey �
   -- and all of the state: what those n items and that poll leave, a budget of 0 set to 64, the credit given back
   pub state-then : u ≡ releaseAll (withBudget (refill (polledAfter n s .budget)) (polledAfter n s))
 
+-- A batch with a bound.
+unfoldable pub hasBound : Call → Bool
+hasBound (Receive (TryRecvBatchIntoWhile limit bound room)) = true
+hasBound (Receive (TryRecvBatchInto limit room)) = false
+hasBound (Receive TryRecv) = false
+hasBound (Receive TryRecvFair) = false
+hasBound (Receive (TryRecvFrom i)) = false
+hasBound (Sender c) = false
+hasBound (Control c) = false
+
 -- ---- calls
 
 -- Of any calls W: what is set in below takes W first.
@@ -76,7 +87,7 @@ module _ (W : Viewed) where
       (s : W .rules .State) → W .Ok s → (limit bound room n : ℕ) → let r = TryRecvBatchIntoWhile limit bound room in
       answerOf W s (Receive r) ≡ Stopped n → StopsInFront bound limit n (W .view s) (viewAfter W s (Receive r)) (itemsOf W s r)
 
-  -- A batch that is not refused has not stopped exactly if all items of the plain batch of its limit are admitted.
+  -- A batch that is not refused stops exactly if some item of the plain batch of its limit is not admitted: it does not if all are, and only then.
   unfoldable pub StopsExactly : Type 0
   StopsExactly =
       (s : W .rules .State) → W .Ok s → (limit bound room : ℕ) → let a = answerOf W s (Receive (TryRecvBatchIntoWhile limit bound room)) in
@@ -90,6 +101,16 @@ module _ (W : Viewed) where
       accepted (answerOf W s (Receive r)) ≡ true
       → (g : LaneKey × ℕ) (l : List (LaneKey × ℕ)) → plainItems limit (W .view s) ≡ g ∷ l → bound < g .1
       → (answerOf W s (Receive r) ≡ Stopped 0) × (itemsOf W s r ≡ [])
+
+  -- No other call answers so.
+  unfoldable pub OnlyBoundedStop : Type 0
+  OnlyBoundedStop = (s : W .rules .State) → W .Ok s → (c : Call) → saysStopped (answerOf W s c) ≡ true → hasBound c ≡ true
+
+  -- A stop retires no paused lane, whether a sender lives or not: a paused lane is after it as it was.
+  unfoldable pub StopKeepsPaused : Type 0
+  StopKeepsPaused =
+      (s : W .rules .State) → W .Ok s → (c : Call) → saysStopped (answerOf W s c) ≡ true
+      → (x : ℕ) → let l = W .view s .slotOf x in l .registered ≡ true → l .paused ≡ true → SameLane l (viewAfter W s c .slotOf x)
 
   -- Two receives are one: in items, answer and the state that they leave.
   pub record SameReceive (s : W .rules .State) (r other : ReceiveCall) : Type 0 where
@@ -128,18 +149,61 @@ unfoldable pub someAbove : ℕ → List Lane → Bool
 someAbove bound [] = false
 someAbove bound (l ∷ ls) = either (both (not (l .paused)) (both (not (l .closed)) (oldestAbove bound (l .holds)))) (someAbove bound ls)
 
--- A batch answers that it stopped only below its limit, and only where such a lane is: "in front of the first item not admitted".
+-- What the answer that it stopped after n items says of a call, and of the lanes at that point: it is a batch with a bound, below its limit, and some lane is
+-- such a one.
+unfoldable pub StopsAt : Call → ℕ → List Lane → Type 0
+StopsAt (Receive (TryRecvBatchIntoWhile limit bound room)) n ls = (n < limit) × (someAbove bound ls ≡ true)
+StopsAt (Receive (TryRecvBatchInto limit room)) n ls = ⊥
+StopsAt (Receive TryRecv) n ls = ⊥
+StopsAt (Receive TryRecvFair) n ls = ⊥
+StopsAt (Receive (TryRecvFrom i)) n ls = ⊥
+StopsAt (Sender c) n ls = ⊥
+StopsAt (Control c) n ls = ⊥
+
+-- "but below its limit it stops in front of the first item not admitted", and only there.
 -- The claim is about all of `runs`.
 unfoldable pub StopsOnlyAtItemsIn : (R : Rules) → RunsOf R → Type 0
 StopsOnlyAtItemsIn R runs =
     (o : Opening) (lent : R .Stores) → (R .opens o lent) .0 ≡ Done
     → (calls : List Call) → runs o lent calls
-    → (before rest : List Tick) (limit bound room n : ℕ)
-    → trace R ((R .opens o lent) .1) calls ≡ before ++ (ends (Receive (TryRecvBatchIntoWhile limit bound room)) (Stopped n) ∷ rest)
-    → (n < limit) × (someAbove bound ((ledgerAfter atOpening before) .lanes) ≡ true)
+    → (before rest : List Tick) (c : Call) (n : ℕ)
+    → trace R ((R .opens o lent) .1) calls ≡ before ++ (ends c (Stopped n) ∷ rest)
+    → StopsAt c n ((ledgerAfter atOpening before) .lanes)
 
 unfoldable pub StopsOnlyAtItems : Rules → Type 0
 StopsOnlyAtItems R = StopsOnlyAtItemsIn R (allRuns R)
+
+unfoldable pub isPlain : ReceiveCall → Bool
+isPlain TryRecv = true
+isPlain TryRecvFair = false
+isPlain (TryRecvFrom i) = false
+isPlain (TryRecvBatchInto limit room) = false
+isPlain (TryRecvBatchIntoWhile limit bound room) = false
+
+-- A plain receive, by what it gives or by its end.
+unfoldable pub ofPlain : Tick → Bool
+ofPlain (gives r k v) = isPlain r
+ofPlain (ends (Receive r) a) = isPlain r
+ofPlain (ends (Sender c) a) = false
+ofPlain (ends (Control c) a) = false
+
+unfoldable pub givesAbove : ℕ → Tick → Bool
+givesAbove bound (gives r k v) = ltb bound v
+givesAbove bound (ends c a) = false
+
+-- "in the lane whose turn it is, which stays in front": a plain receive right after the stop hands out an item above the bound.
+-- The claim is about all of `runs`.
+unfoldable pub NextIsAboveIn : (R : Rules) → RunsOf R → Type 0
+NextIsAboveIn R runs =
+    (o : Opening) (lent : R .Stores) → (R .opens o lent) .0 ≡ Done
+    → (calls : List Call) → runs o lent calls
+    → (before rest : List Tick) (limit bound room n : ℕ) (t : Tick)
+    → trace R ((R .opens o lent) .1) calls ≡ before ++ (ends (Receive (TryRecvBatchIntoWhile limit bound room)) (Stopped n) ∷ (t ∷ rest))
+    → ofPlain t ≡ true
+    → givesAbove bound t ≡ true
+
+unfoldable pub NextIsAbove : Rules → Type 0
+NextIsAbove R = NextIsAboveIn R (allRuns R)
 
 -- No item that it hands out is above its bound.
 -- The claim is about all of `runs`.

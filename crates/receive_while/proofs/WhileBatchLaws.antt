@@ -139,8 +139,8 @@ module _ (t r out : List ℕ) (limit bound : ℕ) where
       while-refunds = turning-refunds u (subst Turning (sym drained-is) (drained-while-keeps t r limit bound k .turning))
 
       -- what the answer asks
-      pub while-rests : (w : List ℕ) → w ≡ releaseAll u → m .stopped ≡ false → RestsAt limit (m .count) w
+      pub while-rests : (w : List ℕ) → w ≡ releaseAll u → m .rejected ≡ false → RestsAt limit (m .received) w
       unfolding drainWhile
       while-rests w p s z h =
           subst Idle (sym p)
-          (idle-release-all u (subst Idle (sym drained-is) (drained-while-rests t r limit bound k h (ap (λ (x : Drained × List ℕ × List ℕ). x .0 .stopped) (sym d) ∙ s) (ap (λ (x : Drained × List ℕ × List ℕ). x .0 .count) (sym d) ∙ z))))
+          (idle-release-all u (subst Idle (sym drained-is) (drained-while-rests t r limit bound k h (ap (λ (x : Drained × List ℕ × List ℕ). x .0 .rejected) (sym d) ∙ s) (ap (λ (x : Drained × List ℕ × List ℕ). x .0 .received) (sym d) ∙ z))))

@@ -12,7 +12,7 @@ use Rattle.model.specs.declared.LaneKey.{LaneKey}
 use Rattle.model.specs.Receive as rules
 use Rattle.lane.specs.declared.lane.Lane.{Lane}
 use Rattle.yring.specs.Lists.{written}
-use Rattle.yring.specs.Ring.{prefix}
+use Rattle.yring.specs.Ring.{acceptedPrefix}
 use Rattle.receive_batch.specs.declared.batch.Front.{Front}
 use Rattle.receive_batch.specs.declared.batch.Front.the-variants as Front
 use Rattle.receive_while.specs.declared.batch_while.Drained.{Drained}
@@ -28,12 +28,12 @@ use Rattle.receive_batch.proofs.DrainLaws.{length-chunk, chunkHanded, length-ha
 abbrev Handed : Type 0
 Handed = List (LaneKey × ℕ)
 
-prefix-most : (b : ℕ) (l : List ℕ) → prefix b l ≤ length l
-unfolding prefix
+prefix-most : (b : ℕ) (l : List ℕ) → acceptedPrefix b l ≤ length l
+unfolding acceptedPrefix
 prefix-most b [] = omega arith
 prefix-most b (v ∷ l) = go (leb v b) (prefix-most b l)
   where
-    go : (c : Bool) → prefix b l ≤ length l → cond c (suc (prefix b l)) 0 ≤ suc (length l)
+    go : (c : Bool) → acceptedPrefix b l ≤ length l → cond c (suc (acceptedPrefix b l)) 0 ≤ suc (length l)
     go true h = omega arith
     go false h = omega arith
 
@@ -46,7 +46,7 @@ ontoWhile l d = (d .0, (l ++ d .1 .0, d .1 .1))
 
 -- what the loop leaves, with the output as it was
 abbrev pub leaves : List ℕ → DrainedWhile → Drained × List ℕ × List ℕ
-leaves out d = (record { count = length (d .1 .0); stopped = d .0 }, d .1 .1, rules.writtenTo (d .1 .0) out)
+leaves out d = (record { received = length (d .1 .0); rejected = d .0 }, d .1 .1, rules.writtenTo (d .1 .0) out)
 
 pub record Admitting (t₀ r out₀ : List ℕ) (limit bound : ℕ) (t out : List ℕ) (received : ℕ) : Type 0 where
   pub handed : List (LaneKey × ℕ)
@@ -83,18 +83,18 @@ within-next n t r bound left h = rw (ne-eqb left 0 (λ e. omega arith))
 
 module _ {t₀ r out₀ : List ℕ} {limit bound : ℕ} {t out : List ℕ} {received : ℕ} (d : Admitting t₀ r out₀ limit bound t out received) where
   -- it ends here, and has not stopped
-  ended : (u : List ℕ) → ontoWhile (d .handed) (false, ([], u)) ≡ drainedWhile t₀ r limit bound → (record { count = received; stopped = false }, u, out) ≡ drainWhile t₀ r out₀ limit bound
+  ended : (u : List ℕ) → ontoWhile (d .handed) (false, ([], u)) ≡ drainedWhile t₀ r limit bound → (record { received = received; rejected = false }, u, out) ≡ drainWhile t₀ r out₀ limit bound
   unfolding drainWhile
   ended u e =
       let all : (false, (d .handed, u)) ≡ drainedWhile t₀ r limit bound = ap (λ (l : Handed). (false, (l, u))) (sym (append-nil (d .handed))) ∙ e in
       rw (← d .counted, d .wrote) (ap (leaves out₀) all)
 
   -- the limit is reached
-  pub admitting-full : limit ≤ received → (record { count = received; stopped = false }, t, out) ≡ drainWhile t₀ r out₀ limit bound
+  pub admitting-full : limit ≤ received → (record { received = received; rejected = false }, t, out) ≡ drainWhile t₀ r out₀ limit bound
   unfolding drainedWhileWithin
   admitting-full h = go (d .fuel) (limit - received) (omega (arith, h)) (d .rest)
     where
-      go : (n left : ℕ) → left ≡ 0 → ontoWhile (d .handed) (drainedWhileWithin n t r bound left) ≡ drainedWhile t₀ r limit bound → (record { count = received; stopped = false }, t, out) ≡ drainWhile t₀ r out₀ limit bound
+      go : (n left : ℕ) → left ≡ 0 → ontoWhile (d .handed) (drainedWhileWithin n t r bound left) ≡ drainedWhile t₀ r limit bound → (record { received = received; rejected = false }, t, out) ≡ drainWhile t₀ r out₀ limit bound
       go zero left z e = ended t e
       go (suc n) left z e = ended t (rw (eq-eqb left 0 z) at e)
 
@@ -113,11 +113,11 @@ module _ {t₀ r out₀ : List ℕ} {limit bound : ℕ} {t out : List ℕ} {rece
     admit-long front u e = subst (λ (o : Front × List ℕ). length (o .1) ≡ length t) (sym e) (refresh-searched t turning .keeps .long) ∙ d .keeps .long
 
     -- nothing is queued and nothing is ready
-    pub admitting-none : (u : List ℕ) → (Front.None, u) ≡ refreshActive t → (record { count = received; stopped = false }, u, out) ≡ drainWhile t₀ r out₀ limit bound
+    pub admitting-none : (u : List ℕ) → (Front.None, u) ≡ refreshActive t → (record { received = received; rejected = false }, u, out) ≡ drainWhile t₀ r out₀ limit bound
     unfolding whileThen
     admitting-none u e = go (d .fuel) refl
       where
-        go : (n : ℕ) → n ≡ d .fuel → (record { count = received; stopped = false }, u, out) ≡ drainWhile t₀ r out₀ limit bound
+        go : (n : ℕ) → n ≡ d .fuel → (record { received = received; rejected = false }, u, out) ≡ drainWhile t₀ r out₀ limit bound
         go zero z = absurd (fuel-some zero z refl)
         go (suc n) z = ended u (ap (λ (o : Front × List ℕ). ontoWhile (d .handed) (whileThen o r bound (limit - received) (λ u m. drainedWhileWithin n u r bound m))) e ∙ step n z)
 
@@ -148,13 +148,13 @@ module _ {t₀ r out₀ : List ℕ} {limit bound : ℕ} {t out : List ℕ} {rece
       within-limit = omega (arith, chunk-least u (limit - received) l .0, h, least)
 
       module _ (room : limit ≤ length out₀) (m : Drained) (v o : List ℕ) (g : (m, v, o) ≡ giveAdmitted u r out received (limit - received) bound l) where
-        count-is : m .count ≡ k
+        count-is : m .received ≡ k
         unfolding giveAdmitted
-        count-is = ap (λ (z : Drained × List ℕ × List ℕ). z .0 .count) g
+        count-is = ap (λ (z : Drained × List ℕ × List ℕ). z .0 .received) g
 
-        stopped-is : m .stopped ≡ ltb k n
+        stopped-is : m .rejected ≡ ltb k n
         unfolding giveAdmitted
-        stopped-is = ap (λ (z : Drained × List ℕ × List ℕ). z .0 .stopped) g
+        stopped-is = ap (λ (z : Drained × List ℕ × List ℕ). z .0 .rejected) g
 
         table-is : v ≡ chunkGiven u k l
         unfolding giveAdmitted
@@ -172,10 +172,10 @@ module _ {t₀ r out₀ : List ℕ} {limit bound : ℕ} {t out : List ℕ} {rece
         counted-is : length (d .handed ++ chunkHanded u r k l) ≡ received + k
         counted-is = length-append (d .handed) (chunkHanded u r k l) ∙ ap₂ _+_ (d .counted) (length-handed u r k l)
 
-        pub admit-within : received + m .count ≤ limit
+        pub admit-within : received + m .received ≤ limit
         admit-within = omega (arith, count-is, within-limit)
 
-        pub admit-more : m .stopped ≡ false → 0 < m .count
+        pub admit-more : m .rejected ≡ false → 0 < m .received
         admit-more s = omega (arith, count-is, admit-some, ltb-false k n (sym stopped-is ∙ s))
 
         pub stop-long : length v ≡ length t₀
@@ -185,14 +185,14 @@ module _ {t₀ r out₀ : List ℕ} {limit bound : ℕ} {t out : List ℕ} {rece
         stop-output-long = ap length output-is ∙ length-output (d .handed ++ chunkHanded u r k l) out₀ (omega (arith, counted-is, within-limit, room))
 
         -- an item is not admitted
-        pub admitting-stops : m .stopped ≡ true → (record { count = received + m .count; stopped = true }, v, o) ≡ drainWhile t₀ r out₀ limit bound
+        pub admitting-stops : m .rejected ≡ true → (record { received = received + m .received; rejected = true }, v, o) ≡ drainWhile t₀ r out₀ limit bound
         unfolding whileThen drainWhile
         admitting-stops s = go (d .fuel) refl
           where
             short : ltb k n ≡ true
             short = sym stopped-is ∙ s
 
-            go : (f : ℕ) → f ≡ d .fuel → (record { count = received + m .count; stopped = true }, v, o) ≡ drainWhile t₀ r out₀ limit bound
+            go : (f : ℕ) → f ≡ d .fuel → (record { received = received + m .received; rejected = true }, v, o) ≡ drainWhile t₀ r out₀ limit bound
             go zero z = absurd (fuel-some zero z refl)
             go (suc f) z =
                 let more : DrainedWhile = drainedWhileWithin f (chunkGiven u k l) r bound (limit - received - k) in
@@ -201,14 +201,14 @@ module _ {t₀ r out₀ : List ℕ} {limit bound : ℕ} {t out : List ℕ} {rece
                 ∙ ap (λ (p : Front × List ℕ). ontoWhile (d .handed) (whileThen p r bound (limit - received) (λ u m. drainedWhileWithin f u r bound m))) e ∙ step f z in
                 rw (count-is, table-is, output-is, ← counted-is) (ap (leaves out₀) all)
 
-        pub admitting-next : m .stopped ≡ false → Admitting t₀ r out₀ limit bound v o (received + m .count)
+        pub admitting-next : m .rejected ≡ false → Admitting t₀ r out₀ limit bound v o (received + m .received)
         unfolding whileThen
         admitting-next s = go (d .fuel) refl
           where
             whole : ltb k n ≡ false
             whole = sym stopped-is ∙ s
 
-            go : (f : ℕ) → f ≡ d .fuel → Admitting t₀ r out₀ limit bound v o (received + m .count)
+            go : (f : ℕ) → f ≡ d .fuel → Admitting t₀ r out₀ limit bound v o (received + m .received)
             go zero z = absurd (fuel-some zero z refl)
             go (suc f) z =
                 rw (count-is, table-is)

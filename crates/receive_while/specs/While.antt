@@ -12,7 +12,7 @@ use Rattle.model.specs.declared.Answer.the-variants.{Stopped}
 use Rattle.model.specs.Receive as rules
 use Rattle.lane.specs.declared.lane.Lane.{Lane}
 use Rattle.yring.specs.Lists.{written}
-use Rattle.yring.specs.Ring.{prefix}
+use Rattle.yring.specs.Ring.{acceptedPrefix}
 use Rattle.store.specs.Words.{Words, unlessRefused, withRings}
 use Rattle.all_lanes.specs.AllLanes.{releaseAll}
 use Rattle.receive_batch.specs.declared.batch.Front.{Front}
@@ -22,7 +22,7 @@ use Rattle.receive_batch.specs.Batch.{refreshActive, chunkSize, chunkItems, chu
 
 -- "an item is admitted if it is at most a bound given with the call": how many of a chunk of n come before the first that is not
 unfoldable pub chunkAdmitted : List ℕ → List ℕ → ℕ → ℕ → Lane → ℕ
-chunkAdmitted t r bound n l = prefix bound (chunkItems t r n l)
+chunkAdmitted t r bound n l = acceptedPrefix bound (chunkItems t r n l)
 
 -- the admitted items of a chunk moved, whether one was not, the table, and the output with the items from place `at` on.
 -- "which stays in front with its burst": with no item admitted the lane is stored as the look left it, and only a budget of 0 becomes 64.
@@ -30,7 +30,7 @@ unfoldable pub giveAdmitted : List ℕ → List ℕ → List ℕ → ℕ → ℕ
 giveAdmitted t r out at left bound l =
     let n = chunkSize t left l in
     let k = chunkAdmitted t r bound n l in
-    (record { count = k; stopped = ltb k n }, chunkGiven t k l, written out at (chunkItems t r k l))
+    (record { received = k; rejected = ltb k n }, chunkGiven t k l, written out at (chunkItems t r k l))
 
 -- whether it stopped; each item with its lane's key, in order, and the table
 abbrev pub DrainedWhile : Type 0
@@ -59,16 +59,16 @@ drainedWhile t r limit bound = drainedWhileWithin limit t r bound limit
 unfoldable pub drainWhile : List ℕ → List ℕ → List ℕ → ℕ → ℕ → Drained × List ℕ × List ℕ
 drainWhile t r out limit bound =
     let d = drainedWhile t r limit bound in
-    (record { count = length (d .1 .0); stopped = d .0 }, d .1 .1, rules.writtenTo (d .1 .0) out)
+    (record { received = length (d .1 .0); rejected = d .0 }, d .1 .1, rules.writtenTo (d .1 .0) out)
 
 -- "it answers the count and whether it stopped so. A stop at count 0 is never Empty."
 unfoldable pub answerWhile : ℕ → Drained → List ℕ → Answer × List ℕ
-answerWhile limit m t = cond (m .stopped) (Stopped (m .count), t) (answerItems limit (m .count) t)
+answerWhile limit m t = cond (m .rejected) (Stopped (m .received), t) (answerItems limit (m .received) t)
 
 unfoldable pub whileAnswer : List ℕ → List ℕ → ℕ → ℕ → Answer × List ℕ
 whileAnswer t r limit bound =
     let d = drainedWhile t r limit bound in
-    answerWhile limit record { count = length (d .1 .0); stopped = d .0 } (releaseAll (d .1 .1))
+    answerWhile limit record { received = length (d .1 .0); rejected = d .0 } (releaseAll (d .1 .1))
 
 -- "Credit and refusals are as in the plain batch."
 unfoldable pub whileWords : List ℕ → List ℕ → ℕ → ℕ → ℕ → Words

@@ -18,8 +18,8 @@ use yring::ring::Ring;
 
 // How many items were moved, and whether the next was above the bound.
 pub struct Drained {
-    pub count: u64,
-    pub stopped: bool,
+    pub received: u64,
+    pub rejected: bool,
 }
 
 // Moves the items of a chunk of the front lane that stand before the first above the bound, and counts them as that many
@@ -44,8 +44,8 @@ fn give_admitted(
     batch::gave_chunk(t, count, l.move_chunk(capacity, count));
     Ring::new(l.key.slot, capacity).pop_into(r, l.head, count, out, at);
     Drained {
-        count: count,
-        stopped: count < take,
+        received: count,
+        rejected: count < take,
     }
 }
 
@@ -59,8 +59,8 @@ fn drain_while(t: &mut [u64], r: &[u64], out: &mut [u64], limit: u64, bound: u64
         match batch::refresh_active(t) {
             Front::None => {
                 return Drained {
-                    count: received,
-                    stopped: false,
+                    received: received,
+                    rejected: false,
                 };
             }
             Front::Ready { lane } => {
@@ -73,29 +73,29 @@ fn drain_while(t: &mut [u64], r: &[u64], out: &mut [u64], limit: u64, bound: u64
                     bound,
                     lane,
                 );
-                received += moved.count;
-                if moved.stopped {
+                received += moved.received;
+                if moved.rejected {
                     return Drained {
-                        count: received,
-                        stopped: true,
+                        received: received,
+                        rejected: true,
                     };
                 }
             }
         }
     }
     Drained {
-        count: received,
-        stopped: false,
+        received: received,
+        rejected: false,
     }
 }
 
 // The number of items and that it stopped; else as a batch answers.
 fn answer_while(t: &mut [u64], limit: u64, drained: Drained) -> Answer
-    requires { ⌜ (drained .stopped ≡ false → RestsAt limit (drained .count) (now t)) ⌝ }
+    requires { ⌜ (drained .rejected ≡ false → RestsAt limit (drained .received) (now t)) ⌝ }
     ensures { λ a. ⌜ (a, now (t .exit)) ≡ answerWhile limit drained (now (t .entry)) ⌝ }
 {
-    let count = drained.count;
-    if drained.stopped {
+    let count = drained.received;
+    if drained.rejected {
         return Answer::Stopped { count: count };
     }
     batch::answer_items(t, limit, count)

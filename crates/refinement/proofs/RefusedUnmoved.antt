@@ -181,11 +181,11 @@ batch-output-unmoved t r out limit why e = go (batchVerdict t limit (length out)
 
 answer-while-accepted : (limit : ℕ) (m : Drained) (t : List ℕ) → accepted ((answerWhile limit m t) .0) ≡ true
 unfolding answerWhile accepted
-answer-while-accepted limit m t = go (m .stopped)
+answer-while-accepted limit m t = go (m .rejected)
   where
-    go : (b : Bool) → accepted (cond {A = Answer × List ℕ} b (Stopped (m .count), t) (answerItems limit (m .count) t) .0) ≡ true
+    go : (b : Bool) → accepted (cond {A = Answer × List ℕ} b (Stopped (m .received), t) (answerItems limit (m .received) t) .0) ≡ true
     go true = refl
-    go false = answer-items-accepted limit (m .count) t
+    go false = answer-items-accepted limit (m .received) t
 
 module _ (t r : List ℕ) (limit bound : ℕ) where
   pub while-accepted : accepted ((whileAnswer t r limit bound) .0) ≡ true

@@ -1,7 +1,7 @@
 -- What specs/RulesOnWords.antt says, of the inner calls and of all that on stores in order are the inner calls: they simulate the rules.
 -- Assumes nothing.
 use mathlib.Core.Bool.{true, false}
-use Rattle.demands.proofs.Carried.{words-events-tell, words-budget-counts-items, words-at-most-64-in-one-turn, words-at-most-64-between-collections, words-ends-with-nothing-left, words-stopped-in-front, words-stops-exactly, words-stop-at-zero, words-plain-where-admitted, words-refused-as-batch, words-disconnected-exactly, words-retires-empty-paused, words-empty-with-paused-items, words-only-paused-items-left, words-targeted-disconnected-exactly, words-thirteen-exactly, words-else-six-or-accepted, words-idle-only-when-empty, words-closed-signal-kept, words-takes-first-clear, words-takes-next-unused, words-eight-exactly, words-nine-exactly, words-refused-only-in-vain, words-freed-on-top, words-collecting}
+use Rattle.demands.proofs.Carried.{words-events-tell, words-budget-counts-items, words-at-most-64-in-one-turn, words-at-most-64-between-collections, words-ends-with-nothing-left, words-stopped-in-front, words-stops-exactly, words-stop-at-zero, words-only-bounded-stop, words-stop-keeps-paused, words-plain-where-admitted, words-refused-as-batch, words-disconnected-exactly, words-retires-empty-paused, words-empty-with-paused-items, words-only-paused-items-left, words-targeted-disconnected-exactly, words-thirteen-exactly, words-else-six-or-accepted, words-idle-only-when-empty, words-closed-signal-kept, words-takes-first-clear, words-takes-next-unused, words-eight-exactly, words-nine-exactly, words-refused-only-in-vain, words-freed-on-top, words-collecting}
 use Rattle.demands.proofs.WhileMarked.{words-at-most-64-while-marked, words-at-most-64-while-marked-in-batch}
 use Rattle.demands.proofs.BudgetAfterNothing.{words-budget-after-nothing, words-budget-after-stop, words-budget-as-events-set}
 use Rattle.store.proofs.CollectedView.{view-collect-all, view-collect-group}
@@ -31,6 +31,8 @@ keeps-rules M i =
       stopped-in-front = words-stopped-in-front W sim;
       stops-exactly = words-stops-exactly W sim;
       stop-at-zero = words-stop-at-zero W sim;
+      only-bounded-stop = words-only-bounded-stop W sim;
+      stop-keeps-paused = words-stop-keeps-paused W sim;
       plain-where-admitted = words-plain-where-admitted W sim;
       refused-as-batch = words-refused-as-batch W sim;
       disconnected-exactly = words-disconnected-exactly W sim;

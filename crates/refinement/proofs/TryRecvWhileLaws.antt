@@ -28,12 +28,12 @@ use Rattle.refinement.proofs.WhileView.{WhileAs, drained-while-alike}
 -- the answer to items handed out from a table, by whether it stopped
 module _ (t r : List ℕ) (o : StoreInOrder t r) where
   answer-while-alike : (limit : ℕ) (b : Bool) (l : List (LaneKey × ℕ))
-      → seen (withRings r (answerWhile limit record { count = length l; stopped = b } (releaseAll t))) ≡ (rules.answerWhile limit b l (rules.releaseAll (view t r))) .1
+      → seen (withRings r (answerWhile limit record { received = length l; rejected = b } (releaseAll t))) ≡ (rules.answerWhile limit b l (rules.releaseAll (view t r))) .1
   unfolding answerWhile rules.answerWhile
   answer-while-alike limit true l = ap (λ (s : State). (Stopped (length l), s)) (view-release-all t r (o .stores))
   answer-while-alike limit false l = answer-items-alike t r o limit l
 
-  answer-while-keeps : (limit n : ℕ) (b : Bool) → StoreInOrder ((answerWhile limit record { count = n; stopped = b } (releaseAll t)) .1) r
+  answer-while-keeps : (limit n : ℕ) (b : Bool) → StoreInOrder ((answerWhile limit record { received = n; rejected = b } (releaseAll t)) .1) r
   unfolding answerWhile
   answer-while-keeps limit n true = released-in-order t r o
   answer-while-keeps limit n false = answer-items-keeps t r o limit n

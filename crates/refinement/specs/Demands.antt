@@ -1,6 +1,6 @@
 -- What is claimed of lists of calls on the two stores, made from an opening on, each on the words as the last one left them.
--- The claims are crate `model`'s (its specs/Demand1.antt, Demand2.antt, Demand3.antt, Stops.antt, EqualTurns.antt, FreePlaces.antt, LaneIds.antt, Renumbered.antt,
--- Closed.antt, Held.antt, Wake.antt, Keys.antt), here of the words that the calls' contracts name.
+-- The claims are crate `model`'s (its specs/Demand1.antt, Demand2.antt, Demand3.antt, Stops.antt, EqualTurns.antt, FreePlaces.antt, LaneIds.antt,
+-- Renumbered.antt, Closed.antt, Held.antt, Wake.antt, Keys.antt), here of the words that the calls' contracts name.
 -- Assumes nothing.
 use mathlib.Core.Bool.{cond}
 use mathlib.Core.List.{List, []}
@@ -11,7 +11,7 @@ use Rattle.model.specs.Runs.{RunsOf}
 use Rattle.model.specs.Simulation.{runsThatFit}
 use Rattle.model.specs.Demand2.{Demand2In, HandsAsAnsweredIn}
 use Rattle.model.specs.Demand3.{Demand3In, Demand3UnstoppedIn}
-use Rattle.model.specs.Stops.{StopsOnlyAtItemsIn, HandsOnlyAdmittedIn}
+use Rattle.model.specs.Stops.{StopsOnlyAtItemsIn, NextIsAboveIn, HandsOnlyAdmittedIn}
 use Rattle.model.specs.EqualTurns.{EqualTurnsIn}
 use Rattle.model.specs.FreePlaces.{FreePlacesIn, NotFullBeforeIn}
 use Rattle.model.specs.LaneIds.{OpeningsToldApartIn, SavedIdsRefusedIn}
@@ -61,11 +61,15 @@ LanesWaitBounded = Demand3In theStores runs
 abbrev pub LanesWaitUnstopped : Type 0
 LanesWaitUnstopped = Demand3UnstoppedIn theStores runs
 
--- document 02, N2: a batch answers that it stopped only below its limit, where an unpaused, unclosed lane's oldest item is above its bound
+-- document 02, N2: only a batch with a bound answers that it stopped, only below its limit, where an unpaused, unclosed lane's oldest item is above its bound
 abbrev pub StopsOnlyAtItems : Type 0
 StopsOnlyAtItems = StopsOnlyAtItemsIn theStores runs
 
--- and hands out none above it
+-- an item above its bound is what a plain receive hands out right after the stop
+abbrev pub NextIsAbove : Type 0
+NextIsAbove = NextIsAboveIn theStores runs
+
+-- and it hands out none above it
 abbrev pub HandsOnlyAdmitted : Type 0
 HandsOnlyAdmitted = HandsOnlyAdmittedIn theStores runs
 

@@ -1,7 +1,7 @@
 -- Document 01's sentences on order kept, the poll budget, turns of 64, collections, Disconnected and Empty, refusal 13, signals, first cursors and queued keys, and
--- document 02's on registrations and the free list (N4) and on a batch that stops (N2), of calls on two stores. Those that the rules have too are crate `model`'s (its specs/Budget.antt,
--- BudgetAfterNothing.antt, OneTurn.antt, Collections.antt, WhileMarked.antt, Disconnected.antt, LaneIds.antt, Signals.antt, Registration.antt, ReceivesEnd.antt, Stops.antt),
--- said of the state that the words show; those on words alone are here, and in RegistrationOnWords.antt.
+-- document 02's on registrations and the free list (N4) and on a batch that stops (N2), of calls on two stores. Those that the rules have too are crate
+-- `model`'s (its specs/Budget.antt, BudgetAfterNothing.antt, OneTurn.antt, Collections.antt, WhileMarked.antt, Disconnected.antt, LaneIds.antt, Signals.antt,
+-- Registration.antt, ReceivesEnd.antt, Stops.antt), said of the state that the words show; those on words alone are here, and in RegistrationOnWords.antt.
 -- Assumes nothing.
 use mathlib.Core.Path.{_≡_}
 use mathlib.Core.Bool.{Bool, true, false}
@@ -21,7 +21,7 @@ use Rattle.model.specs.BudgetAfterNothing.{BudgetAfterNothing, BudgetAfterStop,
 use Rattle.model.specs.Disconnected.{DisconnectedExactly, RetiresEmptyPaused, EmptyWithPausedItems, OnlyPausedItemsLeft, TargetedDisconnectedExactly}
 use Rattle.model.specs.LaneIds.{ThirteenExactly, ElseSixOrAccepted}
 use Rattle.model.specs.ReceivesEnd.{EndsWithNothingLeft}
-use Rattle.model.specs.Stops.{StoppedInFront, StopsExactly, StopAtZero, PlainWhereAdmitted, RefusedAsBatch}
+use Rattle.model.specs.Stops.{StoppedInFront, StopsExactly, StopAtZero, OnlyBoundedStop, StopKeepsPaused, PlainWhereAdmitted, RefusedAsBatch}
 use Rattle.model.specs.Signals.{IdleOnlyWhenEmpty, ClosedSignalKept}
 use Rattle.model.specs.Registration.{TakesFirstClear, TakesNextUnused, EightExactly, NineExactly, RefusedOnlyInVain, FreedOnTop}
 use Rattle.lane.specs.Table.{laneAt}
@@ -67,6 +67,8 @@ pub record KeepsRules (M : StoreCalls) : Type 0 where
   pub stopped-in-front : StoppedInFront (viewedOf M)
   pub stops-exactly : StopsExactly (viewedOf M)
   pub stop-at-zero : StopAtZero (viewedOf M)
+  pub only-bounded-stop : OnlyBoundedStop (viewedOf M)
+  pub stop-keeps-paused : StopKeepsPaused (viewedOf M)
   pub plain-where-admitted : PlainWhereAdmitted (viewedOf M)
   pub refused-as-batch : RefusedAsBatch (viewedOf M)
   pub disconnected-exactly : DisconnectedExactly (viewedOf M)

@@ -12,7 +12,7 @@ use borrow.Author.Tests.{le-leb, lt-leb}
 use lib.ListN.{length, getD, set, drop, List·getD-append}
 use Rattle.yring.specs.Lists.{tab, written}
 use Rattle.yring.specs.Cursor.{after, distance, Capacity}
-use Rattle.yring.specs.Ring.{Within, newRing, index, itemAt, items, run, freeAfter, prefix}
+use Rattle.yring.specs.Ring.{Within, newRing, index, itemAt, items, run, freeAfter, acceptedPrefix}
 use Rattle.yring.specs.declared.ring.Ring.{Ring}
 use Rattle.yring.proofs.ListLaws.{length-tab, tab-ext, tab-self, tab-add, tab-out, tab-push, tab-more, tab-pop, apart, written-step, written-twice}
 use Rattle.yring.proofs.CursorLaws.{wraps, some}
@@ -154,21 +154,21 @@ free-after-is ring cursor released small h = go (ring .capacity) (distance curso
 -- ---- the items up to a bound
 
 -- the first n are all admitted, and the next one is: n + 1 are
-prefix-more : (b n : ℕ) (f : ℕ → ℕ) → prefix b (tab n f) ≡ n → f n ≤ b → prefix b (tab (suc n) f) ≡ suc n
-unfolding prefix
+prefix-more : (b n : ℕ) (f : ℕ → ℕ) → acceptedPrefix b (tab n f) ≡ n → f n ≤ b → acceptedPrefix b (tab (suc n) f) ≡ suc n
+unfolding acceptedPrefix
 prefix-more b zero f e h = rw (le-leb (f 0) b h)
 prefix-more b (suc n) f e h = go (leb (f 0) b) e (prefix-more b n (λ i. f (suc i)))
   where
     rest : ℕ → List ℕ
     rest m = tab m (λ i. f (suc i))
 
-    go : (c : Bool) → cond c (suc (prefix b (rest n))) 0 ≡ suc n → (prefix b (rest n) ≡ n → f (suc n) ≤ b → prefix b (rest (suc n)) ≡ suc n) → cond c (suc (prefix b (rest (suc n)))) 0 ≡ suc (suc n)
+    go : (c : Bool) → cond c (suc (acceptedPrefix b (rest n))) 0 ≡ suc n → (acceptedPrefix b (rest n) ≡ n → f (suc n) ≤ b → acceptedPrefix b (rest (suc n)) ≡ suc n) → cond c (suc (acceptedPrefix b (rest (suc n)))) 0 ≡ suc (suc n)
     go true e ih = ap suc (ih (omega arith) h)
     go false e ih = absurd (omega arith)
 
 -- and the next one is not: there the prefix ends
-prefix-ends : (b n c : ℕ) (f : ℕ → ℕ) → prefix b (tab n f) ≡ n → b < f n → n < c → prefix b (tab c f) ≡ n
-unfolding prefix
+prefix-ends : (b n c : ℕ) (f : ℕ → ℕ) → acceptedPrefix b (tab n f) ≡ n → b < f n → n < c → acceptedPrefix b (tab c f) ≡ n
+unfolding acceptedPrefix
 prefix-ends b n zero f e h l = absurd (omega arith)
 prefix-ends b zero (suc c) f e h l = rw (lt-leb (f 0) b h)
 prefix-ends b (suc n) (suc c) f e h l = go (leb (f 0) b) e (prefix-ends b n c (λ i. f (suc i)))
@@ -176,21 +176,21 @@ prefix-ends b (suc n) (suc c) f e h l = go (leb (f 0) b) e (prefix-ends b n c (�
     rest : ℕ → List ℕ
     rest m = tab m (λ i. f (suc i))
 
-    go : (d : Bool) → cond d (suc (prefix b (rest n))) 0 ≡ suc n → (prefix b (rest n) ≡ n → b < f (suc n) → n < c → prefix b (rest c) ≡ n) → cond d (suc (prefix b (rest c))) 0 ≡ suc n
+    go : (d : Bool) → cond d (suc (acceptedPrefix b (rest n))) 0 ≡ suc n → (acceptedPrefix b (rest n) ≡ n → b < f (suc n) → n < c → acceptedPrefix b (rest c) ≡ n) → cond d (suc (acceptedPrefix b (rest c))) 0 ≡ suc n
     go true e ih = ap suc (ih (omega arith) h (omega arith))
     go false e ih = absurd (omega arith)
 
-module _ (ring : Ring) (store : List ℕ) (head bound n : ℕ) (all : prefix bound (items ring store head n) ≡ n) where
-  pub admits-more : itemAt ring store (after head n) ≤ bound → prefix bound (items ring store head (n + 1)) ≡ n + 1
+module _ (ring : Ring) (store : List ℕ) (head bound n : ℕ) (all : acceptedPrefix bound (items ring store head n) ≡ n) where
+  pub admits-more : itemAt ring store (after head n) ≤ bound → acceptedPrefix bound (items ring store head (n + 1)) ≡ n + 1
   unfolding items
   admits-more h =
       let e : n + 1 ≡ suc n = omega arith in
       rw e (prefix-more bound n (λ i. itemAt ring store (after head i)) all h)
 
-  pub admits-no-more : (count : ℕ) → bound < itemAt ring store (after head n) → n < count → prefix bound (items ring store head count) ≡ n
+  pub admits-no-more : (count : ℕ) → bound < itemAt ring store (after head n) → n < count → acceptedPrefix bound (items ring store head count) ≡ n
   unfolding items
   admits-no-more count h l = prefix-ends bound n count (λ i. itemAt ring store (after head i)) all h l
 
-pub admits-none : (ring : Ring) (store : List ℕ) (head bound : ℕ) → prefix bound (items ring store head 0) ≡ 0
-unfolding items prefix
+pub admits-none : (ring : Ring) (store : List ℕ) (head bound : ℕ) → acceptedPrefix bound (items ring store head 0) ≡ 0
+unfolding items acceptedPrefix
 admits-none ring store head bound = refl

@@ -53,9 +53,9 @@ abbrev pub put : Ring → List ℕ → ℕ → ℕ → List ℕ
 put ring store cursor item = set store (index ring cursor) item
 
 -- Document 02, N2: "an item is admitted if it is at most a bound given with the call": how many items of a list stand before the first that is not
-unfoldable pub prefix : ℕ → List ℕ → ℕ
-prefix bound [] = 0
-prefix bound (v ∷ vs) = cond (leb v bound) (suc (prefix bound vs)) 0
+unfoldable pub acceptedPrefix : ℕ → List ℕ → ℕ
+acceptedPrefix bound [] = 0
+acceptedPrefix bound (v ∷ vs) = cond (leb v bound) (suc (acceptedPrefix bound vs)) 0
 
 -- the output with the n items from the head on, from place `at` on
 unfoldable pub popInto : Ring → List ℕ → ℕ → ℕ → List ℕ → ℕ → List ℕ

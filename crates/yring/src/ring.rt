@@ -4,7 +4,7 @@ ghost use Prim.Native.Nat.{_+_, _^_, _≤_, _<_};
 ghost use lib.ListN.{length, set};
 ghost use Rattle.yring.specs.Lists.{written};
 ghost use Rattle.yring.specs.Cursor.{after, distance, Capacity};
-ghost use Rattle.yring.specs.Ring.{Within, newRing, index, itemAt, items, run, push, put, popInto, prefix};
+ghost use Rattle.yring.specs.Ring.{Within, newRing, index, itemAt, items, run, push, put, popInto, acceptedPrefix};
 
 // Where a lane's ring lies in the ring store.
 pub struct Ring {
@@ -95,7 +95,7 @@ impl Ring {
     // How many of the `count` items from the head on stand before the first that is above `bound`.
     pub fn accepted_prefix(self, store: &[u64], head: u64, count: u64, bound: u64) -> u64
         requires { ⌜ Within self (length (now store)) ⌝ }
-        ensures { λ r. ⌜ (r ≡ prefix bound (items self (now (store .entry)) head count)) × (r ≤ count) ⌝ }
+        ensures { λ r. ⌜ (r ≡ acceptedPrefix bound (items self (now (store .entry)) head count)) × (r ≤ count) ⌝ }
     {
         let mut accepted = 0;
         while accepted < count {

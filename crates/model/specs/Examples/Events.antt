@@ -84,7 +84,8 @@ fair-and-targeted :
 unfolding computeEvents
 fair-and-targeted = refl
 
--- Document 02, N2: "it stops in front of the first item not admitted, after any collection due there": after 64 items of lane 0 one is due, which finds lane 1's bit; no item is taken
+-- Document 02, N2: "it stops in front of the first item not admitted, after any collection due there": after 64 items of lane 0 one is due, which finds
+-- lane 1's bit; no item is taken
 stop-collects :
     runEvents rulesViewed twoSlots lent (registers ∷ registers ∷ repeat 65 (sends 0) ++ (plain ∷ sends 1 ∷ repeat 63 plain ++ (Receive (TryRecvBatchIntoWhile 3 4 3) ∷ [])))
     ≡ budgetSet ∷ collected ∷ repeat 64 (itemTaken (lane 0)) ++ (wentToBack (lane 0) ∷ collected ∷ budgetSet ∷ [])

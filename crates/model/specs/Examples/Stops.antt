@@ -166,6 +166,23 @@ stops =
           ∷ (1, batchWhile 4 5, Disconnected)
           ∷ [];
     }
+    -- so too where it stops after an item
+    ∷ record {
+      capacity = 4;
+      slots = 2;
+      generation = 0;
+      budget = 63;
+      said = (1, registers, lane 0 0)
+          ∷ (1, registers, lane 1 0)
+          ∷ (1, sends 1 1, Taken true 3)
+          ∷ (1, sends 1 9, Taken false 2)
+          ∷ (1, pauses 0, Done)
+          ∷ (1, drops 0, Done)
+          ∷ (1, drops 1, Done)
+          ∷ (1, batchWhile 4 5, Stopped 1)
+          ∷ (1, pauses 0, Done)
+          ∷ [];
+    }
     -- an unpaused lane that is found empty on the way, its sender dropped, is retired though the batch stops at count 0
     ∷ record {
       capacity = 4;

@@ -8,16 +8,17 @@ use lib.ListN.{take, drop}
 use Rattle.model.specs.declared.LaneKey.{LaneKey}
 use Rattle.model.specs.declared.Opening.{Opening}
 use Rattle.model.specs.declared.SenderCall.the-variants.{RegisterSender, TrySend}
-use Rattle.model.specs.declared.ReceiveCall.the-variants.{TryRecv, TryRecvBatchIntoWhile}
+use Rattle.model.specs.declared.ReceiveCall.the-variants.{TryRecv, TryRecvFair, TryRecvFrom, TryRecvBatchInto, TryRecvBatchIntoWhile}
+use Rattle.model.specs.declared.ControlCall.the-variants.{CountHeld}
 use Rattle.model.specs.declared.Call.{Call}
-use Rattle.model.specs.declared.Call.the-variants.{Sender, Receive}
+use Rattle.model.specs.declared.Call.the-variants.{Sender, Receive, Control}
 use Rattle.model.specs.declared.Refusal.the-variants.{Full}
 use Rattle.model.specs.declared.Answer.the-variants.{Done, Registered, Taken, Item, Items, Stopped, Empty, Disconnected, Held, Refused}
 use Rattle.model.specs.Runs.{Lent, accepted, Tick, gives, ends, handed, ticks, trace, sameKey, countTicks}
 use Rattle.model.specs.Rules.{theRules}
 use Rattle.model.specs.Ledger.{HeldItem, Lane, atOpening, changeLane, addItem, removeOldest, addRegistered, applyCall, note, ledgerAfter, anyOrdinary, waitsIn, waits}
 use Rattle.model.specs.Stretch.{endsWait, endsStretch, stretch, saysStopped, stopped}
-use Rattle.model.specs.Stops.{oldestAbove, someAbove}
+use Rattle.model.specs.Stops.{hasBound, oldestAbove, someAbove, isPlain, ofPlain, givesAbove}
 use Rattle.model.specs.Examples.Pairs.{Reads}
 use Rattle.model.specs.Examples.Example.{keyAt, idOn, idAt}
 use Rattle.model.specs.Examples.Calls.{compute}
@@ -119,6 +120,57 @@ still-waits-read :
     ∷ [])
 unfolding computeRun waitsAfter
 still-waits-read = refl
+
+-- which things of a run are stops
+stopped-read :
+    Reads stopped
+    ((gives (TryRecvBatchIntoWhile 4 5 4) (keyAt 0 0) 5, false)
+    ∷ (ends stopping (Stopped 0), true)
+    ∷ (ends stopping (Items 4), false)
+    ∷ (ends stopping Empty, false)
+    ∷ (ends (Receive TryRecv) (Item 9 (idAt 0 0)), false)
+    ∷ [])
+unfolding computeRun
+stopped-read = refl
+
+-- a plain receive, and what it gives: the item above the bound, the bound itself
+plain-read :
+    Reads ofPlain
+    ((gives TryRecv (keyAt 0 0) 9, true)
+    ∷ (gives TryRecvFair (keyAt 0 0) 9, false)
+    ∷ (gives (TryRecvFrom (idAt 0 0)) (keyAt 0 0) 9, false)
+    ∷ (gives (TryRecvBatchInto 4 4) (keyAt 0 0) 9, false)
+    ∷ (gives (TryRecvBatchIntoWhile 4 9 4) (keyAt 0 0) 9, false)
+    ∷ (ends (Receive TryRecv) Empty, true)
+    ∷ (ends (Receive TryRecvFair) Empty, false)
+    ∷ (ends stopping (Stopped 0), false)
+    ∷ (ends (Sender (RegisterSender 1)) (Registered (keyAt 0 0)), false)
+    ∷ [])
+unfolding isPlain ofPlain stopping
+plain-read = refl
+
+above-read :
+    Reads (givesAbove 5)
+    ((gives TryRecv (keyAt 0 0) 6, true)
+    ∷ (gives TryRecv (keyAt 0 0) 5, false)
+    ∷ (ends (Receive TryRecv) (Item 6 (idAt 0 0)), false)
+    ∷ [])
+unfolding givesAbove
+above-read = refl
+
+-- which calls have a bound
+bound-read :
+    Reads hasBound
+    ((stopping, true)
+    ∷ (Receive (TryRecvBatchInto 4 4), false)
+    ∷ (Receive TryRecv, false)
+    ∷ (Receive TryRecvFair, false)
+    ∷ (Receive (TryRecvFrom (idAt 0 0)), false)
+    ∷ (Sender (RegisterSender 1), false)
+    ∷ (Control CountHeld, false)
+    ∷ [])
+unfolding hasBound stopping
+bound-read = refl
 
 -- its stretch goes on over both stops
 stops-in-stretch : countTicks stopped (stretch (keyAt 0 0) (drop 2 run)) ≡ 2

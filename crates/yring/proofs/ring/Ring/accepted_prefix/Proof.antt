@@ -4,14 +4,14 @@ use mathlib.Core.Path.{_≡_, sym, ap, _∙_}
 use Prim.Native.Nat.{ℕ, _-_, _≤_}
 use native.Mathlib.Omega.{arith}
 use Rattle.yring.specs.Cursor.{after}
-use Rattle.yring.specs.Ring.{itemAt, items, prefix}
+use Rattle.yring.specs.Ring.{itemAt, items, acceptedPrefix}
 use Rattle.yring.proofs.RingLaws.{admits-none, admits-more, admits-no-more}
 use borrow.Author.Needs.{needs}
 use Rattle.yring.proofs.ring.Ring.accepted_prefix.Statement.{statement}
 use Rattle.yring.proofs.ring.Ring.accepted_prefix.Tie as tie
 
 abbrev Inv-loop : tie.InvT-loop
-Inv-loop self store head count bound accepted₀ accepted = (accepted ≤ count) × (prefix bound (items self store head accepted) ≡ accepted)
+Inv-loop self store head count bound accepted₀ accepted = (accepted ≤ count) × (acceptedPrefix bound (items self store head accepted) ≡ accepted)
 
 abbrev μ-loop : tie.MeasureT-loop
 μ-loop self store head count bound accepted₀ accepted = count - accepted
@@ -40,7 +40,7 @@ returns-2 c =
     let a = c .before .before .before .args in
     let l = c .before .loop in
     let e : l .accepted ≡ a .count = omega (arith, l .inv .0, c .loop-test .left) in
-    (sym (ap (λ (n : ℕ). prefix (a .bound) (items (a .self) (a .store .now) (a .head) n)) (sym e) ∙ l .inv .1), l .inv .0)
+    (sym (ap (λ (n : ℕ). acceptedPrefix (a .bound) (items (a .self) (a .store .now) (a .head) n)) (sym e) ∙ l .inv .1), l .inv .0)
 
 pub accepted-prefix-spec : {M : Type 1} → statement M
 accepted-prefix-spec =
