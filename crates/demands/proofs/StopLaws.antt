@@ -3,7 +3,7 @@
 use mathlib.Core.Path.{_≡_, refl, ap, sym, _∙_, subst}
 use mathlib.Core.Bool.{Bool, true, false}
 use mathlib.Core.List.{List, [], _∷_, _++_, map, tail}
-use Prim.Native.Nat.{ℕ, zero, suc, _≤_, _<_, min}
+use Prim.Native.Nat.{ℕ, zero, suc, _+_, _≤_, _<_, min}
 use native.Mathlib.Omega.{arith}
 use lib.ListN.{length, getD, take, length-take}
 use lib.Dec.{leb, ltb}
@@ -149,6 +149,12 @@ all-admitted b (g ∷ l) e = go (leb (g .1) b) refl e (all-admitted b l)
     go : (c : Bool) → leb (g .1) b ≡ c → if c (suc (admitted b l)) 0 ≡ suc (length l) → (admitted b l ≡ length l → Each (λ x. x .1 ≤ b) l) → (g .1 ≤ b) × Each (λ x. x .1 ≤ b) l
     go true f e ih = (leb-true (g .1) b f, ih (omega arith))
     go false f e ih = absurd (omega arith)
+
+-- items that all are admitted count in full, whatever comes after them
+pub admitted-more : (b : ℕ) (l r : List (LaneKey × ℕ)) → Each (λ g. g .1 ≤ b) l → admitted b (l ++ r) ≡ length l + admitted b r
+unfolding admitted Each
+admitted-more b [] r h = omega arith
+admitted-more b (g ∷ l) r h = rw (le-leb (g .1) b (h .0)) (omega (arith, admitted-more b l r (h .1)))
 
 -- ---- a stop after n items
 

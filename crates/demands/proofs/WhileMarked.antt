@@ -6,8 +6,9 @@ use mathlib.Core.List.{List, [], _∷_, _++_, append-assoc}
 use Prim.Native.Nat.{ℕ, zero, suc, _+_, _-_, _≤_}
 use native.Mathlib.Omega.{arith}
 use native.Mathlib.Nat.{zero-add, suc-add}
-use lib.ListN.{length}
-use lib.Dec.{leb}
+use lib.ListN.{length, take, length-append}
+use lib.Dec.{leb, ltb}
+use borrow.Author.Tests.{lt-ltb, le-ltb, ltb-true, ltb-false}
 use Rattle.model.specs.declared.LaneKey.{LaneKey}
 use Rattle.model.specs.declared.SenderCall.{SenderCall}
 use Rattle.model.specs.declared.ReceiveCall.{ReceiveCall}
@@ -23,18 +24,19 @@ use Rattle.model.specs.Changes.{withQueue, put, newLane, signalled, pushed, pop
 use Rattle.model.specs.Turn.{Took, retireLane, retireLaneIf, settleEmpty, beforeNextTurn, runDownFrom, runDown, unreleasedAfterOne, giveItem, giveOldest, giveFront, collectIfDue, collectIfNoneQueued, polled, takeOne, takeFair}
 use Rattle.model.specs.Outcome.{Outcome}
 use Rattle.model.specs.Runs.{accepted, ends, afterList}
-use Rattle.model.specs.Receive.{answerOne, queueLaneIf, takeFrom, andMore, takeUpTo, releaseAll, answerItems, tryRecv, tryRecvFair, tryRecvFrom, tryRecvBatchInto, halted, takeWhile, answerWhile, tryRecvBatchIntoWhile, receiveOutcome}
+use Rattle.model.specs.Receive.{answerOne, queueLaneIf, takeFrom, andMore, takeUpTo, releaseAll, answerItems, admitted, tryRecv, tryRecvFair, tryRecvFrom, tryRecvBatchInto, halted, takeWhile, answerWhile, tryRecvBatchIntoWhile, receiveOutcome}
 use Rattle.model.specs.Rules.{outcome, theRules}
 use Rattle.model.specs.Order.{InOrder}
 use Rattle.model.specs.Events.{Event, budgetSet, collected, noneMarked, foundEmpty, itemTaken, wentToBack, anyMarked, collectEvent, refillEvents, beforeNextTurnEvents, runDownFromEvents, runDownEvents, backEvents, giveOldestEvents, giveFrontEvents, collectIfDueEvents, collectIfNoneQueuedEvents, polledEvents, takeOneEvents, takeFairEvents, andMoreEvents, takeUpToEvents, haltedEvents, takeWhileEvents, takeFromEvents, receiveEvents, callEvents, eventsFrom, collects, findsNoneMarked, takesItem, countEvents}
 use Rattle.model.specs.Viewed.{Viewed, rulesViewed}
-use Rattle.model.specs.WhileMarked.{untilCollected, AtMost64WhileMarked, AtMost64WhileMarkedInBatch}
+use Rattle.model.specs.Stops.{AllAdmitted}
+use Rattle.model.specs.WhileMarked.{untilCollected, AtMost64WhileMarked, AtMost64WhileMarkedInBatch, AtMost64WhileMarkedInWhile}
 use Rattle.demands.proofs.Counting.{equal, other, same?, no}
 use Rattle.demands.proofs.Moves.{Moves, stays-put, credits, registers-new, registers-old, sends, posts, drops-it, pauses-it, resumes, resumes-not, closes-it, polls-all, shuts-it, unless-law, sender-move, control-move}
 use Rattle.demands.proofs.AnswersKeep.{answer-one-keeps, answer-items-keeps}
 use Rattle.demands.proofs.Events.{Tally, Below}
 use Rattle.demands.proofs.EventsOfRuns.{calls-pass, fromBudget, from-budget-counted, part-most, Answered, answer-one-answered, answer-items-answered, answer-stopped-answered}
-use Rattle.demands.proofs.StopLaws.{while-law}
+use Rattle.demands.proofs.StopLaws.{admitted-more, while-law}
 use Rattle.demands.proofs.Collections.{reads, neither}
 use Rattle.demands.proofs.WholeChunk.{take-up-to-more}
 use Rattle.model.specs.Simulation.{Simulation}
@@ -402,6 +404,107 @@ module _ (s : State) (n m room : ℕ) (full : length ((takeUpTo n s) .0) ≡ n) 
       most-64 someKey (fromBudget (s .budget)) (takeUpToEvents n s) (takeUpToEvents m t ++ eventsFrom rulesViewed u calls)
       (subst (Below someKey (fromBudget (s .budget))) split (calls-below s (batch ∷ calls) i)) (see-then (rest-see a) (calls-see u calls)) k
 
+-- ---- between two items of a batch with a bound
+
+while-state-see : (b m : ℕ) (s : State) → See s (takeWhileEvents b m s) ((takeWhile b m s) .1 .1)
+while-state-see b m s = while-law (λ t es. See s es (t .1 .1)) b m s (λ all. take-up-to-see m s) (λ n w. halted-see n s)
+
+answer-while-marked : (m : ℕ) (b : Bool) (l : List (LaneKey × ℕ)) (s : State) → Marked s ((answerWhile m b l (releaseAll s)) .1 .1)
+unfolding answerWhile
+answer-while-marked m true l s = release-all-marked s
+answer-while-marked m false l s = answer-items-marked m l s
+
+module _ (s : State) (n m bound room : ℕ) (full : length ((takeUpTo n s) .0) ≡ n) (every : AllAdmitted bound ((takeUpTo n s) .0)) where
+  then : State
+  then = (takeUpTo n s) .1
+
+  -- what the plain batch would hand out in all, and after the n items
+  items : List (LaneKey × ℕ)
+  items = (takeUpTo (n + m) s) .0
+
+  others : List (LaneKey × ℕ)
+  others = (takeUpTo m then) .0
+
+  more : ℕ
+  more = admitted bound others
+
+  items-more : items ≡ (takeUpTo n s) .0 ++ others
+  unfolding then items others
+  items-more = ap (λ (r : Took). r .0) (take-up-to-more n m s full)
+
+  admitted-then : admitted bound items ≡ n + more
+  unfolding more
+  admitted-then = ap (admitted bound) items-more ∙ admitted-more bound ((takeUpTo n s) .0) others every ∙ ap (λ (k : ℕ). k + more) full
+
+  length-then : length items ≡ n + length others
+  length-then = ap length items-more ∙ length-append ((takeUpTo n s) .0) others ∙ ap (λ (k : ℕ). k + length others) full
+
+  -- the batch stops if that of m items, after the n, does
+  stops-alike : ltb (admitted bound items) (length items) ≡ ltb more (length others)
+  stops-alike = rw (admitted-then, length-then) (go (ltb more (length others)) refl)
+    where
+      go : (c : Bool) → ltb more (length others) ≡ c → ltb (n + more) (n + length others) ≡ c
+      go true e = lt-ltb (n + more) (n + length others) (omega (arith, ltb-true more (length others) e))
+      go false e = le-ltb (n + more) (n + length others) (omega (arith, ltb-false more (length others) e))
+
+  -- it leaves what that one leaves, before the credit
+  state-more : (takeWhile bound (n + m) s) .1 .1 ≡ (takeWhile bound m then) .1 .1
+  unfolding takeWhile then items others more
+  state-more = rw stops-alike (go (ltb more (length others)))
+    where
+      took : Bool → ℕ → ℕ → State → Bool × Took
+      took c k limit u = if c (true, (take k ((takeUpTo limit u) .0), halted (polled ((takeUpTo k u) .1)))) (false, takeUpTo limit u)
+
+      go : (c : Bool) → (took c (admitted bound items) (n + m) s) .1 .1 ≡ (took c more m then) .1 .1
+      go true = ap (λ (k : ℕ). halted (polled ((takeUpTo k s) .1))) admitted-then ∙ ap (λ (r : Took). halted (polled (r .1))) (take-up-to-more n more s full)
+      go false = ap (λ (r : Took). r .1) (take-up-to-more n m s full)
+
+  -- and that one's events follow those of the n items
+  while-events-more : takeWhileEvents bound (n + m) s ≡ takeUpToEvents n s ++ takeWhileEvents bound m then
+  unfolding takeWhileEvents haltedEvents then items others more
+  while-events-more = rw stops-alike (go (ltb more (length others)))
+    where
+      atStop : State → List Event
+      atStop u = polledEvents u ++ refillEvents ((polled u) .budget)
+
+      go : (c : Bool)
+          → if c (haltedEvents (admitted bound items) s) (takeUpToEvents (n + m) s)
+          ≡ takeUpToEvents n s ++ if c (haltedEvents more then) (takeUpToEvents m then)
+      go true =
+          ap (λ (k : ℕ). takeUpToEvents k s ++ atStop ((takeUpTo k s) .1)) admitted-then
+          ∙ ap (λ (es : List Event). es ++ atStop ((takeUpTo (n + more) s) .1)) (events-more n more s full)
+          ∙ ap (λ (r : Took). (takeUpToEvents n s ++ takeUpToEvents more then) ++ atStop (r .1)) (take-up-to-more n more s full)
+          ∙ append-assoc (takeUpToEvents n s) (takeUpToEvents more then) (atStop ((takeUpTo more then) .1))
+      go false = events-more n m s full
+
+  bounded : Call
+  bounded = Receive (TryRecvBatchIntoWhile (n + m) bound room)
+
+  while-rest-see : accepted ((outcome s bounded) .1 .0) ≡ true → See then (takeWhileEvents bound m then) ((outcome s bounded) .1 .1)
+  unfolding bounded outcome receiveOutcome tryRecvBatchIntoWhile accepted
+  while-rest-see =
+      let w : Bool × Took = takeWhile bound (n + m) s in
+      unless-law (λ o. accepted (o .1 .0) ≡ true → See then (takeWhileEvents bound m then) (o .1 .1)) _ s _ (λ why a. absurd (no a refl))
+      (λ p a. see-after (while-state-see bound m then)
+      (subst (λ (u : State). Marked u ((answerWhile (n + m) (w .0) (w .1 .0) (releaseAll (w .1 .1))) .1 .1)) state-more
+      (answer-while-marked (n + m) (w .0) (w .1 .0) (w .1 .1))))
+
+  bounded-events : accepted ((outcome s bounded) .1 .0) ≡ true → callEvents s bounded ≡ takeUpToEvents n s ++ takeWhileEvents bound m then
+  unfolding bounded callEvents receiveEvents
+  bounded-events a = ap (λ (b : Bool). if b (takeWhileEvents bound (n + m) s) []) a ∙ while-events-more
+
+  while-marked-in-while : InOrder s → accepted ((outcome s bounded) .1 .0) ≡ true → anyMarked then ≡ true → (calls : List Call)
+      → countEvents takesItem (untilCollected (takeWhileEvents bound m then ++ eventsFrom rulesViewed ((outcome s bounded) .1 .1) calls)) ≤ 64
+  unfolding eventsFrom
+  while-marked-in-while i a k calls =
+      let u : State = (outcome s bounded) .1 .1 in
+      let split : callEvents s bounded ++ eventsFrom rulesViewed u calls
+      ≡ takeUpToEvents n s ++ (takeWhileEvents bound m then ++ eventsFrom rulesViewed u calls) =
+      ap (λ (es : List Event). es ++ eventsFrom rulesViewed u calls) (bounded-events a)
+      ∙ append-assoc (takeUpToEvents n s) (takeWhileEvents bound m then) (eventsFrom rulesViewed u calls) in
+      most-64 someKey (fromBudget (s .budget)) (takeUpToEvents n s) (takeWhileEvents bound m then ++ eventsFrom rulesViewed u calls)
+      (subst (Below someKey (fromBudget (s .budget))) split (calls-below s (bounded ∷ calls) i)) (see-then (while-rest-see a) (calls-see u calls)) k
+
 -- ---- calls that do as the rules
 
 module _ (W : Viewed) (sim : Simulation W) where
@@ -416,6 +519,13 @@ module _ (W : Viewed) (sim : Simulation W) where
       rw (same-events W sim ((W .rules .step w c) .1) calls (sim .keeps-ok w c o), sim .leaves-alike w c o)
       (while-marked-in-batch (W .view w) n m room full (sim .shows-in-order w o) (ap accepted (sym (sim .answers-alike w c o)) ∙ e) k calls)
 
+  pub words-at-most-64-while-marked-in-while : AtMost64WhileMarkedInWhile W
+  unfolding AtMost64WhileMarkedInWhile then bounded
+  words-at-most-64-while-marked-in-while w o n m bound room e full every k calls =
+      let c = Receive (TryRecvBatchIntoWhile (n + m) bound room) in
+      rw (same-events W sim ((W .rules .step w c) .1) calls (sim .keeps-ok w c o), sim .leaves-alike w c o)
+      (while-marked-in-while (W .view w) n m bound room full every (sim .shows-in-order w o) (ap accepted (sym (sim .answers-alike w c o)) ∙ e) k calls)
+
 -- ---- the rules
 
 pub at-most-64-while-marked : AtMost64WhileMarked rulesViewed
@@ -423,3 +533,6 @@ at-most-64-while-marked = words-at-most-64-while-marked rulesViewed rules-simula
 
 pub at-most-64-while-marked-in-batch : AtMost64WhileMarkedInBatch rulesViewed
 at-most-64-while-marked-in-batch = words-at-most-64-while-marked-in-batch rulesViewed rules-simulate
+
+pub at-most-64-while-marked-in-while : AtMost64WhileMarkedInWhile rulesViewed
+at-most-64-while-marked-in-while = words-at-most-64-while-marked-in-while rulesViewed rules-simulate

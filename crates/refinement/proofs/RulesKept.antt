@@ -2,7 +2,7 @@
 -- Assumes nothing.
 use mathlib.Core.Bool.{true, false}
 use Rattle.demands.proofs.Carried.{words-events-tell, words-budget-counts-items, words-at-most-64-in-one-turn, words-at-most-64-between-collections, words-ends-with-nothing-left, words-stopped-in-front, words-stops-exactly, words-stop-at-zero, words-only-bounded-stop, words-stop-keeps-paused, words-plain-where-admitted, words-refused-as-batch, words-disconnected-exactly, words-retires-empty-paused, words-empty-with-paused-items, words-only-paused-items-left, words-targeted-disconnected-exactly, words-thirteen-exactly, words-else-six-or-accepted, words-idle-only-when-empty, words-closed-signal-kept, words-takes-first-clear, words-takes-next-unused, words-eight-exactly, words-nine-exactly, words-refused-only-in-vain, words-freed-on-top, words-collecting}
-use Rattle.demands.proofs.WhileMarked.{words-at-most-64-while-marked, words-at-most-64-while-marked-in-batch}
+use Rattle.demands.proofs.WhileMarked.{words-at-most-64-while-marked, words-at-most-64-while-marked-in-batch, words-at-most-64-while-marked-in-while}
 use Rattle.demands.proofs.BudgetAfterNothing.{words-budget-after-nothing, words-budget-after-stop, words-budget-as-events-set}
 use Rattle.store.proofs.CollectedView.{view-collect-all, view-collect-group}
 use Rattle.refinement.specs.Runs.{StoreCalls, viewedOf, innerCalls}
@@ -24,6 +24,7 @@ keeps-rules M i =
       at-most-64-between = words-at-most-64-between-collections W sim;
       at-most-64-while-marked = words-at-most-64-while-marked W sim;
       at-most-64-while-marked-in-batch = words-at-most-64-while-marked-in-batch W sim;
+      at-most-64-while-marked-in-while = words-at-most-64-while-marked-in-while W sim;
       budget-after-nothing = words-budget-after-nothing W sim;
       budget-after-stop = words-budget-after-stop W sim;
       budget-as-events-set = words-budget-as-events-set W sim;

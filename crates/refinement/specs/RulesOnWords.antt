@@ -16,7 +16,7 @@ use Rattle.model.specs.Lists.{count}
 use Rattle.model.specs.Budget.{BudgetCountsItems, EventsTell}
 use Rattle.model.specs.OneTurn.{AtMost64InOneTurn}
 use Rattle.model.specs.Collections.{AtMost64BetweenCollections, Collecting}
-use Rattle.model.specs.WhileMarked.{AtMost64WhileMarked, AtMost64WhileMarkedInBatch}
+use Rattle.model.specs.WhileMarked.{AtMost64WhileMarked, AtMost64WhileMarkedInBatch, AtMost64WhileMarkedInWhile}
 use Rattle.model.specs.BudgetAfterNothing.{BudgetAfterNothing, BudgetAfterStop, BudgetAsEventsSet}
 use Rattle.model.specs.Disconnected.{DisconnectedExactly, RetiresEmptyPaused, EmptyWithPausedItems, OnlyPausedItemsLeft, TargetedDisconnectedExactly}
 use Rattle.model.specs.LaneIds.{ThirteenExactly, ElseSixOrAccepted}
@@ -60,6 +60,7 @@ pub record KeepsRules (M : StoreCalls) : Type 0 where
   pub at-most-64-between : AtMost64BetweenCollections (viewedOf M)
   pub at-most-64-while-marked : AtMost64WhileMarked (viewedOf M)
   pub at-most-64-while-marked-in-batch : AtMost64WhileMarkedInBatch (viewedOf M)
+  pub at-most-64-while-marked-in-while : AtMost64WhileMarkedInWhile (viewedOf M)
   pub budget-after-nothing : BudgetAfterNothing (viewedOf M)
   pub budget-after-stop : BudgetAfterStop (viewedOf M)
   pub budget-as-events-set : BudgetAsEventsSet (viewedOf M)
