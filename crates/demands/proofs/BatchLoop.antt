@@ -33,7 +33,7 @@ use Rattle.demands.proofs.PollLoop.{refresh-unready, polled-as-loop, no
 
 -- ---- states in order, on the way too
 
-polled-in-order : (s : State) → InOrder s → InOrder (polled s)
+pub polled-in-order : (s : State) → InOrder s → InOrder (polled s)
 unfolding poll
 polled-in-order s i = record { ordered = polled-ordered s (i .ordered); rings-fit = rings-fit-quiet s (polled s) (poll-quiet false s) (i .rings-fit) }
 
@@ -57,18 +57,18 @@ take-up-to-in-order (suc n) s i = go ((takeOne s) .0) (take-one-in-order s i) (t
     go [] o h = o
     go (g ∷ l) o h = h o
 
-full-in-order : (s : State) → InOrder s → InOrder (withBudget 64 s)
+pub full-in-order : (s : State) → InOrder s → InOrder (withBudget 64 s)
 full-in-order s i = record { ordered = budget-ordered 64 s (omega arith) (i .ordered); rings-fit = record { positive = i .rings-fit .positive; each-fits = i .rings-fit .each-fits } }
 
 -- ---- a chunk
 
 -- with a budget that is not 0 the Rust's chunk is the rules' n items
-moved-given : (t : State) (y : ℕ) (q : List ℕ) (n : ℕ) → 1 ≤ t .budget → chunkMoved t y q n ≡ given t y q n
+pub moved-given : (t : State) (y : ℕ) (q : List ℕ) (n : ℕ) → 1 ≤ t .budget → chunkMoved t y q n ≡ given t y q n
 unfolding chunkMoved
 moved-given t y q n h = state-path _ _ (λ z. refl) refl refl refl (ap (λ (b : ℕ). b - n) (sym (refill-some (t .budget) h))) refl refl refl refl refl refl
 
 -- of no items: nothing changes
-none-moved : (t : State) (y : ℕ) (q : List ℕ) → t .queue ≡ y ∷ q → t .slotOf y .burst < 64 → t .slotOf y .unreleased < releaseBatch (t .capacity) → chunkMoved t y q 0 ≡ t
+pub none-moved : (t : State) (y : ℕ) (q : List ℕ) → t .queue ≡ y ∷ q → t .slotOf y .burst < 64 → t .slotOf y .unreleased < releaseBatch (t .capacity) → chunkMoved t y q 0 ≡ t
 unfolding chunkMoved
 none-moved t y q e b c = state-path _ _ (λ z. slot z (same? y z)) (ap (λ (f : Bool). if f (q ++ (y ∷ [])) (y ∷ q)) not-full ∙ sym e) refl refl (less (t .budget)) refl refl refl refl refl refl
   where
@@ -113,21 +113,21 @@ min-zero-right a b e h = omega (arith, e, h)
 min-some : (a b : ℕ) → 1 ≤ a → 1 ≤ b → 1 ≤ min a b
 min-some a b h k = omega (arith, h, k)
 
-none-of-none : (a b c : ℕ) → b ≡ 0 → min (min a b) c ≡ 0
+pub none-of-none : (a b c : ℕ) → b ≡ 0 → min (min a b) c ≡ 0
 none-of-none a b c e = omega (arith, e)
 
 -- the front lane y of t, with its items, as order has it
-record Front (t : State) (y : ℕ) (q : List ℕ) : Type 0 where
-  in-order : InOrder t
-  is-front : t .queue ≡ y ∷ q
-  some-items : 1 ≤ length (t .slotOf y .ring)
+pub record Front (t : State) (y : ℕ) (q : List ℕ) : Type 0 where
+  pub in-order : InOrder t
+  pub is-front : t .queue ≡ y ∷ q
+  pub some-items : 1 ≤ length (t .slotOf y .ring)
 
-burst-below : {t : State} {y : ℕ} {q : List ℕ} → Front t y q → t .slotOf y .burst < 64
+pub burst-below : {t : State} {y : ℕ} {q : List ℕ} → Front t y q → t .slotOf y .burst < 64
 burst-below {t} {y} {q} f =
     let r = front-registered t y q (f .is-front) (f .in-order .ordered) in
     omega (arith, f .in-order .ordered .each-slot y .burst-most r)
 
-unreleased-below : {t : State} {y : ℕ} {q : List ℕ} → Front t y q → t .slotOf y .unreleased < releaseBatch (t .capacity)
+pub unreleased-below : {t : State} {y : ℕ} {q : List ℕ} → Front t y q → t .slotOf y .unreleased < releaseBatch (t .capacity)
 unreleased-below {t} {y} {q} f = f .in-order .rings-fit .each-fits y (front-registered t y q (f .is-front) (f .in-order .ordered)) .below-batch
 
 -- what the lane itself lets go at once is something
@@ -137,21 +137,21 @@ lane-some cached {t} {y} f h =
     (min-some cached (64 - t .slotOf y .burst) h (omega (arith, burst-below f))) (omega (arith, unreleased-below f))
 
 -- so a chunk of none is one at a budget of 0
-none-at-zero : (left cached : ℕ) {t : State} {y : ℕ} {q : List ℕ} → Front t y q → 1 ≤ left → 1 ≤ cached → chunkLength left cached t y ≡ 0 → t .budget ≡ 0
+pub none-at-zero : (left cached : ℕ) {t : State} {y : ℕ} {q : List ℕ} → Front t y q → 1 ≤ left → 1 ≤ cached → chunkLength left cached t y ≡ 0 → t .budget ≡ 0
 unfolding chunkLength
 none-at-zero left cached {t} f l h e = min-zero-right left (t .budget) (min-zero (min left (t .budget)) _ e (lane-some cached f h)) l
 
-some-in-budget : (left cached : ℕ) {t : State} {y : ℕ} {q : List ℕ} → Front t y q → 1 ≤ left → 1 ≤ cached → 1 ≤ t .budget → 1 ≤ chunkLength left cached t y
+pub some-in-budget : (left cached : ℕ) {t : State} {y : ℕ} {q : List ℕ} → Front t y q → 1 ≤ left → 1 ≤ cached → 1 ≤ t .budget → 1 ≤ chunkLength left cached t y
 unfolding chunkLength
 some-in-budget left cached {t} f l h b = min-some (min left (t .budget)) _ (min-some left (t .budget) l b) (lane-some cached f h)
 
 -- another is a chunk of the rules
-record Fits (left : ℕ) (t : State) (y n : ℕ) : Type 0 where
-  in-limit : n ≤ left
-  some-budget : 1 ≤ t .budget
-  chunk-fits : ChunkFits t y n
+pub record Fits (left : ℕ) (t : State) (y n : ℕ) : Type 0 where
+  pub in-limit : n ≤ left
+  pub some-budget : 1 ≤ t .budget
+  pub chunk-fits : ChunkFits t y n
 
-fits : (left cached : ℕ) (t : State) (y n : ℕ) → cached ≤ length (t .slotOf y .ring) → chunkLength left cached t y ≡ n → 1 ≤ n → Fits left t y n
+pub fits : (left cached : ℕ) (t : State) (y n : ℕ) → cached ≤ length (t .slotOf y .ring) → chunkLength left cached t y ≡ n → 1 ≤ n → Fits left t y n
 unfolding chunkLength
 fits left cached t y n c e h =
     let outer = min-parts (min left (t .budget)) (min (min cached (64 - t .slotOf y .burst)) (releaseBatch (t .capacity) - t .slotOf y .unreleased)) n e in
@@ -179,7 +179,7 @@ fits left cached t y n c e h =
     in-64 n a b h x = omega (arith, h, x)
 
 -- the state after it is in order
-moved-in-order : (n : ℕ) {left : ℕ} {t : State} {y : ℕ} {q : List ℕ} → Front t y q → Fits left t y n → InOrder (chunkMoved t y q n)
+pub moved-in-order : (n : ℕ) {left : ℕ} {t : State} {y : ℕ} {q : List ℕ} → Front t y q → Fits left t y n → InOrder (chunkMoved t y q n)
 moved-in-order n {left} {t} {y} {q} f g = split (t .slotOf y .ring) refl (f .some-items)
   where
     split : (l : List ℕ) → t .slotOf y .ring ≡ l → 1 ≤ length l → InOrder (chunkMoved t y q n)
@@ -195,17 +195,17 @@ moved-in-order n {left} {t} {y} {q} f g = split (t .slotOf y .ring) refl (f .som
 
 -- a round of none: the next one sets the budget, and the poll is done already
 module _ (p : State) (i : InOrder p) (y v : ℕ) (q vs : List ℕ) (e : (polled p) .queue ≡ y ∷ q) (r : (polled p) .slotOf y .ring ≡ v ∷ vs) (z : (polled p) .budget ≡ 0) where
-  full : State
+  unfoldable pub full : State
   full = withBudget 64 (polled p)
 
-  refreshed-full : refreshActive (polled p) ≡ full
+  pub refreshed-full : refreshActive (polled p) ≡ full
   unfolding full NothingReadyAtZero beforeNextTurn refill
   refreshed-full =
       ap (λ (l : List ℕ). refreshed l ((polled p) .budget) (polled p)) e
       ∙ refresh-unready (y ∷ q) ((polled p) .budget) (polled p) refl (nothing-ready-at-zero p i z)
       ∙ ap (λ (b : ℕ). withBudget (refill b) (polled p)) z
 
-  polled-full : polled full ≡ full
+  pub polled-full : polled full ≡ full
   unfolding full
   polled-full = polled-front (withBudget 64 (polled p)) y v q vs e r (omega arith)
 
@@ -220,7 +220,7 @@ module _ (p : State) (i : InOrder p) (y v : ℕ) (q vs : List ℕ) (e : (polled 
       ∙ sym (ap (giveOldest (polled p) false y q) r)
       ∙ sym (ap (giveFront false (polled p)) e)
 
-  same-batch : (m : ℕ) → 1 ≤ m → takeUpTo m full ≡ takeUpTo m p
+  pub same-batch : (m : ℕ) → 1 ≤ m → takeUpTo m full ≡ takeUpTo m p
   unfolding takeUpTo
   same-batch zero h = absurd (omega arith)
   same-batch (suc m) h = ap (λ (t : Took). andMore (t .0) (t .1) (takeUpTo m (t .1))) same-item

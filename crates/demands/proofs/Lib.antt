@@ -57,6 +57,7 @@ pub mod Carried
 pub mod BudgetAfterNothing
 pub mod WhileMarked
 pub mod BatchLoop
+pub mod WhileLoop
 pub mod Wake
 pub mod Keys
 pub mod Credit

@@ -1,16 +1,16 @@
--- The rounds of the batch's loop, computed: how long a chunk is, what it leaves, and a loop with a chunk of no items.
+-- The rounds of the batch's loop, computed: how long a chunk is, what it leaves, a loop with a chunk of no items, and loops with a bound that stop.
 -- Assumes nothing.
 use mathlib.Core.Path.{refl}
-use mathlib.Core.Bool.{true, false}
+use mathlib.Core.Bool.{Bool, true, false}
 use mathlib.Core.List.{List, [], _∷_}
 use Prim.Native.Nat.{ℕ}
 use native.Mathlib.Omega.{arith}
 use lib.Dec.{leb}
 use Rattle.model.specs.declared.LaneKey.{LaneKey}
 use Rattle.model.specs.State.{State}
-use Rattle.model.specs.Receive.{takeUpTo}
+use Rattle.model.specs.Receive.{takeUpTo, takeWhile}
 use Rattle.model.specs.PollLoop.{refreshed, refreshActive}
-use Rattle.model.specs.BatchLoop.{chunkLength, chunkItems, chunkMoved, Rounds, limit-reached, chunk-moved}
+use Rattle.model.specs.BatchLoop.{chunkLength, chunkItems, chunkMoved, Rounds, limit-reached, chunk-moved, RoundsWhile, while-limit-reached, while-chunk-moved, item-rejected}
 use Rattle.model.specs.Examples.Pairs.{Reads}
 use Rattle.model.specs.Examples.Calls.{compute}
 
@@ -129,3 +129,64 @@ budgets-read :
     ∷ [])
 unfolding computeStates one
 budgets-read = refl
+
+-- ---- the same with a bound
+
+-- 5 is above it: the chunk of none is moved whole, so the next round sets the budget, and moves none of its two. The budget stays 64.
+stopped-at-none : State
+stopped-at-none = chunkMoved refilled 0 (1 ∷ []) 0
+
+rounds-stop-at-none : RoundsWhile 4 2 begins true [] stopped-at-none
+unfolding computeStates stopped-at-none
+rounds-stop-at-none =
+    while-chunk-moved 2 3 0 begins collected _ true [] 0 (1 ∷ []) (omega arith) refl refl (omega arith) (omega arith) refl refl
+    (item-rejected 2 3 2 0 none refilled 0 (1 ∷ []) (omega arith) refl refl (omega arith) (omega arith) refl refl (omega arith))
+
+-- 6 is above it: one of the chunk's two is moved.
+rounds-stop-in-chunk : RoundsWhile 5 2 begins true ((lane 0, 5) ∷ []) one
+unfolding computeStates one
+rounds-stop-in-chunk =
+    while-chunk-moved 2 3 0 begins collected _ true ((lane 0, 5) ∷ []) 0 (1 ∷ []) (omega arith) refl refl (omega arith) (omega arith) refl refl
+    (item-rejected 2 3 2 1 none refilled 0 (1 ∷ []) (omega arith) refl refl (omega arith) (omega arith) refl refl (omega arith))
+
+-- The same with one item cached each time: a chunk that is moved whole, one of which none is moved, and the same end.
+rounds-stop-between-chunks : RoundsWhile 5 2 begins true ((lane 0, 5) ∷ []) (chunkMoved one 0 (1 ∷ []) 0)
+unfolding computeStates one
+rounds-stop-between-chunks =
+    while-chunk-moved 2 1 0 begins collected _ true ((lane 0, 5) ∷ []) 0 (1 ∷ []) (omega arith) refl refl (omega arith) (omega arith) refl refl
+    (while-chunk-moved 2 1 1 none refilled _ true [] 0 (1 ∷ []) (omega arith) refl refl (omega arith) (omega arith) refl refl
+    (item-rejected 1 1 1 0 one one 0 (1 ∷ []) (omega arith) refl refl (omega arith) (omega arith) refl refl (omega arith)))
+
+-- 7 is above it, but the limit is reached in front of it.
+rounds-end-at-limit : RoundsWhile 6 2 begins false ((lane 0, 5) ∷ (lane 0, 6) ∷ []) ends
+unfolding computeStates
+rounds-end-at-limit =
+    while-chunk-moved 2 3 0 begins collected _ false ((lane 0, 5) ∷ (lane 0, 6) ∷ []) 0 (1 ∷ []) (omega arith) refl refl (omega arith) (omega arith) refl refl
+    (while-chunk-moved 2 3 2 none refilled _ false [] 0 (1 ∷ []) (omega arith) refl refl (omega arith) (omega arith) refl refl (while-limit-reached 0 ends refl))
+
+-- the budget, the queue, and lane 0's burst and items
+leaves : State → ℕ × List ℕ × ℕ × List ℕ
+leaves s = (s .budget, s .queue, s .slotOf 0 .burst, s .slotOf 0 .ring)
+
+stops-read :
+    Reads leaves
+    ((stopped-at-none, (64, 0 ∷ 1 ∷ [], 0, 5 ∷ 6 ∷ 7 ∷ []))
+    ∷ (one, (63, 0 ∷ 1 ∷ [], 1, 6 ∷ 7 ∷ []))
+    ∷ (chunkMoved one 0 (1 ∷ []) 0, (63, 0 ∷ 1 ∷ [], 1, 6 ∷ 7 ∷ []))
+    ∷ (ends, (62, 0 ∷ 1 ∷ [], 2, 7 ∷ []))
+    ∷ [])
+unfolding computeStates one stopped-at-none leaves
+stops-read = refl
+
+-- the rules' batch by its bound and limit: whether it stopped, its items, and what it leaves
+whileOf : ℕ × ℕ → Bool × List (LaneKey × ℕ) × (ℕ × List ℕ × ℕ × List ℕ)
+whileOf c = let t = takeWhile (c .0) (c .1) begins in (t .0, t .1 .0, leaves (t .1 .1))
+
+while-read :
+    Reads whileOf
+    (((4, 2), (true, [], (64, 0 ∷ 1 ∷ [], 0, 5 ∷ 6 ∷ 7 ∷ [])))
+    ∷ ((5, 2), (true, (lane 0, 5) ∷ [], (63, 0 ∷ 1 ∷ [], 1, 6 ∷ 7 ∷ [])))
+    ∷ ((6, 2), (false, (lane 0, 5) ∷ (lane 0, 6) ∷ [], (62, 0 ∷ 1 ∷ [], 2, 7 ∷ [])))
+    ∷ [])
+unfolding computeStates leaves whileOf
+while-read = refl
