@@ -1,18 +1,17 @@
 -- The free slots without a living older sender: where the first of them stands in the free list, and the list without it.
 -- Assumes nothing.
-use mathlib.Core.Path.{_≡_, refl, ap, sym, _∙_}
+use mathlib.Core.Path.{_≡_, refl, ap, _∙_}
 use mathlib.Core.Logic.{_≢_}
 use mathlib.Core.Bool.{Bool, true, false, not}
 use mathlib.Core.List.{List, [], _∷_, _++_}
 use Prim.Native.Nat.{ℕ, _+_, _≤_}
 use native.Mathlib.Omega.{arith}
-use lib.Dec.{eqb}
 use Rattle.model.specs.Lists.{if, Each, count, keep, without}
 use Rattle.model.specs.State.{State}
 use Rattle.model.specs.Sender.{clearSlots}
 use Rattle.model.specs.Registration.{OlderLives, FirstClear}
-use Rattle.demands.proofs.Counting.{Same, equal, other, same?, same-self, self, no, not-true, not-false, count-append, keep-in, keep-out}
-use Rattle.demands.proofs.OrderKept.{first-own, first-other}
+use Rattle.demands.proofs.Counting.{equal, other, same?, same-self, self, not-true, not-false, count-append, keep-in, keep-out}
+use Rattle.demands.proofs.OrderKept.{first-own}
 
 -- ---- of any list
 

@@ -20,7 +20,7 @@ use Rattle.model.specs.declared.Call.the-variants.{Sender, Receive, Control}
 use Rattle.model.specs.declared.Refusal.the-variants.{NoSuchSender}
 use Rattle.model.specs.declared.Answer.the-variants.{Done, Empty, Refused}
 use Rattle.model.specs.Lists.{if, both, either, nonEmpty, count, keep, from, without}
-use Rattle.model.specs.State.{Slot, State, mayQueue, registeredLanes, livingSenders, keyOf, senderLives, hasLane, sameOpening, hasLaneId}
+use Rattle.model.specs.State.{Slot, State, mayQueue, livingSenders, keyOf, senderLives, hasLane, sameOpening, hasLaneId}
 use Rattle.model.specs.Changes.{withQueue, withBudget, put, signalled, unmarked, senderDropped}
 use Rattle.model.specs.Ready.{groupOf, marks, isReady, collectMarks, collectGroup, groupsRound, collectFirst, collectEach, collectReadyGroup, collectReady}
 use Rattle.model.specs.Turn.{retireLane, retireLaneIf, settleEmpty, beforeNextTurn, runDownFrom, runDown, giveItem, giveOldest, giveFront, collectIfDue, collectIfNoneQueued, polled, takeOne, takeFair}

@@ -19,7 +19,7 @@ use Rattle.model.specs.declared.Refusal.{Refusal}
 use Rattle.model.specs.declared.Answer.{Answer}
 use Rattle.model.specs.declared.ReceiveCall.the-variants.{TryRecvBatchIntoWhile}
 use Rattle.model.specs.declared.Answer.the-variants.{Done, Stopped, Refused}
-use Rattle.model.specs.Lists.{if, both, either, count, without}
+use Rattle.model.specs.Lists.{if, both, either, without}
 use Rattle.model.specs.State.{Slot, State, vacant, mayQueue, keyOf, senderLives, hasLane, ringOf}
 use Rattle.model.specs.Changes.{withQueue, put, newLane, signalled, pushed, senderDropped, popped, withPaused, credited, retired}
 use Rattle.model.specs.Turn.{retireLane, unreleasedAfterOne, giveItem}
@@ -31,7 +31,7 @@ use Rattle.model.specs.Rules.{theRules}
 use Rattle.model.specs.Order.{Ordered}
 use Rattle.model.specs.Demand2.{outOf, into, shuts, values, Demand2In, Demand2}
 use Rattle.demands.proofs.Counting.{Same, equal, other, same?, self, no, both-true}
-use Rattle.demands.proofs.OrderKept.{first-own, front-registered}
+use Rattle.demands.proofs.OrderKept.{front-registered}
 use Rattle.demands.proofs.Quiet.{Quiet, stays, goes, Quietly, trans, poll, poll-quiet, poll-ordered, release-all-quiet, settle-empty-quiet}
 use Rattle.demands.proofs.Moves.{Moves, stays-put, credits, registers-new, registers-old, sends, posts, drops-it, pauses-it, resumes, resumes-not, closes-it, polls-all, shuts-it, takes, stops, halts, aims, aims-none, Chain, stay, move, trace-chain}
 use Rattle.demands.proofs.StopLaws.{halts-quiet}

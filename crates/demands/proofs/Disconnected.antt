@@ -30,13 +30,13 @@ use Rattle.model.specs.Rules.{outcome}
 use Rattle.model.specs.Order.{Ordered}
 use Rattle.model.specs.Viewed.{rulesViewed, rulesOnAnyState}
 use Rattle.model.specs.Stretch.{looks, saysStopped}
-use Rattle.model.specs.Disconnected.{NoSenderLives, NoLaneRegistered, DisconnectedExactly, EmptyOnesRetired, RetiresEmptyPaused, SameLane, EmptyWithPausedItems, PausedWithItems, OnlyPausedItemsLeft, LaneDrained, TargetedDisconnectedExactly, FindsNone}
+use Rattle.model.specs.Disconnected.{NoSenderLives, NoLaneRegistered, DisconnectedExactly, EmptyOnesRetired, RetiresEmptyPaused, SameLane, EmptyWithPausedItems, PausedWithItems, OnlyPausedItemsLeft, LaneDrained, TargetedDisconnectedExactly}
 use Rattle.demands.proofs.Counting.{Same, equal, other, same?, no, not-true, not-false, keep-in, from-in}
 use Rattle.demands.proofs.OrderKept.{release-all-ordered, retire-empty-paused-ordered, front-registered, polled-ordered, take-up-to-ordered}
 use Rattle.demands.proofs.Quiet.{Quiet, stays, goes, Quietly, trans, poll, poll-quiet, poll-ordered, release-all-quiet, retire-empty-paused-quiet}
 use Rattle.demands.proofs.Signals.{Signal, SignalsKept, poll-signals, release-all-signals, run-signals, poll-unmarked}
 use Rattle.demands.proofs.Moves.{NoneApplies, unless-law, TakeResult, took-none, took-one, take-one-taken, take-fair-taken}
-use Rattle.demands.proofs.StopLaws.{NextUp, Stops, while-law}
+use Rattle.demands.proofs.StopLaws.{while-law}
 
 -- what keeps the living flags, and retires only lanes whose sender is dropped
 record DroppedOnly (s u : State) : Type 0 where

@@ -22,7 +22,7 @@ use Rattle.model.specs.Changes.{withQueue, withFree, withIssued, put, newLane, 
 use Rattle.model.specs.Turn.{unreleasedAfterOne}
 use Rattle.model.specs.Outcome.{Outcome, says}
 use Rattle.model.specs.Runs.{Lent, accepted, ends, afterList}
-use Rattle.model.specs.Receive.{retireEmptyPausedLanes, emptyOrDrained, nothingTaken, answerOne, queueLaneIf, takeFrom, releaseAll, answerItems, receiveOutcome, tryRecv, tryRecvFair, tryRecvFrom, tryRecvBatchInto, takeWhile, answerWhile, tryRecvBatchIntoWhile, takeUpTo}
+use Rattle.model.specs.Receive.{retireEmptyPausedLanes, emptyOrDrained, nothingTaken, answerOne, queueLaneIf, takeFrom, releaseAll, answerItems, receiveOutcome, tryRecv, tryRecvFair, tryRecvFrom, tryRecvBatchInto, takeWhile, answerWhile, tryRecvBatchIntoWhile}
 use Rattle.model.specs.Opening.{openedState, openingOutcome}
 use Rattle.model.specs.Rules.{outcome, theRules}
 use Rattle.model.specs.Order.{Ordered, InOrder}
@@ -30,7 +30,7 @@ use Rattle.model.specs.Viewed.{rulesViewed}
 use Rattle.model.specs.Events.{Event, takeFromEvents, receiveEvents, callEvents, eventsFrom, runEvents, countEvents, takeWhileEvents}
 use Rattle.demands.proofs.Counting.{equal, other, same?}
 use Rattle.demands.proofs.Moves.{Moves, stays-put, credits, registers-new, registers-old, sends, posts, drops-it, pauses-it, resumes, resumes-not, closes-it, polls-all, shuts-it, unless-law, sender-move, control-move}
-use Rattle.demands.proofs.StopLaws.{NextUp, Stops, while-law}
+use Rattle.demands.proofs.StopLaws.{while-law}
 use Rattle.demands.proofs.InOrder.{call-keeps-order, opening-in-order}
 use Rattle.demands.proofs.Demand2.{opens-as}
 use Rattle.demands.proofs.Events.{Tally, next, tally, Small, Below, ends-below, goes-below, Pass, bind, Counted, small, no-event, Alike, counted-alike, unchanged, alike-trans, put-generations, put-bursts, retire-lane-alike, retire-empty-paused-alike, release-all-alike, found-empty-counted, take-one-pass, take-fair-pass, take-up-to-pass, halted-pass}

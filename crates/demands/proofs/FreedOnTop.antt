@@ -4,17 +4,16 @@ use mathlib.Core.Path.{_≡_, refl, _∙_}
 use mathlib.Core.Bool.{Bool, true, false}
 use mathlib.Core.List.{List, [], _∷_, _++_, map}
 use Prim.Native.Nat.{ℕ, _+_}
-use lib.Dec.{eqb, leb}
+use lib.Dec.{eqb}
 use Rattle.model.specs.declared.LaneKey.{LaneKey}
 use Rattle.model.specs.declared.ReceiveCall.{ReceiveCall}
-use Rattle.model.specs.declared.Call.{Call}
 use Rattle.model.specs.declared.Call.the-variants.{Sender, Receive, Control}
 use Rattle.model.specs.declared.Answer.{Answer}
-use Rattle.model.specs.Lists.{if, either, Each, without}
+use Rattle.model.specs.Lists.{if, Each, without}
 use Rattle.model.specs.State.{Slot, State, mayQueue}
 use Rattle.model.specs.Changes.{put, withQueue, popped, retired, signalled}
 use Rattle.model.specs.Turn.{retireLane, unreleasedAfterOne, giveItem}
-use Rattle.model.specs.Receive.{releaseAll, queueLaneIf, receiveOutcome}
+use Rattle.model.specs.Receive.{queueLaneIf, receiveOutcome}
 use Rattle.model.specs.Runs.{Tick, gives, ends, handed, ticks}
 use Rattle.model.specs.Rules.{outcome}
 use Rattle.model.specs.Viewed.{rulesOnAnyState}

@@ -20,7 +20,7 @@ use Rattle.model.specs.Receive.{retireEmptyPausedLanes, emptyOrDrained, nothing
 use Rattle.model.specs.Rules.{outcome, theRules}
 use Rattle.model.specs.Demand2.{Tells, OutputInOrder, Writes, AsAnswered, HasRoom, HandsAsAnswered}
 use Rattle.demands.proofs.Moves.{unless-law}
-use Rattle.demands.proofs.StopLaws.{Stops, while-law}
+use Rattle.demands.proofs.StopLaws.{while-law}
 
 -- a call's answer tells what it hands out; the output was `out`, and `now` says what it is after the items handed out
 abbrev Told : List ℕ → (List (LaneKey × ℕ) → List ℕ) → Outcome → Type 0

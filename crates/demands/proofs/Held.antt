@@ -14,7 +14,7 @@ use Rattle.model.specs.declared.Opening.{Opening}
 use Rattle.model.specs.declared.ControlCall.the-variants.{CountHeld}
 use Rattle.model.specs.declared.Call.the-variants.{Control}
 use Rattle.model.specs.declared.Answer.the-variants.{Held}
-use Rattle.model.specs.Lists.{if, either, count, from, without, total}
+use Rattle.model.specs.Lists.{if, either, from, without, total}
 use Rattle.model.specs.State.{Slot, State, mayQueue, keyOf}
 use Rattle.model.specs.Changes.{withQueue, put, newLane, signalled, pushed, senderDropped, popped, withPaused, credited, retired}
 use Rattle.model.specs.Turn.{retireLane, unreleasedAfterOne, giveItem}
@@ -28,7 +28,7 @@ use Rattle.model.specs.Ledger.{Lane, Ledger, atOpening, changeLane, removeOldes
 use Rattle.model.specs.Held.{heldBy, heldByLanes, HeldAsCountedIn, HeldAsCounted}
 use Rattle.demands.proofs.Counting.{Same, equal, other, same?, self}
 use Rattle.demands.proofs.Totals.{sumOf, total-keep, sum-same, sum-but, sum-more}
-use Rattle.demands.proofs.OrderKept.{first-own, front-registered}
+use Rattle.demands.proofs.OrderKept.{front-registered}
 use Rattle.demands.proofs.Quiet.{Quiet, stays, goes, Quietly, trans, poll, poll-quiet, poll-ordered, release-all-quiet, settle-empty-quiet}
 use Rattle.demands.proofs.Moves.{Moves, stays-put, credits, registers-new, registers-old, sends, posts, drops-it, pauses-it, resumes, resumes-not, closes-it, polls-all, shuts-it, takes, stops, halts, aims, aims-none, Chain, stay, move, trace-chain}
 use Rattle.demands.proofs.StopLaws.{halts-quiet}

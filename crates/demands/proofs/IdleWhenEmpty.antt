@@ -13,7 +13,7 @@ use Rattle.model.specs.declared.ReceiveCall.{ReceiveCall}
 use Rattle.model.specs.declared.ControlCall.{ControlCall}
 use Rattle.model.specs.declared.Call.the-variants.{Sender, Receive, Control}
 use Rattle.model.specs.declared.Answer.{Answer}
-use Rattle.model.specs.Lists.{Each, count, without}
+use Rattle.model.specs.Lists.{Each, without}
 use Rattle.model.specs.State.{Slot, State, mayQueue, keyOf}
 use Rattle.model.specs.Changes.{withQueue, put, newLane, signalled, pushed, popped, withPaused, credited, senderDropped, retired}
 use Rattle.model.specs.Turn.{retireLane, giveItem}
@@ -25,7 +25,6 @@ use Rattle.model.specs.Events.{findsEmpty, countEvents, callEvents}
 use Rattle.model.specs.Viewed.{rulesViewed}
 use Rattle.model.specs.Signals.{IdleOnlyWhenEmpty}
 use Rattle.demands.proofs.Counting.{equal, other, same?, no}
-use Rattle.demands.proofs.OrderKept.{first-own}
 use Rattle.demands.proofs.FoundEmpty.{call-found}
 use Rattle.demands.proofs.Quiet.{Quiet, stays, goes, Quietly, poll, poll-quiet, release-all-quiet, settle-empty-quiet}
 use Rattle.demands.proofs.Moves.{Moves, stays-put, credits, registers-new, registers-old, sends, posts, drops-it, pauses-it, resumes, resumes-not, closes-it, polls-all, shuts-it, takes, stops, halts, aims, aims-none, Chain, stay, move, sender-move, control-move, call-chain}

@@ -12,7 +12,7 @@ use Rattle.model.specs.declared.ControlCall.the-variants.{Pause, Resume, CloseL
 use Rattle.model.specs.declared.Call.{Call}
 use Rattle.model.specs.declared.Call.the-variants.{Sender, Receive, Control}
 use Rattle.model.specs.declared.Answer.the-variants.{Done, Registered, Taken, Item, Items, Stopped, Empty, Disconnected, Held, Refused}
-use Rattle.model.specs.Lists.{if, count}
+use Rattle.model.specs.Lists.{if}
 use Rattle.model.specs.State.{State}
 use Rattle.model.specs.Runs.{sameKey, accepted, Tick, gives, ends, trace, afterList, countTicks}
 use Rattle.model.specs.Opening.{openingOutcome}
@@ -21,7 +21,6 @@ use Rattle.model.specs.Order.{Ordered}
 use Rattle.model.specs.Ledger.{Lane, Ledger, atOpening, changeLane, removeOldest, addRegistered, applyCall, note, ledgerAfter}
 use Rattle.model.specs.Keys.{registersAs, answersKeyThat, answersKey, answersSlot, KeysNeverAgainIn, KeysNeverAgain, SlotsAnswered, IssuedAsAnsweredIn, IssuedAsAnswered}
 use Rattle.demands.proofs.Counting.{Same, equal, other, same?}
-use Rattle.demands.proofs.OrderKept.{first-own}
 use Rattle.demands.proofs.Moves.{Moves, stays-put, credits, registers-new, registers-old, sends, posts, drops-it, pauses-it, resumes, resumes-not, closes-it, polls-all, shuts-it, takes, stops, halts, aims, aims-none, Chain, stay, move, trace-chain}
 use Rattle.demands.proofs.Opened.{opened-ordered}
 use Rattle.demands.proofs.MovesKeepOrder.{move-ordered}

@@ -17,12 +17,11 @@ use Rattle.model.specs.declared.ReceiveCall.the-variants.{TryRecv, TryRecvFair,
 use Rattle.model.specs.declared.ControlCall.the-variants.{Pause, Resume, CloseLane, ReleaseConsumed, PollAllLanes, CloseReceiver, CountHeld}
 use Rattle.model.specs.declared.Call.{Call}
 use Rattle.model.specs.declared.Call.the-variants.{Sender, Receive, Control}
-use Rattle.model.specs.declared.Refusal.{Refusal}
 use Rattle.model.specs.declared.Refusal.the-variants.{ReceiverClosed, NoSuchLane}
 use Rattle.model.specs.declared.Answer.{Answer}
 use Rattle.model.specs.declared.Answer.the-variants.{Done, Registered, Taken, Item, Items, Stopped, Empty, Disconnected, Held, Refused}
 use Rattle.model.specs.Answers.{number}
-use Rattle.model.specs.Lists.{if, both, Each, from}
+use Rattle.model.specs.Lists.{if, Each, from}
 use Rattle.model.specs.State.{State, registeredLanes, livingSenders, keyOf, hasLane, sameOpening, hasLaneId}
 use Rattle.model.specs.Turn.{Took, takeOne, takeFair}
 use Rattle.model.specs.Outcome.{Outcome, says, unless}

@@ -11,7 +11,7 @@ use lib.ListN.{length}
 use lib.Dec.{eqb, leb}
 use borrow.Author.Tests.{ne-eqb}
 use Rattle.model.specs.declared.LaneKey.{LaneKey}
-use Rattle.model.specs.Lists.{if, both, either, count, without}
+use Rattle.model.specs.Lists.{if, both, either, without}
 use Rattle.model.specs.State.{Slot, State, mayQueue, keyOf, hasLane}
 use Rattle.model.specs.Changes.{withQueue, put, newLane, signalled, pushed, senderDropped, popped, withPaused, credited, retired}
 use Rattle.model.specs.Turn.{retireLane, settleEmpty, unreleasedAfterOne, giveItem}
@@ -20,7 +20,7 @@ use Rattle.model.specs.Receive.{releaseAll, queueLaneIf, halted}
 use Rattle.model.specs.Order.{Ordered}
 use Rattle.model.specs.Ledger.{HeldItem, Lane, Ledger, changeLane, addItem, removeOldest, setPaused, setClosed, setDropped, addRegistered, applyCall, note, anyOrdinary, waitsIn}
 use Rattle.demands.proofs.Counting.{equal, other, same?, self, no}
-use Rattle.demands.proofs.OrderKept.{first-own, front-registered}
+use Rattle.demands.proofs.OrderKept.{front-registered}
 use Rattle.demands.proofs.Quiet.{Still, Quiet, stays, goes, Quietly, trans, poll, poll-quiet, poll-ordered, release-all-quiet, settle-empty-quiet}
 use Rattle.demands.proofs.Moves.{Moves, stays-put, credits, registers-new, registers-old, sends, posts, drops-it, pauses-it, resumes, resumes-not, closes-it, polls-all, shuts-it, takes, stops, halts, aims, aims-none}
 use Rattle.demands.proofs.StopLaws.{halts-quiet}

@@ -41,7 +41,7 @@ use Rattle.demands.proofs.OrderKept.{release-all-ordered}
 use Rattle.demands.proofs.Quiet.{Quietly, trans, release-all-quiet, nothing-taken-quiet, nothing-taken-ordered, poll, calm}
 use Rattle.demands.proofs.ClearSlots.{clear-slot}
 use Rattle.demands.proofs.WaitInReceive.{Settled, nothing-queued, front, poll-settled}
-use Rattle.demands.proofs.StopLaws.{NextUp, Stops, while-law}
+use Rattle.demands.proofs.StopLaws.{while-law}
 
 pub record Silent (c : Call) (a : Answer) : Type 0 where
   pub noted : (L : Ledger) → note L (ends c a) ≡ L

@@ -1,6 +1,6 @@
 -- Every move keeps the state in order.
 -- Assumes nothing.
-use mathlib.Core.Path.{_≡_, refl, ap, sym, _∙_}
+use mathlib.Core.Path.{_≡_, refl, _∙_}
 use mathlib.Core.Bool.{Bool, true, false, not}
 use mathlib.Core.List.{List, _∷_, _++_}
 use Prim.Native.Nat.{ℕ, zero, suc, _≤_, _<_}
@@ -17,7 +17,7 @@ use Rattle.model.specs.Runs.{Tick}
 use Rattle.model.specs.Receive.{queueLaneIf}
 use Rattle.model.specs.Order.{SlotOrdered, Ordered}
 use Rattle.demands.proofs.Counting.{Same, equal, other, same?, self, no, both-true, both-3, not-true, unqueued-zero, count-append, keep-in, keep-out, without-own, without-other, from-in}
-use Rattle.demands.proofs.OrderKept.{retire-unqueue-ordered, one-slot, first-own, first-other, settle-empty-ordered, give-item-ordered, release-all-ordered, put-ordered, back-ordered, signal-fine, back-room}
+use Rattle.demands.proofs.OrderKept.{retire-unqueue-ordered, one-slot, settle-empty-ordered, give-item-ordered, release-all-ordered, put-ordered, back-ordered, signal-fine, back-room}
 use Rattle.demands.proofs.Quiet.{poll, poll-ordered}
 use Rattle.demands.proofs.Moves.{Moves, stays-put, credits, registers-new, registers-old, sends, posts, drops-it, pauses-it, resumes, resumes-not, closes-it, polls-all, shuts-it, takes, stops, halts, aims, aims-none}
 use Rattle.demands.proofs.StopLaws.{halts-ordered}

@@ -11,7 +11,7 @@ use borrow.Author.Tests.{ne-eqb}
 use Rattle.model.specs.declared.LaneKey.{LaneKey}
 use Rattle.model.specs.Lists.{if, either, nonEmpty, count}
 use Rattle.model.specs.State.{Slot, State}
-use Rattle.model.specs.Changes.{withBudget, unmarked}
+use Rattle.model.specs.Changes.{unmarked}
 use Rattle.model.specs.Ready.{groupOf, marks, collectMarks, collectGroup, groupsRound, collectFirst, collectEach, collectReadyGroup, collectReady}
 use Rattle.model.specs.Turn.{settleEmpty, beforeNextTurn, runDownFrom, runDown, collectIfDue, collectIfNoneQueued, polled, Took, giveItem, takeOne}
 use Rattle.model.specs.Receive.{andMore, takeUpTo}

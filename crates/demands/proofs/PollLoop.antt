@@ -12,7 +12,7 @@ use Rattle.model.specs.State.{State}
 use Rattle.model.specs.Changes.{withQueue, withBudget, put, settledEmpty}
 use Rattle.model.specs.Ready.{marks, isReady, collectMarks, collectGroup, groupsRound, collectFirst, collectReadyGroup, collectReady}
 use Rattle.model.specs.Turn.{Took, retireLane, retireLaneIf, settleEmpty, refill, beforeNextTurn, runDownFrom, runDown, collectIfDue, collectIfNoneQueued, polled, takeOne, takeFair}
-use Rattle.model.specs.Receive.{andMore, takeUpTo, takeWhile}
+use Rattle.model.specs.Receive.{andMore, takeUpTo}
 use Rattle.model.specs.Order.{Ordered}
 use Rattle.model.specs.PollLoop.{NothingReady, TakesUnlessNothingLeft, PlainUnlessNothingLeft, FairUnlessNothingLeft, BatchUnlessNothingLeft, refreshed, refreshActive, Turns, nothing-queued, has-item, found-empty, PolledAsLoop, FairAsLoop, NothingReadyAtZero, WhileUnlessNothingLeft}
 use Rattle.demands.proofs.OrderKept.{refill-pos, settle-empty-queue, before-next-turn-queue, collect-if-due-ordered, run-down-from-ordered, run-down-ordered, take-one-ordered}

@@ -1,7 +1,7 @@
 -- A plain, fair or non-zero batch receive that is not refused hands out what was asked for, or leaves nothing queued and nothing ready: what follows its poll
 -- loop, lanes retired and credit given back, queues and marks none.
 -- Assumes nothing.
-use mathlib.Core.Path.{_≡_, refl, ap, _∙_}
+use mathlib.Core.Path.{_≡_, refl, _∙_}
 use mathlib.Core.Logic.{_⊎_, inl, inr}
 use mathlib.Core.Bool.{Bool, true, false, not}
 use mathlib.Core.List.{List, [], _∷_}
@@ -10,17 +10,14 @@ use native.Mathlib.Omega.{arith}
 use lib.ListN.{length}
 use lib.Dec.{leb}
 use Rattle.model.specs.declared.LaneKey.{LaneKey}
-use Rattle.model.specs.declared.ReceiveCall.{ReceiveCall}
 use Rattle.model.specs.declared.ReceiveCall.the-variants.{TryRecv, TryRecvFair, TryRecvFrom, TryRecvBatchInto, TryRecvBatchIntoWhile}
-use Rattle.model.specs.declared.Call.the-variants.{Receive}
 use Rattle.model.specs.declared.Answer.the-variants.{Empty}
 use Rattle.model.specs.Lists.{if, both, nonEmpty, from}
 use Rattle.model.specs.State.{State, livingSenders}
-use Rattle.model.specs.Changes.{put, retired}
-use Rattle.model.specs.Turn.{retireLane, retireLaneIf, Took, takeOne, takeFair}
+use Rattle.model.specs.Turn.{retireLane, retireLaneIf}
 use Rattle.model.specs.Outcome.{Outcome, says}
 use Rattle.model.specs.Runs.{accepted}
-use Rattle.model.specs.Receive.{retireEmptyPausedLanes, emptyOrDrained, nothingTaken, answerOne, takeUpTo, releaseAll, answerItems, tryRecv, tryRecvFair, tryRecvBatchInto, takeWhile, answerWhile, tryRecvBatchIntoWhile, receiveOutcome}
+use Rattle.model.specs.Receive.{retireEmptyPausedLanes, emptyOrDrained, nothingTaken, answerOne, releaseAll, answerItems, tryRecv, tryRecvFair, tryRecvBatchInto, answerWhile, tryRecvBatchIntoWhile, receiveOutcome}
 use Rattle.model.specs.Rules.{outcome}
 use Rattle.model.specs.Viewed.{rulesViewed}
 use Rattle.model.specs.Stretch.{looks, saysStopped}

@@ -1,16 +1,15 @@
 -- Document 02, N4: which slot a registration takes, when it is refused 8 or 9, and that else it does what it did before.
 -- Assumes nothing.
-use mathlib.Core.Path.{_≡_, refl, ap, ap₂, sym, _∙_, subst}
+use mathlib.Core.Path.{_≡_, refl, ap, sym, _∙_, subst}
 use mathlib.Core.Logic.{_≢_}
 use mathlib.Core.Bool.{Bool, true, false, not}
 use mathlib.Core.List.{List, [], _∷_, _++_}
-use Prim.Native.Nat.{ℕ, suc, _+_, _≤_, _<_}
+use Prim.Native.Nat.{ℕ, _+_, _≤_, _<_}
 use native.Mathlib.Omega.{arith}
-use borrow.Author.Tests.{leb-true, leb-false, le-leb, lt-leb}
+use borrow.Author.Tests.{leb-true, leb-false, lt-leb}
 use lib.Dec.{eqb, leb}
 use Rattle.model.specs.declared.LaneKey.{LaneKey}
 use Rattle.model.specs.declared.SenderCall.the-variants.{RegisterSender, TrySend, TrySendUnsignaled, DropSender}
-use Rattle.model.specs.declared.ReceiveCall.{ReceiveCall}
 use Rattle.model.specs.declared.ReceiveCall.the-variants.{TryRecv, TryRecvFair, TryRecvFrom, TryRecvBatchInto, TryRecvBatchIntoWhile}
 use Rattle.model.specs.declared.ControlCall.the-variants.{Pause, Resume, CloseLane, ReleaseConsumed, PollAllLanes, CloseReceiver, CountHeld}
 use Rattle.model.specs.declared.Call.{Call}
@@ -20,9 +19,9 @@ use Rattle.model.specs.declared.Refusal.the-variants.{ReceiverClosed, AtCapacit
 use Rattle.model.specs.declared.Answer.{Answer}
 use Rattle.model.specs.declared.Answer.the-variants.{Done, Registered, Taken, Item, Items, Stopped, Empty, Disconnected, Held, Refused}
 use Rattle.model.specs.Answers.{number}
-use Rattle.model.specs.Lists.{if, both, either, nonEmpty, Each, count, keep, without}
+use Rattle.model.specs.Lists.{both, either, nonEmpty, Each, count, without}
 use Rattle.model.specs.State.{State, registeredLanes}
-use Rattle.model.specs.Changes.{withFree, withIssued, put, newLane}
+use Rattle.model.specs.Changes.{withFree, put, newLane}
 use Rattle.model.specs.Outcome.{Outcome, says, unless}
 use Rattle.model.specs.Order.{InOrder}
 use Rattle.model.specs.Runs.{accepted}
@@ -32,7 +31,7 @@ use Rattle.model.specs.Control.{pause, resume, closeLane, releaseConsumed, poll
 use Rattle.model.specs.Rules.{outcome}
 use Rattle.model.specs.Viewed.{rulesViewed, rulesOnAnyState}
 use Rattle.model.specs.Registration.{LetPass, OlderLives, FirstClear, NoSlotLeft, RegistersInVain, TakesFirstClear, TakesNextUnused, EightExactly, NineExactly, RefusedOnlyInVain, issueFreedLast, freedLastLives, registerFreedLast, PassesOver, ElseAsBefore}
-use Rattle.demands.proofs.Counting.{no, not-true, not-false}
+use Rattle.demands.proofs.Counting.{no}
 use Rattle.demands.proofs.ClearSlots.{none-clear, all-live, first-clear, without-once}
 use Rattle.demands.proofs.Moves.{unless-each}
 use Rattle.demands.proofs.Demand1.{answer-one-accepted, answer-items-accepted, answer-while-accepted, take-from-accepted}

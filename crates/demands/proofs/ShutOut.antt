@@ -16,7 +16,6 @@ use Rattle.model.specs.declared.Call.{Call}
 use Rattle.model.specs.declared.Call.the-variants.{Sender, Receive, Control}
 use Rattle.model.specs.declared.Answer.{Answer}
 use Rattle.model.specs.declared.Answer.the-variants.{Done, Registered, Taken, Item, Items, Stopped, Empty, Disconnected, Held, Refused}
-use Rattle.model.specs.Lists.{Each}
 use Rattle.model.specs.State.{State, ringOf}
 use Rattle.model.specs.Runs.{Lent, allRuns, accepted, Tick, gives, ends, handed, ticks, trace, afterList, sameKey, countTicks, ofLane}
 use Rattle.model.specs.Sender.{senderOutcome}

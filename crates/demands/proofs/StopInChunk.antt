@@ -7,11 +7,11 @@ use Prim.Native.Nat.{ℕ, zero, suc, _+_, _-_, _≤_, _<_}
 use native.Mathlib.Nat.{zero-add}
 use native.Mathlib.Omega.{arith}
 use lib.ListN.{length, drop, length-append, length-drop}
-use lib.Dec.{eqb, leb}
+use lib.Dec.{leb}
 use borrow.Author.Tests.{ne-eqb}
 use Rattle.model.specs.declared.LaneKey.{LaneKey}
 use Rattle.model.specs.Lists.{if}
-use Rattle.model.specs.State.{Slot, State, keyOf, releaseBatch}
+use Rattle.model.specs.State.{Slot, State, releaseBatch}
 use Rattle.model.specs.Changes.{withBudget}
 use Rattle.model.specs.Turn.{refill, Took, polled}
 use Rattle.model.specs.Receive.{takeUpTo, admitted, halted, takeWhile}

@@ -25,7 +25,7 @@ use Rattle.model.specs.declared.Answer.{Answer}
 use Rattle.model.specs.declared.Answer.the-variants.{Done, Registered, Taken, Item, Items, Stopped, Empty, Disconnected, Held, Refused}
 use Rattle.model.specs.Lists.{if, both, either, count, Each}
 use Rattle.model.specs.State.{Slot, State, keyOf}
-use Rattle.model.specs.Turn.{refill, Took, giveItem, polled, takeOne}
+use Rattle.model.specs.Turn.{Took, giveItem, polled, takeOne}
 use Rattle.model.specs.Outcome.{Outcome, unless}
 use Rattle.model.specs.Runs.{Lent, accepted, Tick, gives, ends, handed, ticks, trace, afterList}
 use Rattle.model.specs.Ledger.{HeldItem, Lane, Ledger, atOpening, addRegistered, applyCall, note, ledgerAfter}
@@ -38,17 +38,16 @@ use Rattle.model.specs.Viewed.{rulesViewed, rulesOnAnyState}
 use Rattle.model.specs.Disconnected.{SameLane}
 use Rattle.model.specs.Sender.{clearSlots, issueSlot, senderOutcome, registerSender, trySend, trySendUnsignaled, dropSender}
 use Rattle.model.specs.Control.{controlOutcome, pause, resume, closeLane, releaseConsumed, pollAllLanes, closeReceiver, countHeld}
-use Rattle.model.specs.Stops.{plainItems, polledAfter, AllAdmitted, StopsInFront, StoppedInFront, StopsExactly, StopAtZero, hasBound, OnlyBoundedStop, StopKeepsPaused, SameReceive, PlainWhereAdmitted, RefusedAsBatch, StillWaits, oldestAbove, someAbove, StopsAt, isPlain, ofPlain, givesAbove, NextIsAboveIn, NextIsAbove, StopsOnlyAtItemsIn, StopsOnlyAtItems, HandsOnlyAdmittedIn, HandsOnlyAdmitted}
+use Rattle.model.specs.Stops.{plainItems, AllAdmitted, StopsInFront, StoppedInFront, StopsExactly, StopAtZero, hasBound, OnlyBoundedStop, StopKeepsPaused, SameReceive, PlainWhereAdmitted, RefusedAsBatch, StillWaits, oldestAbove, someAbove, StopsAt, isPlain, ofPlain, givesAbove, NextIsAboveIn, NextIsAbove, StopsOnlyAtItemsIn, StopsOnlyAtItems, HandsOnlyAdmittedIn, HandsOnlyAdmitted}
 use Rattle.demands.proofs.Counting.{no, not-false}
 use Rattle.demands.proofs.Quiet.{poll, poll-quiet, polled-quiet}
 use Rattle.demands.proofs.FrontItem.{take-one-front}
 use Rattle.demands.proofs.PausedKept.{polled-kept, take-up-to-kept}
 use Rattle.demands.proofs.OrderKept.{first-own, refill-pos, front-registered, take-up-to-ordered}
-use Rattle.demands.proofs.StopLaws.{NextUp, Stops, take-prefix, admitted-each, admitted-next, admitted-all, all-admitted, while-law, answer-one-unstopped, answer-items-unstopped, take-from-unstopped}
+use Rattle.demands.proofs.StopLaws.{Stops, take-prefix, admitted-each, admitted-next, admitted-all, all-admitted, while-law, answer-one-unstopped, answer-items-unstopped, take-from-unstopped}
 use Rattle.demands.proofs.Moves.{unless-law, TakeResult, took-none, took-one, take-one-taken, nothing-taken-gives-none, call-chain, trace-chain}
 use Rattle.demands.proofs.Points.{ends-at, after-append}
 use Rattle.demands.proofs.LedgerLaws.{alike, unlike, keys?, look}
-use Rattle.demands.proofs.LedgerAgrees.{Agrees}
 use Rattle.demands.proofs.Demand2.{opens-as}
 use Rattle.demands.proofs.Demand3.{opened-agrees}
 use Rattle.demands.proofs.InOrder.{call-keeps-order, opening-in-order, run-in-order}

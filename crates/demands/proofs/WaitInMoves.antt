@@ -20,7 +20,7 @@ use Rattle.model.specs.Runs.{sameKey, accepted, Tick, gives}
 use Rattle.model.specs.Receive.{releaseAll, halted, queueLaneIf}
 use Rattle.model.specs.Stretch.{endsWait, endsStretch, untargeted}
 use Rattle.demands.proofs.Counting.{Same, equal, other, same?, self, no, count-append, keep-in, without-own, without-other, from-in}
-use Rattle.demands.proofs.OrderKept.{first-own, last-other, back-room, settle-empty-queue}
+use Rattle.demands.proofs.OrderKept.{last-other, back-room, settle-empty-queue}
 use Rattle.demands.proofs.Quiet.{Hold, hold-quiet, release-all-quiet, poll, settle-empty-quiet}
 use Rattle.demands.proofs.Ahead.{live, share, ahead, live-ring, live-living, share-live, share-most, ahead-append, ahead-without, ahead-le, Few, before, before-append, before-without, away}
 use Rattle.demands.proofs.WaitInReceive.{Wait, in-queue, in-marks, On, Polled, polled-to, poll-on, halted-on, give-item-on, queued-most, settle-empty-other, settle-empty-budget, settle-empty-cursor}

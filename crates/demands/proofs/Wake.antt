@@ -27,7 +27,7 @@ use Rattle.model.specs.Turn.{Took, retireLane, retireLaneIf, takeOne, takeFair}
 use Rattle.model.specs.Outcome.{Outcome, says}
 use Rattle.model.specs.Runs.{accepted, Tick, gives, ends, handed, ticks, trace, afterList, countTicks}
 use Rattle.model.specs.Sender.{senderOutcome, trySend}
-use Rattle.model.specs.Receive.{retireEmptyPausedLanes, emptyOrDrained, nothingTaken, answerOne, takeUpTo, releaseAll, answerItems, takeWhile, tryRecv, tryRecvFair, tryRecvBatchInto, answerWhile, tryRecvBatchIntoWhile, receiveOutcome}
+use Rattle.model.specs.Receive.{retireEmptyPausedLanes, emptyOrDrained, nothingTaken, answerOne, takeUpTo, releaseAll, answerItems, tryRecv, tryRecvFair, tryRecvBatchInto, answerWhile, tryRecvBatchIntoWhile, receiveOutcome}
 use Rattle.model.specs.Opening.{openingOutcome}
 use Rattle.model.specs.Rules.{outcome, theRules}
 use Rattle.model.specs.Order.{Ordered, InOrder}

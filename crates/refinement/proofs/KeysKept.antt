@@ -12,7 +12,7 @@ use Rattle.model.specs.declared.ReceiveCall.{ReceiveCall}
 use Rattle.model.specs.declared.Call.{Call}
 use Rattle.model.specs.declared.Call.the-variants.{Sender, Receive, Control}
 use Rattle.model.specs.declared.Answer.{Answer}
-use Rattle.model.specs.Lists.{if, either, count, Each}
+use Rattle.model.specs.Lists.{if, either, Each}
 use Rattle.model.specs.State.{Slot, State, mayQueue}
 use Rattle.model.specs.Changes.{put, newLane, popped, retired}
 use Rattle.model.specs.Turn.{unreleasedAfterOne}
@@ -21,7 +21,6 @@ use Rattle.model.specs.Order.{Ordered}
 use Rattle.model.specs.Runs.{Tick, gives, ends, handed, ticks}
 use Rattle.model.specs.Rules.{outcome}
 use Rattle.demands.proofs.Counting.{Same, equal, other, same?, self, no}
-use Rattle.demands.proofs.OrderKept.{first-own}
 use Rattle.demands.proofs.Quiet.{Quiet, stays, goes, poll, poll-quiet, trans, settle-empty-quiet}
 use Rattle.demands.proofs.Moves.{Moves, stays-put, credits, registers-new, registers-old, sends, posts, drops-it, pauses-it, resumes, resumes-not, closes-it, polls-all, shuts-it, takes, stops, halts, aims, aims-none, Chain, stay, move, sender-move, control-move, call-chain}
 use Rattle.demands.proofs.StopLaws.{halts-quiet}

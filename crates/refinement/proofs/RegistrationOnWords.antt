@@ -1,7 +1,6 @@
 -- Refusals 8 and 9 by the words of the table store: what the words show of a registration is what they hold.
 -- Assumes nothing.
 use mathlib.Core.Path.{_≡_, sym, _∙_}
-use mathlib.Core.Bool.{true}
 use mathlib.Core.List.{List, [], _∷_}
 use Prim.Native.Nat.{ℕ, _≤_, _<_}
 use native.Mathlib.Omega.{arith}
@@ -11,7 +10,6 @@ use Rattle.model.specs.Lists.{Each, count}
 use Rattle.model.specs.Registration.{OlderLives, RegistersInVain, EightExactly, NineExactly}
 use Rattle.demands.proofs.OrderKept.{first-own, count-rest}
 use Rattle.lane.specs.Table.{laneAt}
-use Rattle.queues.specs.Header.{issued}
 use Rattle.queues.specs.Registry.{freeOf}
 use Rattle.store.specs.View.{flag, slotAt, view}
 use Rattle.store.specs.Order.{StoreInOrder}

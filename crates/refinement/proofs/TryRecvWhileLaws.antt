@@ -1,13 +1,12 @@
 -- The batch that stops does what the rules say, hands out and writes what they hand out and write, and leaves a store in order.
 -- Assumes nothing.
 use mathlib.Core.Path.{_≡_, refl, sym, ap, _∙_}
-use mathlib.Core.Bool.{Bool, true, false, cond}
+use mathlib.Core.Bool.{Bool, true, false}
 use mathlib.Core.List.{List}
 use Prim.Native.Nat.{ℕ}
 use lib.ListN.{length}
 use Rattle.model.specs.declared.LaneKey.{LaneKey}
 use Rattle.model.specs.declared.ReceiveCall.the-variants.{TryRecvBatchIntoWhile}
-use Rattle.model.specs.declared.Answer.{Answer}
 use Rattle.model.specs.declared.Answer.the-variants.{Stopped}
 use Rattle.model.specs.State.{State}
 use Rattle.model.specs.Outcome.{Outcome}
@@ -18,7 +17,7 @@ use Rattle.store.specs.View.{view}
 use Rattle.store.specs.Order.{StoreInOrder}
 use Rattle.store.specs.Words.{Words, withRings}
 use Rattle.all_lanes.specs.AllLanes.{releaseAll}
-use Rattle.receive_batch.specs.Batch.{batchVerdict, answerItems, handedBy}
+use Rattle.receive_batch.specs.Batch.{batchVerdict, handedBy}
 use Rattle.receive_while.specs.While.{DrainedWhile, drainedWhile, answerWhile, whileAnswer, whileWords, whileHands}
 use Rattle.store.proofs.RefusalLaws.{seen, firstOf, refused-alike, unless-refused-case}
 use Rattle.all_lanes.proofs.ReleaseConsumedLaws.{view-release-all}

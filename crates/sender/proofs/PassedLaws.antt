@@ -1,6 +1,6 @@
 -- How far a registration goes down the free list: the loop that counts the slots passed over, and where the rules' first clear slot stands.
 -- Assumes nothing.
-use mathlib.Core.Path.{_≡_, refl, sym, ap, _∙_}
+use mathlib.Core.Path.{_≡_, refl, ap, _∙_}
 use mathlib.Core.Logic.{_≢_}
 use mathlib.Core.Bool.{Bool, true, false, not}
 use mathlib.Core.List.{List, [], _∷_}
@@ -16,7 +16,7 @@ use Rattle.lane.specs.Table.{laneAt}
 use Rattle.queues.specs.Header.{issued, freeCount}
 use Rattle.queues.specs.Registry.{freeOf, freedAt}
 use Rattle.queues.proofs.RegistryLaws.{length-free, free-item, drop-free, drop-free-all}
-use Rattle.store.specs.View.{flag, slotAt, view}
+use Rattle.store.specs.View.{slotAt, view}
 use Rattle.store.specs.Order.{StoreInOrder}
 use Rattle.store.proofs.ViewLaws.{slot-in}
 use Rattle.sender.specs.Sender.{olderAhead, passedOver}

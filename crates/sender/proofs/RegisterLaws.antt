@@ -39,7 +39,7 @@ use Rattle.ready.specs.Ready.{pageBit}
 use Rattle.queues.proofs.QueueLaws.{shaped-putLane}
 use Rattle.queues.proofs.RegistryLaws.{registry-frames, length-free, freed-in, shaped-reissued}
 use Rattle.store.specs.declared.refusal.Verdict.the-variants.{Pass, Refuse}
-use Rattle.store.specs.View.{flag, slotOf, slotAt, view}
+use Rattle.store.specs.View.{slotOf, slotAt, view}
 use Rattle.store.specs.Order.{Flags, Stores, StoreInOrder}
 use Rattle.store.specs.Refusal.{andThen}
 use Rattle.store.specs.Words.{Words}

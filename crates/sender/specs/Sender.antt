@@ -1,6 +1,6 @@
 -- The sender calls, as words.
 -- Assumes nothing.
-use mathlib.Core.Bool.{Bool, true, false, cond}
+use mathlib.Core.Bool.{false, cond}
 use mathlib.Core.List.{List, [], _∷_}
 use mathlib.Core.Path.{_≡_}
 use mathlib.Core.Logic.{_≢_}
@@ -18,7 +18,7 @@ use Rattle.lane.specs.declared.producer.Sent.the-variants as Sent
 use Rattle.lane.specs.Lane.{withFlags, newLane, pushAndFlushItem}
 use Rattle.yring.specs.Ring.{Within, newRing}
 use Rattle.lane.specs.Table.{laneAt, putLane}
-use Rattle.queues.specs.Header.{setIssued, setLaneCount, setLivingCount, Shaped, issued, freeCount, slots, alive, capacity, firstCursor, firstGeneration, laneCount, livingCount}
+use Rattle.queues.specs.Header.{setIssued, setLaneCount, setLivingCount, Shaped, issued, freeCount, slots, capacity, firstCursor, firstGeneration, laneCount, livingCount}
 use Rattle.queues.specs.Registry.{freeOf, freedAt, reissue}
 use Rattle.ready.specs.Ready.{openPage}
 use Rattle.store.specs.declared.refusal.Verdict.{Verdict}

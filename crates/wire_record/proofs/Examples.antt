@@ -1,7 +1,7 @@
 -- The records of document 01's example compute, and so do inputs around it.
 -- Assumes nothing.
 use mathlib.Core.Path.{_≡_, refl}
-use mathlib.Core.List.{List, [], _∷_, _++_, map}
+use mathlib.Core.List.{[], _∷_, _++_, map}
 use Rattle.model.specs.declared.ReceiveCall.the-variants.{TryRecv, TryRecvBatchInto, TryRecvBatchIntoWhile}
 use Rattle.model.specs.declared.Call.the-variants.{Receive}
 use Rattle.wire_record.specs.declared.record.Record.the-variants.{Call}

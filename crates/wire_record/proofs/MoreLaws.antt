@@ -1,21 +1,20 @@
 -- More bytes change neither a record that was found nor what is malformed.
 -- Assumes nothing.
-use mathlib.Core.Path.{_≡_, refl, sym, ap, _∙_, subst}
+use mathlib.Core.Path.{_≡_, refl, ap, _∙_, subst}
 use mathlib.Core.Bool.{Bool, true, false, cond}
 use mathlib.Core.List.{List, [], _∷_, _++_}
 use mathlib.Core.Option.{Option, none, some}
 use Prim.Native.Nat.{ℕ, zero, suc, _+_, _*_, _≤_, _<_}
 use native.Mathlib.Omega.{arith}
-use borrow.Author.Tests.{ltb-false, eqb-true, eqb-false, le-ltb, eq-eqb, ne-eqb}
+use borrow.Author.Tests.{ltb-false, eqb-true, le-ltb, eq-eqb}
 use lib.Dec.{ltb, eqb}
-use lib.ListN.{length, getD, getElem?, drop, length-append, List·getD-append}
+use lib.ListN.{length, getElem?, drop, length-append, List·getD-append}
 use Rattle.model.specs.declared.LaneId.{LaneId}
 use Rattle.model.specs.declared.ReceiveCall.the-variants.{TryRecvFrom}
 use Rattle.model.specs.declared.ControlCall.the-variants.{Pause, Resume, CloseLane}
 use Rattle.model.specs.declared.Call.the-variants.{Receive, Control}
 use Rattle.wire_record.specs.declared.record.Record.{Record}
 use Rattle.wire_record.specs.declared.record.Record.the-variants.{Call}
-use Rattle.wire_record.specs.declared.record.Parsed.{Parsed}
 use Rattle.wire_record.specs.declared.record.Parsed.the-variants.{Incomplete, Malformed, Whole}
 use Rattle.wire_record.specs.Record.{Kind, kinds, number, field, id, size, kindOf, parseAs, parse}
 

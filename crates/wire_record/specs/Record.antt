@@ -1,6 +1,6 @@
 -- Document 01, "Replay program": records on bytes, "u16 length of what follows, two-byte kind, u64 fields, all little-endian".
 -- Assumes nothing.
-use mathlib.Core.Bool.{Bool, true, false, cond}
+use mathlib.Core.Bool.{cond}
 use mathlib.Core.List.{List, [], _∷_}
 use mathlib.Core.Option.{Option, none, some}
 use Prim.Native.Nat.{ℕ, zero, suc, _+_, _*_}

@@ -12,7 +12,7 @@ use borrow.Author.Tests.{le-leb, lt-leb}
 use lib.ListN.{length, getD, set, drop, List·getD-append}
 use Rattle.yring.specs.Lists.{tab, written}
 use Rattle.yring.specs.Cursor.{after, distance, Capacity}
-use Rattle.yring.specs.Ring.{Within, newRing, index, itemAt, items, run, freeAfter, acceptedPrefix}
+use Rattle.yring.specs.Ring.{newRing, index, itemAt, items, run, freeAfter, acceptedPrefix}
 use Rattle.yring.specs.declared.ring.Ring.{Ring}
 use Rattle.yring.proofs.ListLaws.{length-tab, tab-ext, tab-self, tab-add, tab-out, tab-push, tab-more, tab-pop, apart, written-step, written-twice}
 use Rattle.yring.proofs.CursorLaws.{wraps, some}

@@ -29,7 +29,7 @@ use Rattle.model.specs.Control.{controlOutcome}
 use Rattle.model.specs.Opening.{openedState}
 use Rattle.model.specs.Rules.{theRules}
 use Rattle.model.specs.Viewed.{Viewed}
-use Rattle.model.specs.Registration.{LetPass, FirstClear, NoSlotLeft, RegistersInVain, TakesFirstClear, TakesNextUnused, EightExactly, NineExactly, RefusedOnlyInVain, registering, OnTop, FreedOnTop, issueFreedLast, freedLastLives, registerFreedLast, PassesOver, ElseAsBefore}
+use Rattle.model.specs.Registration.{LetPass, NoSlotLeft, RegistersInVain, TakesFirstClear, TakesNextUnused, EightExactly, NineExactly, RefusedOnlyInVain, registering, FreedOnTop, issueFreedLast, freedLastLives, registerFreedLast, PassesOver, ElseAsBefore}
 use Rattle.model.specs.ShutOut.{callBy, rulesBy}
 use Rattle.model.specs.Examples.Example.{computeExamples, keyAt, idAt, registers, sends, drops, closes, plain, lane}
 use Rattle.model.specs.Examples.Calls.{compute}

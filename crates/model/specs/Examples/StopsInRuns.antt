@@ -5,7 +5,6 @@ use mathlib.Core.Bool.{Bool, true, false}
 use mathlib.Core.List.{List, [], _∷_}
 use Prim.Native.Nat.{ℕ}
 use lib.ListN.{take, drop}
-use Rattle.model.specs.declared.LaneKey.{LaneKey}
 use Rattle.model.specs.declared.Opening.{Opening}
 use Rattle.model.specs.declared.SenderCall.the-variants.{RegisterSender, TrySend}
 use Rattle.model.specs.declared.ReceiveCall.the-variants.{TryRecv, TryRecvFair, TryRecvFrom, TryRecvBatchInto, TryRecvBatchIntoWhile}

@@ -2,7 +2,6 @@
 -- Assumes nothing.
 use borrow.Author.Tests.{le-leb, lt-leb}
 use Rattle.sender.specs.Sender.{capacityVerdict}
-use borrow.Author.Needs.{needs}
 use Rattle.sender.proofs.sender.capacity_verdict.Statement.{statement}
 use Rattle.sender.proofs.sender.capacity_verdict.Tie as tie
 

@@ -1,6 +1,6 @@
 -- `wire_record::record::record_of` meets its contract.
 -- Assumes nothing.
-use mathlib.Core.Path.{_≡_, sym, ap, _∙_}
+use mathlib.Core.Path.{_≡_, _∙_}
 use native.Mathlib.Omega.{arith}
 use Rattle.wire_record.specs.Record.{fieldsOf, said}
 use Rattle.wire_record.proofs.KindLaws.{room-for, said-as}
