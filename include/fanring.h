@@ -46,8 +46,8 @@
    FANRING_DISCONNECTED, and after a batch that answered FANRING_ITEMS with fewer than its limit. From such an answer on, while no calls but sender calls and
    held are made, the first fanring_try_send that is taken, to a lane that is not paused, answers woken 1.
    It may not sleep after a single item, a batch that reached its limit, a batch that stopped (FANRING_STOPPED), a batch of limit 0 or a targeted receive: a
-   lane may still be pending, and then its sends answer woken 0 until its ring is full. After a stop one is: the item in front of which the batch stopped
-   waits in it. After the receiver's other calls it looks again first; made while it sleeps, they are to wake it.
+   lane may still be pending, and then its sends answer woken 0 until its ring is full. After a stop an item waits in any case, the one in front of which the
+   batch stopped. After the receiver's other calls it looks again first; made while it sleeps, they are to wake it.
    A drop, an unsignalled send and a send that is refused wake nobody. A drop is seen at the latest by a look that finds nothing, so wake the receiver
    after it. Unsignalled sends may fill a ring while the receiver sleeps; ordinary ones are then refused 11, so wake it there too. Nor does a batch tell
    that its items were the last: FANRING_DISCONNECTED comes with the look after it, for which nobody is woken. Once all senders are dropped, look until it
@@ -67,7 +67,8 @@
    MARKS. A mark is an item above any sample, as of a technician's button for lights-out. A host that is to act between the samples before a mark and those
    after it receives by fanring_try_recv_batch_into_while, with a bound that the mark is above and no sample is: the batch stops in front of the mark. A plain
    or fair receive then hands it out, with its lane's id, and batches go on behind it (examples/c/first.c). It parts the items of its own lane alone: between
-   lanes no order is kept. Until the mark is taken, or its lane paused or closed, each such batch stops there, and the other lanes wait: so take it soon.
+   lanes no order is kept. Until the mark is taken, its lane paused or closed, or the receiver closed, each such batch of a limit other than 0 stops there at
+   count 0, whatever calls come between, an opening aside, and the other lanes wait: so take it soon. (That a send marks its lane, LANES, is another thing.)
 
    WHAT EVERY CALL RELIES ON. Each pointer is to as many words as its length says, `words` to FANRING_WORDS, aligned as uint64_t is; it is not NULL, also
    where the length is 0. `table`, `rings`, `out` and `words` do not overlap. Nothing else uses them during the call: one call at a time on a pair of
@@ -81,7 +82,7 @@
    FANRING_DONE, with these lengths, and since then nothing but these calls, checked and inner ones in any mixture, has changed them. With the premise
    broken, nothing is promised: not even that a call stays within the stores.
 
-   The contracts are in crates/c_checked/src and crates/c_inner/src, and are proved. For x86-64 Linux. */
+   The contracts are in src/ of crates c_checked, c_inner, c_while and c_inner_while, and are proved. For x86-64 Linux. */
 #ifndef FANRING_H
 #define FANRING_H
 
@@ -162,7 +163,7 @@ uint64_t fanring_try_send_unsignaled(
 
 /* Drops the sender with this key: its lane is marked, and the living senders are one less. If the lane is not closed, items already sent can still be
    received, and the lane counts against `most` until a receive finds it empty, and it retires. If it is paused, only a targeted receive finds it empty
-   before it is resumed; but with no living sender left, plain, fair and non-zero batch receives that have no item retire empty paused lanes too. A closed
+   before it is resumed; but with no living sender left, plain, fair and non-zero batch receives that find no item retire empty paused lanes too. A closed
    lane is gone already, and its slot may now be taken again. Answers FANRING_DONE; or refused 5, 10. */
 uint64_t fanring_drop_sender(
     uint64_t *table, size_t table_len, const uint64_t *rings, size_t rings_len, uint64_t slot, uint64_t generation,
@@ -195,7 +196,7 @@ uint64_t fanring_try_recv_batch_into(
 /* Receives items as fanring_try_recv_batch_into does, but admits only those that are at most `bound`: below its limit it stops in front of the first item
    above the bound. That item stays where it is, the oldest of its lane, and the lane stays in front with what is left of its turn: with no other call
    between, a plain or fair receive hands out this item, and this call with the same bound and a limit other than 0 stops again, at count 0. Stopped or not,
-   every lane then gives back its credit. (In the original a closure admits items, and Ok(0) is a stop at count 0.)
+   every lane then gives back its credit. (In the original a closure admits items, and Ok(0) with a limit other than 0 is a stop at count 0.)
    Answers FANRING_STOPPED with words[0] the count of items, 0 and up, if it stopped. If it did not, answers as fanring_try_recv_batch_into: FANRING_ITEMS
    with words[0] their count; FANRING_EMPTY or FANRING_DISCONNECTED if there was no item, admitted or not, but 0 items if the limit is 0. At its limit a
    batch has not stopped, whatever item is next. A stop at count 0 is never FANRING_EMPTY nor FANRING_DISCONNECTED, whether a sender lives or not, and unlike
@@ -206,7 +207,7 @@ uint64_t fanring_try_recv_batch_into_while(
     uint64_t limit, uint64_t bound, uint64_t words[FANRING_WORDS]);
 
 /* Takes the lane with this id out of all receives but targeted ones; its credit goes back. While no sender lives and a paused lane has items, plain, fair
-   and non-zero batch receives that have no item answer FANRING_EMPTY and not FANRING_DISCONNECTED, until that lane is resumed, closed or emptied by
+   and non-zero batch receives that find no item answer FANRING_EMPTY and not FANRING_DISCONNECTED, until that lane is resumed, closed or emptied by
    targeted ones. Answers FANRING_DONE; or refused 5, 6, 13. */
 uint64_t fanring_pause(
     uint64_t *table, size_t table_len, const uint64_t *rings, size_t rings_len,

@@ -10,7 +10,7 @@ impl Channel {
     /// Releases the places of items already taken from the lane, so that its sender can fill the whole ring. Repeated
     /// pauses are harmless.
     ///
-    /// While no sender lives and a paused lane has items, an untargeted receive that has no item answers
+    /// While no sender lives and a paused lane has items, an untargeted receive that finds no item answers
     /// [`Empty`](crate::TryRecvError::Empty) and not `Disconnected`, until that lane is resumed, closed or emptied by
     /// targeted ones.
     ///

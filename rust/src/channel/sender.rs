@@ -154,7 +154,7 @@ impl Channel {
 
     /// Drop a sender. If its lane is not closed, items already sent can still be received, and the lane counts as
     /// registered until a receive finds it empty, and it retires. If it is paused, only a targeted receive finds it
-    /// empty before it is resumed; but with no living sender left, untargeted receives that have no item retire empty
+    /// empty before it is resumed; but with no living sender left, untargeted receives that find no item retire empty
     /// paused lanes too. A closed lane is gone already, and its slot may now be taken again.
     ///
     /// If the receiver sleeps, wake it, as fanring does: the sender may have been the last. An untargeted receive that
