@@ -341,6 +341,64 @@ fn the_other_lanes_wait_until_the_item_is_gone() {
     }
 }
 
+/// Calls that neither take the item of the first lane nor pause or close that lane, and whether they are taken. The third
+/// lane is paused.
+const BETWEEN: [fn(&mut Channel, &[LaneKey]) -> bool; 14] = [
+    |channel, keys| channel.try_send(keys[0], 1).is_ok(),
+    |channel, keys| channel.try_send(keys[1], 2).is_ok(),
+    |channel, keys| channel.try_send_unsignaled(keys[1], 3).is_ok(),
+    |channel, _| channel.register_sender(4).is_ok(),
+    |channel, keys| channel.drop_sender(keys[0]).is_ok(),
+    |channel, keys| channel.drop_sender(keys[1]).is_ok(),
+    |channel, keys| channel.try_recv_from(&channel.lane(keys[1])).is_ok(),
+    |channel, keys| channel.pause(&channel.lane(keys[1])).is_ok(),
+    |channel, keys| channel.resume(&channel.lane(keys[2])).is_ok(),
+    |channel, keys| channel.resume(&channel.lane(keys[0])).is_ok(),
+    |channel, keys| channel.close_lane(&channel.lane(keys[1])).is_ok(),
+    |channel, _| channel.release_consumed().is_ok(),
+    |channel, _| channel.poll_all_lanes().is_ok(),
+    |channel, _| channel.try_recv_batch_into(&mut Vec::new(), 0).is_ok(),
+];
+
+#[test]
+fn calls_between_leave_the_item_in_front() {
+    for one in BETWEEN {
+        for two in BETWEEN {
+            for fair in [false, true] {
+                let (mut channel, keys) = with_senders(4, 4, 3);
+                let lane = channel.lane(keys[0]);
+                channel.pause(&channel.lane(keys[2])).unwrap();
+                for (key, item) in [(0, 5), (0, 9), (1, 4), (2, 3)] {
+                    channel.try_send(keys[key], item).unwrap();
+                }
+                assert_eq!(batch_while(&mut channel, 5), (Ok(Batch { count: 1, stopped: true }), vec![5]));
+                // The second may be refused, as by a sender that the first has dropped.
+                assert!(one(&mut channel, &keys));
+                two(&mut channel, &keys);
+                assert_eq!(batch_while(&mut channel, 5), (STOPPED_AT_ZERO, vec![]));
+                let received = if fair { channel.try_recv_fair() } else { channel.try_recv() };
+                assert_eq!(received, Ok((lane, 9)));
+            }
+        }
+    }
+}
+
+#[test]
+fn a_lane_in_which_a_batch_stopped_may_be_idle() {
+    // Sent without a signal, and found by poll_all_lanes: the next send still finds the signal idle.
+    for ordinary in [false, true] {
+        let (mut channel, keys) = with_senders(4, 1, 1);
+        if ordinary {
+            channel.try_send(keys[0], 9).unwrap();
+        } else {
+            channel.try_send_unsignaled(keys[0], 9).unwrap();
+            channel.poll_all_lanes().unwrap();
+        }
+        assert_eq!(batch_while(&mut channel, 5), (STOPPED_AT_ZERO, vec![]));
+        assert_eq!(channel.try_send(keys[0], 1), Ok(Taken { woken: !ordinary, free: 2 }));
+    }
+}
+
 #[test]
 fn a_stop_at_count_0_is_neither_empty_nor_disconnected() {
     // Before a registration there is no item to stop at.
