@@ -98,7 +98,8 @@
 //! one with which the library does and answers the same. Of the library's calls the repository proves, among other things, by
 //! the names in its docs/CLAIMS.md:
 //!
-//! - each call does what the rules of document 01, the customer's scope paper, say (`call-alike`, `calls-as-rules`);
+//! - each call does what the rules of document 01, the customer's scope paper, and of the changes asked for since say
+//!   (`call-alike`, `calls-as-rules`);
 //! - a refusal changes nothing (`refusals-change-nothing`);
 //! - the items handed out of a lane that was never closed, and then those in its ring, are its accepted sends, in
 //!   order (`items-in-order`);
@@ -106,6 +107,9 @@
 //!   number of other lanes' items (`lanes-wait-bounded`);
 //! - an accepted send says how many further sends its lane takes with no other call between (`free-places-said`), and
 //!   whatever calls come between, none is refused as full before so many more were accepted (`not-full-before`);
+//! - a batch with a bound stops exactly if some item that it would hand out without one is above it, in front of the
+//!   first such item and below its limit, at count 0 too (`stops-exactly`, `stopped-in-front`, `stop-at-zero`), and a
+//!   plain receive right after it hands out an item above the bound (`next-is-above`);
 //! - a registration takes the most recently freed slot without a living older sender, else the next unused one; the
 //!   other free slots keep their places (`takes-first-clear`, `takes-next-unused`, `freed-on-top`); and it is refused as
 //!   `NoFreeSlot` or `OlderSenderLives` exactly as the table below says, where 6 and 7 do not apply (`eight-exactly`,
