@@ -26,7 +26,7 @@ struct answer {
 };
 /* what a process and its child share */
 struct shared {
-    uint64_t random, kinds[9], latest[SLOTS]; /* answers of each tag; the latest generation of each slot */
+    uint64_t random, kinds[FANRING_STOPPED + 1], latest[SLOTS]; /* answers of each tag; the latest generation of each slot */
 };
 static struct shared *shared;
 
@@ -63,7 +63,7 @@ static uint64_t below(uint64_t bound) {
 #define S s.table, TABLE, s.rings, RINGS
 #define BOTH(call) (inner ? fanring_inner_##call : fanring_##call)
 
-/* A call by five numbers: which, whether inner, slot, generation, item or limit. */
+/* A call by five numbers: which, whether inner, slot, generation, item or limit; the last is the bound too. */
 static struct answer call(struct stores s, const uint64_t n[5]) {
     struct answer a = {0};
     uint64_t inner = n[1], slot = n[2], generation = n[3], number = n[4];
@@ -78,7 +78,8 @@ static struct answer call(struct stores s, const uint64_t n[5]) {
     case 12: case 13: case 14: a.tag = BOTH(try_recv)(S, a.words); break;
     case 15: case 16: case 17: a.tag = BOTH(try_recv_fair)(S, a.words); break;
     case 18: case 19: a.tag = BOTH(try_recv_from)(S, CHANNEL, slot, generation, OPENING, a.words); break;
-    case 20: case 21: a.tag = BOTH(try_recv_batch_into)(S, a.out, OUT, number % (OUT + 2), a.words); break;
+    case 20: a.tag = BOTH(try_recv_batch_into)(S, a.out, OUT, number % (OUT + 2), a.words); break;
+    case 21: a.tag = BOTH(try_recv_batch_into_while)(S, a.out, OUT, number % (OUT + 2), number, a.words); break;
     case 22: a.tag = BOTH(pause)(S, CHANNEL, slot, generation, OPENING, a.words); break;
     case 23: case 24: a.tag = BOTH(resume)(S, CHANNEL, slot, generation, OPENING, a.words); break;
     case 25: if (number % 4 == 0) a.tag = BOTH(close_lane)(S, CHANNEL, slot, generation, OPENING, a.words); break;
@@ -165,7 +166,7 @@ int main(int count, char **names) {
         moves = i % 3 == 0 ? copied(moves) : saved(moves, names[1], i % 3 == 1);
     }
     unlink(names[1]);
-    for (int tag = 0; tag < 9; tag++)
+    for (int tag = 0; tag <= FANRING_STOPPED; tag++)
         if (shared->kinds[tag] < 20) {
             printf("only %" PRIu64 " answers with tag %d\n", shared->kinds[tag], tag);
             same = 0;
