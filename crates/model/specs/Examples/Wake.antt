@@ -209,6 +209,7 @@ woken-read :
     ∷ (drops 0 ∷ plain ∷ registers ∷ Sender (TrySend (key 0 1) 5) ∷ [], Taken true 1)
     -- a batch of one item less than its limit
     ∷ (sends 0 ∷ batch 2 ∷ sends 0 ∷ [], Taken true 1)
+    ∷ (sends 0 ∷ batchWhile 2 ∷ sends 0 ∷ [], Taken true 1)
     ∷ (registers ∷ sends 0 ∷ sends 1 ∷ batch 3 ∷ sends 1 ∷ [], Taken true 1)
     -- while it sleeps: an unsignalled send, a refused one, a drop, held, a send to a paused lane
     ∷ (plain ∷ unsignalled 0 ∷ sends 0 ∷ [], Taken true 0)
@@ -228,12 +229,13 @@ woken-read = refl
 -- where a word less were asked for, the next send to the lane need not wake
 unwoken-read :
     Reads answered
-    -- no look at all; a single item; a batch that reached its limit; one of limit 0; a targeted receive that answered Empty
+    -- no look at all; a single item; a batch that reached its limit; one of limit 0; one that stopped; a targeted receive that answered Empty
     ((sends 0 ∷ sends 0 ∷ [], Taken false 0)
     ∷ (sends 0 ∷ plain ∷ sends 0 ∷ [], Taken false 0)
     ∷ (sends 0 ∷ fair ∷ sends 0 ∷ [], Taken false 0)
     ∷ (sends 0 ∷ batch 1 ∷ sends 0 ∷ [], Taken false 1)
     ∷ (sends 0 ∷ batch 0 ∷ sends 0 ∷ [], Taken false 0)
+    ∷ (sends 0 ∷ Receive (TryRecvBatchIntoWhile 3 4 9) ∷ sends 0 ∷ [], Taken false 0)
     ∷ (registers ∷ sends 0 ∷ targeted 1 ∷ sends 0 ∷ [], Taken false 0)
     -- the second send; a send to a paused lane; one after another call of the receiver
     ∷ (plain ∷ sends 0 ∷ sends 0 ∷ [], Taken false 0)
