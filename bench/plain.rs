@@ -58,6 +58,8 @@ pub struct Plain {
     slots: usize,
     channel: u64,
     release_batch: usize,
+    /// The last batch stopped in front of an item above its bound.
+    stopped: bool,
     lanes: Vec<Lane>,
     /// The lanes that take turns, by slot.
     queue: VecDeque<usize>,
@@ -81,6 +83,7 @@ impl Plain {
             slots,
             channel: CHANNEL,
             release_batch: capacity.div_ceil(2).max(64).min(capacity),
+            stopped: false,
             lanes: Vec::new(),
             queue: VecDeque::new(),
             free: Vec::new(),
@@ -258,17 +261,26 @@ impl Plain {
         if self.drained() { Received::Disconnected } else { Received::Empty }
     }
 
-    /// Moves items to the output, up to the first that is not admitted; their number, and whether it stopped there.
-    fn drain(&mut self, limit: usize, admits: impl Fn(u64) -> bool) -> (usize, bool) {
+    /// Moves items to the output, up to the first above the bound where that counts; their number. Whether it stopped is left in `stopped`.
+    fn drain<const BOUNDED: bool>(&mut self, limit: usize, bound: u64) -> usize {
         let mut count = 0;
         while count < limit {
             let Some(slot) = self.turn() else { break };
             let budget = if self.budget == 0 { BUDGET } else { self.budget };
             let lane = &mut self.lanes[slot];
             let bounds = [limit - count, budget, BURST - lane.burst, self.release_batch - lane.unreleased];
-            let most = bounds.into_iter().fold(lane.ring.len(), usize::min);
-            let take = lane.ring.iter().take(most).position(|item| !admits(*item)).unwrap_or(most);
-            self.output.extend(lane.ring.drain(..take));
+            let mut take = bounds.into_iter().fold(lane.ring.len(), usize::min);
+            if BOUNDED {
+                let admitted = lane.ring.iter().take(take).position(|item| *item > bound);
+                self.stopped = admitted.is_some();
+                take = admitted.unwrap_or(take);
+                // One by one: a second caller of what moves many would make it slow for both.
+                for _ in 0..take {
+                    self.output.extend(lane.ring.pop_front());
+                }
+            } else {
+                self.output.extend(lane.ring.drain(..take));
+            }
             lane.count(take, self.release_batch);
             lane.burst += take;
             if lane.burst == BURST {
@@ -277,18 +289,19 @@ impl Plain {
             }
             self.spend(take);
             count += take;
-            if take < most {
-                return (count, true);
+            if BOUNDED && self.stopped {
+                break;
             }
         }
-        (count, false)
+        count
     }
 
-    fn batch(&mut self, limit: usize, admits: impl Fn(u64) -> bool) -> Batch {
+    fn batch<const BOUNDED: bool>(&mut self, limit: usize, bound: u64) -> Batch {
         self.output.clear();
-        let (count, stopped) = self.drain(limit, admits);
+        self.stopped = false;
+        let count = self.drain::<BOUNDED>(limit, bound);
         self.release_consumed();
-        if stopped {
+        if BOUNDED && self.stopped {
             Batch::Stopped(count)
         } else if count != 0 || limit == 0 {
             Batch::Items(count)
@@ -396,12 +409,12 @@ impl Side for Plain {
 
     #[inline(never)]
     fn try_recv_batch_into(&mut self, limit: usize) -> Batch {
-        self.batch(limit, |_| true)
+        self.batch::<false>(limit, 0)
     }
 
     #[inline(never)]
     fn try_recv_batch_into_while(&mut self, limit: usize, bound: u64) -> Batch {
-        self.batch(limit, |item| item <= bound)
+        self.batch::<true>(limit, bound)
     }
 
     fn items(&self) -> &[u64] {
