@@ -4,7 +4,7 @@
    - The receiver sleeps only where fanring.h says that it may: after a batch of fewer items than its limit. Sends that answer woken 1 wake it.
    - Where a ring is full (refusal 11), the headbox keeps samples back, and tries again once a batch has given credit back. None is lost by that.
    - Headbox 1 is unplugged at midnight: its lane is closed, with the samples in it, but its driver holds the sender for some hours more. That slot is passed
-     over meanwhile, so there is one slot more than headboxes: plugged in again, headbox 1 has a lane in that one.
+     over meanwhile, so there is one slot more than headboxes: plugged in again, headbox 1 has a lane in another one.
    - At the end of the night each headbox drops its sender, and the receiver goes on until Disconnected.
 
    In the end the books have to agree: of each headbox, the samples sent are those received and those lost by the close. */
@@ -187,7 +187,7 @@ int main(void) {
         pthread_join(headboxes[i].thread, NULL);
     pthread_join(receiver, NULL);
 
-    int agree = held() == 0 && headboxes[UNPLUGGED].slot == HEADBOXES;
+    int agree = held() == 0 && headboxes[UNPLUGGED].slot != headboxes[UNPLUGGED].old_slot;
     for (int i = 0; i < HEADBOXES; i++) {
         const struct headbox *h = &headboxes[i];
         printf("headbox %d: sent %" PRIu64 ", received %" PRIu64 ", lost by close %" PRIu64 ", ring full %" PRIu64 " times\n",

@@ -7,7 +7,7 @@
 //!   lost by that.
 //! - Headbox 1 is unplugged at midnight: its lane is closed, with the samples in it, but its driver holds the sender for
 //!   some hours more. That slot is passed over meanwhile, so there is one slot more than headboxes: plugged in again,
-//!   headbox 1 has a lane in that one.
+//!   headbox 1 has a lane in another one.
 //! - At the end of the night each headbox drops its sender, and the receiver goes on until `Disconnected`.
 //!
 //! In the end the books have to agree: of each headbox, the samples sent are those received and those lost by the close.
@@ -116,7 +116,7 @@ impl Recorder {
             let plugged = *key.get_or_insert_with(|| {
                 full_at = None;
                 let key = shared.channel.register_sender(HEADBOXES).unwrap();
-                assert_eq!(key, LaneKey { slot: HEADBOXES as u64, generation: 0 });
+                assert_ne!(Some(key.slot), old.map(|old: LaneKey| old.slot), "the old sender lives");
                 key
             });
             // The ring is full, and no more samples can be kept back, or none are to come: wait until places are free.
