@@ -3,31 +3,27 @@
 use mathlib.Core.Path.{_≡_, refl, sym, ap, _∙_}
 use mathlib.Core.Bool.{Bool, true, false, _&&_}
 use mathlib.Core.List.{List}
-use Prim.Native.Nat.{ℕ, suc, _+_, _*_, _-_, _^_, _≤_, _<_}
+use Prim.Native.Nat.{ℕ, suc, _+_, _-_, _≤_, _<_}
 use native.Mathlib.Omega.{arith}
 use borrow.Author.Tests.{eqb-true, eqb-false, eq-eqb}
 use lib.Dec.{eqb, ltb}
 use lib.ListN.{length}
 use Rattle.lane.specs.declared.lane.Lane.{Lane}
-use Rattle.yring.specs.Cursor.{distance}
 use Rattle.lane.specs.declared.lane.Released.{Released}
 use Rattle.lane.specs.Lane.{closeFast, release, releaseAny, releasePending}
 use Rattle.lane.specs.Order.{Refundable}
-use Rattle.lane.specs.Order as Lanes
 use Rattle.lane.specs.Table.{headerWords, head, laneAt, putLane}
 use Rattle.lane.proofs.AtHandLaws.{close-closed}
-use Rattle.lane.proofs.CursorOrder.{span-adds, held-adds}
 use Rattle.lane.proofs.OrderLaws.{cond-holds}
 use Rattle.lane.proofs.TableLaws.{frames, load-store-same, slot-of-lane, other-lane-kept}
 use Rattle.demands.proofs.Counting.{no}
-use Rattle.queues.specs.Header.{Shaped, issued, capacity}
+use Rattle.queues.specs.Header.{Shaped, issued}
 use Rattle.queues.specs.Queue.{QueueNames}
 use Rattle.ready.specs.Ready.{enqueue}
 use Rattle.queues.proofs.QueueLaws.{shaped-putLane}
 use Rattle.ready.proofs.CollectLaws.{Kept, kept-self, kept-then}
 use Rattle.ready.proofs.OfferLaws.{Wants}
-use Rattle.store.specs.Order.{StoreInOrder}
-use Rattle.all_lanes.specs.AllLanes.{forSlots, AllRefundable, releaseSlot, releaseAll, mayQueue, pollSlot, pollSlots, heldIn, heldFrom}
+use Rattle.all_lanes.specs.AllLanes.{forSlots, AllRefundable, releaseSlot, releaseAll, mayQueue, pollSlot, pollSlots}
 use Rattle.store.proofs.EnqueueLaws.{kept-enqueued}
 
 -- one slot, then the rest
@@ -165,58 +161,3 @@ polling-next t₀ t slot k h u e =
 
 pub polling-end : (t₀ t : List ℕ) (slot : ℕ) → Polling t₀ t slot → issued t₀ ≤ slot → t ≡ pollSlots t₀
 polling-end t₀ t slot k n = sym (slots-end pollSlot (issued t₀) slot t n) ∙ k .rest
-
--- ---- held
-
--- the items of a ring are at most C
-held-most : (t r : List ℕ) → StoreInOrder t r → (x : ℕ) → x < issued t → heldIn (laneAt t x) ≤ 65536
-unfolding heldIn
-held-most t r o x h =
-    cond-holds (λ n. n ≤ 65536) (eqb (laneAt t x .registered) 1) (distance (laneAt t x .tail) (laneAt t x .head)) 0
-    (λ e. most (o .stores .lanes x h (eqb-true (laneAt t x .registered) 1 e))) (λ e. omega arith)
-  where
-    most : Lanes.InOrder (capacity t) (laneAt t x) → distance (laneAt t x .tail) (laneAt t x .head) ≤ 65536
-    most k =
-        let l = laneAt t x in
-        let C = o .stores .power .most in
-        omega (
-          arith,
-          C,
-          k .cursors .tail-within,
-          span-adds (capacity t) (l .tail) (l .released) (l .head) (l .known) C (k .cursors),
-          held-adds (capacity t) (l .tail) (l .released) (l .head) (l .known) C (k .cursors),
-        )
-
-pub record Counting (t : List ℕ) (n slot : ℕ) : Type 0 where
-  pub below : slot ≤ issued t
-  pub most : n ≤ 65536 * slot
-  pub rest : n + heldFrom t (issued t - slot) slot ≡ heldFrom t (issued t) 0
-
-pub counting-start : (t : List ℕ) → Counting t 0 0
-counting-start t = record { below = omega arith; most = omega arith; rest = rw (sub-zero (issued t)) (omega arith) }
-
--- the sum does not overflow: at most 8,192 lanes of 65,536 items
-pub counting-fits : (t r : List ℕ) → StoreInOrder t r → (n slot : ℕ) → Counting t n slot → slot < issued t → n + heldIn (laneAt t slot) < 2 ^ 64
-counting-fits t r o n slot k h =
-    omega (arith, k .most, held-most t r o slot h, o .stores .shaped .issued-most, o .stores .shaped .slots-most)
-
-held-next : (t : List ℕ) (n x : ℕ) → x < n → heldFrom t (n - x) x ≡ heldIn (laneAt t x) + heldFrom t (n - (x + 1)) (x + 1)
-unfolding heldFrom
-held-next t n x h = rw (one-more n x h)
-
-held-end : (t : List ℕ) (n x : ℕ) → n ≤ x → heldFrom t (n - x) x ≡ 0
-unfolding heldFrom
-held-end t n x h = rw (none-left n x h)
-
-pub counting-next : (t r : List ℕ) → StoreInOrder t r → (n slot : ℕ) → Counting t n slot → slot < issued t → (m : ℕ) → m ≡ heldIn (laneAt t slot)
-    → Counting t (n + m) (slot + 1)
-counting-next t r o n slot k h m e =
-    rw e
-    (record {
-      below = omega arith;
-      most = omega (arith, k .most, held-most t r o slot h);
-      rest = omega (arith, k .rest, held-next t (issued t) slot h);
-    })
-
-pub counting-end : (t : List ℕ) (n slot : ℕ) → Counting t n slot → issued t ≤ slot → n ≡ heldFrom t (issued t) 0
-counting-end t n slot k h = omega (arith, k .rest, held-end t (issued t) slot h)

@@ -1,17 +1,17 @@
--- Release consumed, poll all lanes and held: what is done for every issued slot, as words.
+-- Release consumed and poll all lanes: what is done for every issued slot, as words. And held.
 -- Assumes nothing.
 use mathlib.Core.Path.{_≡_}
-use mathlib.Core.Bool.{Bool, true, false, cond, _&&_}
+use mathlib.Core.Bool.{Bool, cond, _&&_}
 use mathlib.Core.List.{List}
-use Prim.Native.Nat.{ℕ, zero, suc, _+_, _<_}
+use Prim.Native.Nat.{ℕ, zero, suc, _+_, _≤_, _<_}
 use lib.Dec.{eqb}
+use lib.ListN.{length}
 use Rattle.model.specs.declared.Answer.the-variants.{Done, Held}
 use Rattle.lane.specs.declared.lane.Lane.{Lane}
-use Rattle.yring.specs.Cursor.{distance}
 use Rattle.lane.specs.Lane.{releasePending}
 use Rattle.lane.specs.Order.{Refundable}
-use Rattle.lane.specs.Table.{laneAt, putLane}
-use Rattle.queues.specs.Header.{issued}
+use Rattle.lane.specs.Table.{headerWords, laneAt, putLane}
+use Rattle.queues.specs.Header.{issued, heldCount}
 use Rattle.ready.specs.Ready.{enqueue}
 use Rattle.store.specs.Refusal.{receiverVerdict}
 use Rattle.store.specs.Words.{Words, unlessRefused}
@@ -49,13 +49,10 @@ pollSlots t = forSlots pollSlot (issued t) 0 t
 unfoldable pub pollAllLanes : List ℕ → List ℕ → Words
 pollAllLanes t r = unlessRefused (receiverVerdict t) t r (Done, pollSlots t, r)
 
--- "the number of items in rings of registered lanes, paused ones too"
-unfoldable pub heldIn : Lane → ℕ
-heldIn l = cond (eqb (l .registered) 1) (distance (l .tail) (l .head)) 0
+-- what held asks of the table: that the header's words are there. So it answers the word where that is untrue too, to which no walk comes.
+abbrev pub HasHeader : List ℕ → Type 0
+HasHeader t = headerWords ≤ length t
 
-unfoldable pub heldFrom : List ℕ → ℕ → ℕ → ℕ
-heldFrom t zero x = 0
-heldFrom t (suc n) x = heldIn (laneAt t x) + heldFrom t n (x + 1)
-
+-- document 02, N6: "the inner held call only reads it"
 unfoldable pub countHeld : List ℕ → List ℕ → Words
-countHeld t r = (Held (heldFrom t (issued t) 0), t, r)
+countHeld t r = (Held (heldCount t), t, r)

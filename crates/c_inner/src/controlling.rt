@@ -3,6 +3,7 @@ ghost use mathlib.Core.Path.{_≡_};
 ghost use Rattle.store.specs.Order.{StoreInOrder};
 ghost use Rattle.model.specs.declared.ControlCall.the-variants.{CloseLane, CloseReceiver, CountHeld, Pause, PollAllLanes, ReleaseConsumed, Resume};
 ghost use Rattle.model.specs.declared.Call.the-variants.{Control};
+ghost use Rattle.all_lanes.specs.AllLanes.{HasHeader};
 ghost use Rattle.refinement.specs.Runs.{callWords};
 ghost use Rattle.c_answer.specs.Answer.{told};
 ghost use Rattle.c_answer.specs.Numbers.{laneId};
@@ -147,10 +148,10 @@ pub extern "C" fn fanring_inner_close_receiver(
     answer::tell(done, words)
 }
 
-// The number of items in rings of registered lanes.
+// The number of items in rings of registered lanes: one word of the table is read. On stores that are not in order it is that word all the same.
 #[no_mangle]
 pub extern "C" fn fanring_inner_held(table: &[u64], rings: &[u64], words: &mut [u64; 8]) -> u64
-    requires { ⌜ StoreInOrder (now table) (now rings) ⌝ }
+    requires { ⌜ HasHeader (now table) ⌝ }
     ensures { λ a. ⌜ (a, now (words .exit), now (table .entry), now (rings .entry)) ≡ told (now (words .entry)) (callWords (now (table .entry)) (now (rings .entry)) (Control CountHeld)) ⌝ }
 {
     let done = all_lanes::all_lanes::held(table, rings);

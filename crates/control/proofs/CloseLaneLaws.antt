@@ -24,12 +24,13 @@ use Rattle.store.specs.Order.{Stores, StoreInOrder}
 use Rattle.store.specs.Refusal.{idVerdict}
 use Rattle.store.specs.Registry.{retired, retireLane}
 use Rattle.control.specs.Control.{close, closeLane}
-use Rattle.store.proofs.ViewLaws.{view-removed}
+use Rattle.store.proofs.ViewLaws.{view-removed, view-held-count}
 use Rattle.store.proofs.RefusalLaws.{seen, id-verdict, id-passes, refused-alike, unless-refused-case}
 use Rattle.store.proofs.HeaderWords.{withWord}
 use Rattle.store.proofs.StepLaws.{Step, step-start, step-removed}
 use Rattle.store.proofs.StoreLaws.{lane-counted, room-in-free, Owes, stores-after, windows-without}
 use Rattle.store.proofs.RetireLaws.{view-retire-lane, step-retire-lane}
+use Rattle.store.proofs.HeldLaws.{stores-held-count}
 
 module _ (t r : List ℕ) (o : StoreInOrder t r) (x : ℕ) (h : x < issued t) (g : laneAt t x .registered ≡ 1) where
   abbrev old : Lane
@@ -38,27 +39,30 @@ module _ (t r : List ℕ) (o : StoreInOrder t r) (x : ℕ) (h : x < issued t) (g
   abbrev out : List ℕ
   out = remove t x
 
-  closed-is : close t old ≡ retireLane out (laneAt out x)
-  unfolding close
-  closed-is = ap (λ (y : ℕ). retireLane (remove t y) old) (slot-of-lane t x) ∙ ap (retireLane out) (sym (lane-removed t x x))
+  -- before its items are taken off the held count
+  abbrev gone : List ℕ
+  gone = retireLane (remove t (old .key .slot)) old
+
+  gone-is : gone ≡ retireLane out (laneAt out x)
+  gone-is = ap (λ (y : ℕ). retireLane (remove t y) old) (slot-of-lane t x) ∙ ap (retireLane out) (sym (lane-removed t x x))
 
   out-room : freeCount out < slots out
   out-room = simp queue-frames (room-in-free t r (o .stores) x h g (o .ordered))
 
-  view-closed : view (close t old) r ≡ turns.retireLane x (withQueue (lists.without x (view t r .queue)) (view t r))
-  view-closed =
-      ap (λ (u : List ℕ). view u r) closed-is
+  view-gone : view gone r ≡ turns.retireLane x (withQueue (lists.without x (view t r .queue)) (view t r))
+  view-gone =
+      ap (λ (u : List ℕ). view u r) gone-is
       ∙ view-retire-lane out r (shaped-removed t (o .stores .shaped) x) x (simp queue-frames h) out-room
       ∙ ap (turns.retireLane x) (view-removed t r (o .stores .shaped) x)
 
-  step-closed : Step t (close t old) x (retired old) (lists.without x (queueOf t)) (withWord laneCount (laneCount out - 1) (head t))
-  step-closed =
+  step-gone : Step t gone x (retired old) (lists.without x (queueOf t)) (withWord laneCount (laneCount out - 1) (head t))
+  step-gone =
       subst (λ (u : List ℕ). Step t u x (retired old) (lists.without x (queueOf t)) (withWord laneCount (laneCount out - 1) (head t)))
-      (sym (closed-is ∙ ap (retireLane out) (lane-removed t x x)))
+      (sym (gone-is ∙ ap (retireLane out) (lane-removed t x x)))
       (step-retire-lane (step-removed (step-start t r (o .stores) x) x) old (slot-of-lane t x) h out-room)
 
-  owes-closed : Owes t x (retired old) (lists.without x (queueOf t)) (withWord laneCount (laneCount out - 1) (head t))
-  owes-closed =
+  owes-gone : Owes t x (retired old) (lists.without x (queueOf t)) (withWord laneCount (laneCount out - 1) (head t))
+  owes-gone =
       let f = o .stores .flags x h in
       record {
         flags = record {
@@ -79,8 +83,16 @@ module _ (t r : List ℕ) (o : StoreInOrder t r) (x : ℕ) (h : x < issued t) (g
         living-count = refl;
       }
 
+  stores-gone : Stores gone r
+  stores-gone = stores-after t r gone r (o .stores) x h (retired old) _ _ step-gone owes-gone (o .stores .rings-room)
+
+  view-closed : view (close t old) r ≡ turns.retireLane x (withQueue (lists.without x (view t r .queue)) (view t r))
+  unfolding close
+  view-closed = view-held-count gone r (stores-gone .shaped) _ ∙ view-gone
+
   stores-closed : Stores (close t old) r
-  stores-closed = stores-after t r (close t old) r (o .stores) x h (retired old) _ _ step-closed owes-closed (o .stores .rings-room)
+  unfolding close
+  stores-closed = stores-held-count gone r _ stores-gone
 
 pub close-lane-alike : (t r : List ℕ) (i : LaneId) → StoreInOrder t r → seen (closeLane t r i) ≡ (rules.closeLane (view t r) i) .1
 unfolding closeLane rules.closeLane

@@ -1,4 +1,4 @@
--- Every control call, held too: its words are what the rules say, and it leaves a store in order.
+-- Every control call, held too: its words are what the rules say, and it leaves `Stores`.
 -- Assumes nothing.
 use mathlib.Core.Path.{_≡_}
 use mathlib.Core.List.{List}
@@ -12,7 +12,6 @@ use Rattle.store.specs.View.{view}
 use Rattle.store.specs.Order.{Stores, StoreInOrder}
 use Rattle.control.specs.Calls.{controlWords}
 use Rattle.store.proofs.RefusalLaws.{seen}
-use Rattle.store.proofs.StoreLaws.{store-in-order-after}
 use Rattle.control.proofs.PauseLaws.{pause-alike, pause-keeps}
 use Rattle.control.proofs.ResumeLaws.{resume-alike, resume-keeps}
 use Rattle.control.proofs.CloseLaneLaws.{close-lane-alike, close-lane-keeps}
@@ -29,7 +28,7 @@ control-alike t r (CloseLane i) o = close-lane-alike t r i o
 control-alike t r ReleaseConsumed o = release-consumed-alike t r o
 control-alike t r PollAllLanes o = poll-all-lanes-alike t r o
 control-alike t r CloseReceiver o = close-receiver-alike t r o
-control-alike t r CountHeld o = count-held-alike t r
+control-alike t r CountHeld o = count-held-alike t r o
 
 pub control-keeps : (t r : List ℕ) (c : ControlCall) → StoreInOrder t r → Stores ((controlWords t r c) .1) ((controlWords t r c) .2)
 unfolding controlWords
@@ -40,6 +39,3 @@ control-keeps t r ReleaseConsumed o = release-consumed-keeps t r o
 control-keeps t r PollAllLanes o = poll-all-lanes-keeps t r o
 control-keeps t r CloseReceiver o = close-receiver-keeps t r o
 control-keeps t r CountHeld o = count-held-keeps t r o
-
-pub control-in-order : (t r : List ℕ) (c : ControlCall) → StoreInOrder t r → StoreInOrder ((controlWords t r c) .1) ((controlWords t r c) .2)
-control-in-order t r c o = store-in-order-after t r (Control c) (controlWords t r c) o (control-alike t r c o) (control-keeps t r c o)

@@ -2,14 +2,15 @@
 -- Assumes nothing.
 use mathlib.Core.Bool.{cond}
 use mathlib.Core.List.{List}
-use Prim.Native.Nat.{ℕ, _+_}
+use Prim.Native.Nat.{ℕ}
 use lib.Dec.{eqb}
 use Rattle.model.specs.declared.LaneId.{LaneId}
 use Rattle.model.specs.declared.Answer.the-variants.{Done}
 use Rattle.lane.specs.declared.lane.Lane.{Lane}
+use Rattle.yring.specs.Cursor.{distance}
 use Rattle.lane.specs.Lane.{withFlags, releasePending}
 use Rattle.lane.specs.Table.{laneAt, putLane}
-use Rattle.queues.specs.Header.{setAlive}
+use Rattle.queues.specs.Header.{setAlive, heldLess}
 use Rattle.queues.specs.Queue.{pushBack, remove}
 use Rattle.store.specs.Refusal.{receiverVerdict, idVerdict}
 use Rattle.store.specs.Words.{Words, unlessRefused}
@@ -37,8 +38,9 @@ resumeLane t l = cond (eqb (l .paused) 1) (pushBack (markIfIdle (putLane t (with
 unfoldable pub resume : List ℕ → List ℕ → LaneId → Words
 resume t r i = unlessRefused (idVerdict t i) t r (Done, resumeLane t (laneAt t (i .key .slot)), r)
 
+-- The lane is registered, so that its ring is what the walk counts of it: store, specs/Held.antt (`heldIn`). Its items are held no more.
 unfoldable pub close : List ℕ → Lane → List ℕ
-close t l = retireLane (remove t (l .key .slot)) l
+close t l = heldLess (retireLane (remove t (l .key .slot)) l) (distance (l .tail) (l .head))
 
 unfoldable pub closeLane : List ℕ → List ℕ → LaneId → Words
 closeLane t r i = unlessRefused (idVerdict t i) t r (Done, close t (laneAt t (i .key .slot)), r)

@@ -14,6 +14,7 @@ use store::refusal;
 use store::refusal::Verdict;
 use store::registry;
 use store::signal;
+use yring::ring;
 
 pub fn with_turn(mut l: Lane, pending: u64, queued: u64, paused: u64) -> Lane
     ensures { λ r. ⌜ r ≡ withTurn pending queued paused l ⌝ }
@@ -77,13 +78,14 @@ pub fn resume(t: &mut [u64], r: &[u64], id: LaneId) -> Answer
     }
 }
 
-// Out of the queue, and retired.
+// Out of the queue, and retired; the items of its ring are held no more.
 fn close(t: &mut [u64], l: Lane)
     requires { ⌜ Shaped (now t) × (l .key .slot < slots (now t)) × (freeCount (now t) < slots (now t)) × (0 < laneCount (now t)) ⌝ }
     ensures { λ _. ⌜ now (t .exit) ≡ close (now (t .entry)) l ⌝ }
 {
     queue::remove(t, l.key.slot);
     registry::retire_lane(t, l);
+    Header::held_less(t, ring::distance(l.tail, l.head));
 }
 
 // Retires a lane, with the items that it holds.

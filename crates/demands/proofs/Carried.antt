@@ -1,18 +1,19 @@
 -- What is proved of the rules' runs and calls holds of all calls W that simulate them: those on 64, the budget, Disconnected, refusal 13, signals, where the
--- receives end, and where a batch stops.
+-- receives end, where a batch stops, and what a call does to the held count.
 -- Assumes nothing.
 use mathlib.Core.Path.{_≡_, sym, ap, _∙_, subst}
-use mathlib.Core.Logic.{_≢_, _⊎_, inl, inr}
+use mathlib.Core.Logic.{_⊎_, inl, inr}
 use mathlib.Core.Bool.{true}
 use mathlib.Core.List.{List, [], map}
-use Prim.Native.Nat.{ℕ, _≤_}
+use Prim.Native.Nat.{ℕ}
 use lib.ListN.{length}
 use Rattle.model.specs.declared.LaneKey.{LaneKey}
 use Rattle.model.specs.declared.ReceiveCall.{ReceiveCall}
 use Rattle.model.specs.declared.ReceiveCall.the-variants.{TryRecvFrom, TryRecvBatchInto, TryRecvBatchIntoWhile}
 use Rattle.model.specs.declared.SenderCall.the-variants.{RegisterSender}
+use Rattle.model.specs.declared.ControlCall.the-variants.{CountHeld}
 use Rattle.model.specs.declared.Call.{Call}
-use Rattle.model.specs.declared.Call.the-variants.{Sender, Receive}
+use Rattle.model.specs.declared.Call.the-variants.{Sender, Receive, Control}
 use Rattle.model.specs.declared.Answer.{Answer}
 use Rattle.model.specs.Lists.{if}
 use Rattle.model.specs.State.{State, keyOf}
@@ -32,6 +33,7 @@ use Rattle.model.specs.PollLoop.{NothingLeft}
 use Rattle.model.specs.ReceivesEnd.{itemsAsked, EndsWithNothingLeft}
 use Rattle.model.specs.Stretch.{saysStopped}
 use Rattle.model.specs.Stops.{StopsInFront, StoppedInFront, StopsExactly, StopAtZero, OnlyBoundedStop, StopKeepsPaused, SameReceive, PlainWhereAdmitted, RefusedAsBatch}
+use Rattle.model.specs.HeldCalls.{HeldAfterCall, HeldIsSum}
 use Rattle.model.specs.Simulation.{Simulation}
 use Rattle.demands.proofs.Budget.{budget-counts-items, events-tell}
 use Rattle.demands.proofs.OneTurn.{at-most-64-in-one-turn}
@@ -44,7 +46,8 @@ use Rattle.demands.proofs.Registration.{takes-first-clear, takes-next-u
 use Rattle.demands.proofs.FreedOnTop.{freed-on-top}
 use Rattle.demands.proofs.ReceivesEnd.{ends-with-nothing-left}
 use Rattle.demands.proofs.Stops.{stopped-in-front, stops-exactly, stop-at-zero, only-bounded-stop, stop-keeps-paused, plain-where-admitted, refused-as-batch}
-use Rattle.demands.proofs.Simulation.{accepted-too, opened-after, opened-events}
+use Rattle.demands.proofs.HeldCalls.{held-after-call, held-is-sum}
+use Rattle.demands.proofs.Simulation.{same-handed, accepted-too, opened-after, opened-events}
 
 module _ (W : Viewed) (sim : Simulation W) where
   -- ---- runs
@@ -279,6 +282,17 @@ module _ (W : Viewed) (sim : Simulation W) where
   words-freed-on-top s o c g =
       let back = sim .leaves-alike s c o in
       subst (OnTop (W .view s)) (sym back) (freed-on-top (W .view s) tt c g)
+
+  -- ---- the held count
+
+  pub words-held-after-call : HeldAfterCall W
+  unfolding HeldAfterCall
+  words-held-after-call s o c =
+      rw (sim .leaves-alike s c o, same-handed W sim s c o, sim .answers-alike s c o) (held-after-call (W .view s) (sim .shows-in-order s o) c)
+
+  pub words-held-is-sum : HeldIsSum W
+  unfolding HeldIsSum
+  words-held-is-sum s o = sim .answers-alike s (Control CountHeld) o ∙ held-is-sum (W .view s) (sim .shows-in-order s o)
 
   -- ---- collections, by steps that do what the rules' do
 

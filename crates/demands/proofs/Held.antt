@@ -14,9 +14,9 @@ use Rattle.model.specs.declared.Opening.{Opening}
 use Rattle.model.specs.declared.ControlCall.the-variants.{CountHeld}
 use Rattle.model.specs.declared.Call.the-variants.{Control}
 use Rattle.model.specs.declared.Answer.the-variants.{Held}
-use Rattle.model.specs.Lists.{if, either, from, without, total}
-use Rattle.model.specs.State.{Slot, State, mayQueue, keyOf}
-use Rattle.model.specs.Changes.{withQueue, put, newLane, signalled, pushed, senderDropped, popped, withPaused, credited, retired}
+use Rattle.model.specs.Lists.{if, either, count, keep, from, without, total}
+use Rattle.model.specs.State.{Slot, State, mayQueue, itemsHeld, keyOf}
+use Rattle.model.specs.Changes.{withQueue, withFree, withIssued, put, newLane, signalled, pushed, senderDropped, popped, withPaused, credited, retired}
 use Rattle.model.specs.Turn.{retireLane, unreleasedAfterOne, giveItem}
 use Rattle.model.specs.Runs.{accepted, Tick, handed, trace, afterList}
 use Rattle.model.specs.Receive.{queueLaneIf}
@@ -41,22 +41,23 @@ use Rattle.demands.proofs.LedgerAgrees.{Agrees, agrees-quiet, move-agre
 use Rattle.demands.proofs.Grows.{Grows, grows-quiet, move-grows}
 use Rattle.demands.proofs.Demand3.{opened-agrees}
 
--- the items in the rings of registered lanes
-unfoldable ringCount : Slot → ℕ
+-- what a slot adds to the items in the rings of registered lanes
+unfoldable pub ringCount : Slot → ℕ
 ringCount l = if (l .registered) (length (l .ring)) 0
 
-unfoldable heldOf : State → ℕ
-heldOf s = sumOf ringCount s
+pub items-held-sum : (s : State) → itemsHeld s ≡ sumOf ringCount s
+unfolding itemsHeld ringCount
+items-held-sum s = total-keep (λ x. length (s .slotOf x .ring)) (λ x. s .slotOf x .registered) (from 0 (s .issued))
 
-held-answer : (s : State) → (outcome s (Control CountHeld)) .1 .0 ≡ Held (heldOf s)
-unfolding outcome controlOutcome countHeld heldOf ringCount
-held-answer s = ap Held (total-keep (λ x. length (s .slotOf x .ring)) (λ x. s .slotOf x .registered) (from 0 (s .issued)))
+pub held-answer : (s : State) → (outcome s (Control CountHeld)) .1 .0 ≡ Held (itemsHeld s)
+unfolding outcome controlOutcome countHeld
+held-answer s = refl
 
 count-unregistered : (l : Slot) → l .registered ≡ false → ringCount l ≡ 0
 unfolding ringCount
 count-unregistered l e = rw e
 
-count-alike : (l m : Slot) → m .registered ≡ l .registered → m .ring ≡ l .ring → ringCount m ≡ ringCount l
+pub count-alike : (l m : Slot) → m .registered ≡ l .registered → m .ring ≡ l .ring → ringCount m ≡ ringCount l
 unfolding ringCount
 count-alike l m r e = rw (r, e)
 
@@ -69,11 +70,10 @@ count-quiet l m (goes e r g) = rw (r, e) (go (l .registered))
     go true = refl
     go false = refl
 
-held-alike : (s u : State) → u .issued ≡ s .issued → ((y : ℕ) → ringCount (u .slotOf y) ≡ ringCount (s .slotOf y)) → heldOf u ≡ heldOf s
-unfolding heldOf
-held-alike s u i e = sum-same ringCount s u i e
+pub held-alike : (s u : State) → u .issued ≡ s .issued → ((y : ℕ) → ringCount (u .slotOf y) ≡ ringCount (s .slotOf y)) → itemsHeld u ≡ itemsHeld s
+held-alike s u i e = items-held-sum u ∙ sum-same ringCount s u i e ∙ sym (items-held-sum s)
 
-held-quiet : (s u : State) → Quietly s u → heldOf u ≡ heldOf s
+pub held-quiet : (s u : State) → Quietly s u → itemsHeld u ≡ itemsHeld s
 held-quiet s u q = held-alike s u (q .issues) (λ y. count-quiet _ _ (q .each y))
 
 -- one slot changes
@@ -85,13 +85,12 @@ module _ (s u : State) (x : ℕ) (m : Slot) (at : (y : ℕ) → u .slotOf y ≡ 
       go true = refl
       go false = refl
 
-  held-put : x < s .issued → heldOf u + ringCount (s .slotOf x) ≡ heldOf s + ringCount m
-  unfolding heldOf
+  pub held-put : x < s .issued → itemsHeld u + ringCount (s .slotOf x) ≡ itemsHeld s + ringCount m
   held-put h =
       let own : ringCount (u .slotOf x) ≡ ringCount m = count-at x ∙ rw (self x) in
-      omega (arith, own, sum-but ringCount s u i x h (λ y d. count-at y ∙ rw (ne-eqb x y d)))
+      omega (arith, own, items-held-sum s, items-held-sum u, sum-but ringCount s u i x h (λ y d. count-at y ∙ rw (ne-eqb x y d)))
 
-  held-put-alike : ringCount m ≡ ringCount (s .slotOf x) → heldOf u ≡ heldOf s
+  pub held-put-alike : ringCount m ≡ ringCount (s .slotOf x) → itemsHeld u ≡ itemsHeld s
   held-put-alike e = held-alike s u i (λ y. count-at y ∙ go y (same? x y))
     where
       go : (y : ℕ) → Same x y → if (eqb x y) (ringCount m) (ringCount (s .slotOf y)) ≡ ringCount (s .slotOf y)
@@ -149,23 +148,23 @@ record Tallied (L : Ledger) (s : State) : Type 0 where
   ord : Ordered s
   agrees : Agrees L s
   keys : KeysOnce L s
-  sum : heldByLanes (L .lanes) ≡ heldOf s
+  sum : heldByLanes (L .lanes) ≡ itemsHeld s
 
 -- one lane changes, and what it holds
 module _ (L : Ledger) (s u : State) (j : LaneKey) (f : Lane → Lane) (keeps : (l : Lane) → (f l) .key ≡ l .key) (m : Slot)
     (at : (y : ℕ) → u .slotOf y ≡ if (eqb (j .slot) y) m (s .slotOf y)) (r : s .slotOf (j .slot) .registered ≡ true) (g : s .slotOf (j .slot) .generation ≡ j .generation)
-    (i : u .issued ≡ s .issued) (low : j .slot < s .issued) (h : Agrees L s) (k : KeysOnce L s) (e : heldByLanes (L .lanes) ≡ heldOf s) where
+    (i : u .issued ≡ s .issued) (low : j .slot < s .issued) (h : Agrees L s) (k : KeysOnce L s) (e : heldByLanes (L .lanes) ≡ itemsHeld s) where
   own-look : look j (L .lanes) ≡ some (h .lane-of (j .slot) r .entry)
   own-look = ap (λ (k : LaneKey). look k (L .lanes)) (key-path j (keyOf s (j .slot)) refl (sym g)) ∙ h .lane-of (j .slot) r .looked
 
-  sum-entry : heldBy (f (h .lane-of (j .slot) r .entry)) ≡ ringCount m → heldByLanes ((changeLane j f L) .lanes) ≡ heldOf u
+  sum-entry : heldBy (f (h .lane-of (j .slot) r .entry)) ≡ ringCount m → heldByLanes ((changeLane j f L) .lanes) ≡ itemsHeld u
   unfolding changeLane
   sum-entry w =
       let l = h .lane-of (j .slot) r .entry in
       omega (arith, w, e, held-changed j f keeps (L .lanes) l own-look (k .once j), held-put s u (j .slot) m at i low, entry-count L s (j .slot) l h r (h .lane-of (j .slot) r .looked))
 
   -- the lane is registered after it, too
-  sum-changed : m .registered ≡ true → m .generation ≡ j .generation → Agrees (changeLane j f L) u → heldByLanes ((changeLane j f L) .lanes) ≡ heldOf u
+  sum-changed : m .registered ≡ true → m .generation ≡ j .generation → Agrees (changeLane j f L) u → heldByLanes ((changeLane j f L) .lanes) ≡ itemsHeld u
   unfolding changeLane
   sum-changed mr mg a =
       let l = h .lane-of (j .slot) r .entry in
@@ -208,9 +207,23 @@ new-count : (g : ℕ) (l : Slot) → ringCount (newLane g l) ≡ 0
 unfolding ringCount
 new-count g l = refl
 
-held-one-more : (s u : State) → u .issued ≡ suc (s .issued) → ((y : ℕ) → ringCount (u .slotOf y) ≡ ringCount (s .slotOf y)) → ringCount (s .slotOf (s .issued)) ≡ 0 → heldOf u ≡ heldOf s
-unfolding heldOf
-held-one-more s u i e z = omega (arith, sum-more ringCount s u i e)
+held-one-more : (s u : State) → u .issued ≡ suc (s .issued) → ((y : ℕ) → ringCount (u .slotOf y) ≡ ringCount (s .slotOf y)) → ringCount (s .slotOf (s .issued)) ≡ 0 → itemsHeld u ≡ itemsHeld s
+held-one-more s u i e z = omega (arith, items-held-sum s, items-held-sum u, sum-more ringCount s u i e)
+
+-- a lane newly registered holds nothing, in an unused slot and in a freed one
+pub new-held : (s : State) → Ordered s → itemsHeld (withIssued (suc (s .issued)) (put (s .issued) (newLane (s .firstGeneration) (s .slotOf (s .issued))) s)) ≡ itemsHeld s
+new-held s o =
+    let z = count-unregistered (s .slotOf (s .issued)) (unissued s o) in
+    held-one-more s _ refl (λ y. count-at s (put (s .issued) (newLane (s .firstGeneration) (s .slotOf (s .issued))) s) (s .issued) _ (λ y. refl) refl y ∙ go y (same? (s .issued) y) z) z
+  where
+    go : (y : ℕ) → Same (s .issued) y → ringCount (s .slotOf (s .issued)) ≡ 0 → if (eqb (s .issued) y) (ringCount (newLane (s .firstGeneration) (s .slotOf (s .issued)))) (ringCount (s .slotOf y)) ≡ ringCount (s .slotOf y)
+    go y (equal p b j) z = rw b (new-count _ (s .slotOf (s .issued)) ∙ sym z ∙ ap (λ (x : ℕ). ringCount (s .slotOf x)) p)
+    go y (other d b j) z = rw b
+
+pub new-held-freed : (s : State) (x : ℕ) → Ordered s → 1 ≤ count x (s .free) → itemsHeld (withFree (without x (s .free)) (put x (newLane (s .slotOf x .generation + 1) (s .slotOf x)) s)) ≡ itemsHeld s
+new-held-freed s x o i =
+    let z = count-unregistered (s .slotOf x) (o .each-slot x .free-unregistered i) in
+    held-put-alike s _ x (newLane (s .slotOf x .generation + 1) (s .slotOf x)) (λ y. refl) refl (new-count _ (s .slotOf x) ∙ sym z)
 
 -- every move
 pub move-keys : (L : Ledger) {s u : State} {t : Tick} → Ordered s → KeysOnce L s → Moves s t u → KeysOnce (note L t) u
@@ -240,23 +253,15 @@ move-keys L o h (halts s m b n j y q e w) = keys-same L _ (w .noted L) (move-gro
 move-keys L o h (aims s i v vs c g) = keys-changed L _ _ remove-oldest-key (move-grows (aims s i v vs c g)) h
 move-keys L o h (aims-none s i a c g n) = keys-same L _ (n .noted L) (move-grows (aims-none s i a c g n)) h
 
-noted-sum : (L M : Ledger) (s u : State) → M ≡ L → heldOf u ≡ heldOf s → heldByLanes (L .lanes) ≡ heldOf s → heldByLanes (M .lanes) ≡ heldOf u
+noted-sum : (L M : Ledger) (s u : State) → M ≡ L → itemsHeld u ≡ itemsHeld s → heldByLanes (L .lanes) ≡ itemsHeld s → heldByLanes (M .lanes) ≡ itemsHeld u
 noted-sum L M s u e h w = ap (λ (N : Ledger). heldByLanes (N .lanes)) e ∙ w ∙ sym h
 
-move-sum : (L : Ledger) {s u : State} {t : Tick} → Tallied L s → Moves s t u → heldByLanes ((note L t) .lanes) ≡ heldOf u
+move-sum : (L : Ledger) {s u : State} {t : Tick} → Tallied L s → Moves s t u → heldByLanes ((note L t) .lanes) ≡ itemsHeld u
 unfolding note accepted applyCall addRegistered
 move-sum L h (stays-put s c a n) = noted-sum L _ s s (n .noted L) refl (h .sum)
 move-sum L h (credits s c a n) = noted-sum L _ s _ (n .noted L) (held-quiet s _ (release-all-quiet s)) (h .sum)
-move-sum L h (registers-new s m lt) =
-    let z = count-unregistered (s .slotOf (s .issued)) (unissued s (h .ord)) in
-    new-sum (L .lanes) _ ∙ h .sum ∙ sym (held-one-more s _ refl (λ y. count-at s (put (s .issued) (newLane (s .firstGeneration) (s .slotOf (s .issued))) s) (s .issued) _ (λ y. refl) refl y ∙ go y (same? (s .issued) y) z) z)
-  where
-    go : (y : ℕ) → Same (s .issued) y → ringCount (s .slotOf (s .issued)) ≡ 0 → if (eqb (s .issued) y) (ringCount (newLane (s .firstGeneration) (s .slotOf (s .issued)))) (ringCount (s .slotOf y)) ≡ ringCount (s .slotOf y)
-    go y (equal p b j) z = rw b (new-count _ (s .slotOf (s .issued)) ∙ sym z ∙ ap (λ (x : ℕ). ringCount (s .slotOf x)) p)
-    go y (other d b j) z = rw b
-move-sum L h (registers-old s m x i l) =
-    let z = count-unregistered (s .slotOf x) (h .ord .each-slot x .free-unregistered i) in
-    new-sum (L .lanes) _ ∙ h .sum ∙ sym (held-put-alike s _ x (newLane (s .slotOf x .generation + 1) (s .slotOf x)) (λ y. refl) refl (new-count _ (s .slotOf x) ∙ sym z))
+move-sum L h (registers-new s m lt) = new-sum (L .lanes) _ ∙ h .sum ∙ sym (new-held s (h .ord))
+move-sum L h (registers-old s m x i l) = new-sum (L .lanes) _ ∙ h .sum ∙ sym (new-held-freed s x (h .ord) i)
 move-sum L h (sends s k v w free a r nf) =
     let g = sender-parts s k a in
     sum-changed L s _ k _ (add-item-key record { value = v; ordinary = true }) (signalled (pushed v (s .slotOf (k .slot)))) (λ y. refl) r (g .1) refl (h .ord .each-slot (k .slot) .registered-issued r) (h .agrees) (h .keys) (h .sum) r (g .1)
@@ -309,7 +314,7 @@ chain-tallied L (move {t = t} m c) h =
     chain-tallied (note L t) c record { ord = move-ordered (h .ord) m; agrees = move-agrees L (h .ord) (h .agrees) m; keys = move-keys L (h .ord) (h .keys) m; sum = move-sum L h m }
 
 opened-tallied : (o : Opening) → Ordered (openedState o) → Tallied atOpening (openedState o)
-unfolding atOpening openedState heldByLanes heldOf from total times
+unfolding atOpening openedState heldByLanes itemsHeld keep from total times
 opened-tallied o h = record { ord = h; agrees = opened-agrees o; keys = record { once = λ k. omega arith; known = λ k n. absurd (omega arith) }; sum = refl }
 
 pub held-as-counted : HeldAsCounted theRules

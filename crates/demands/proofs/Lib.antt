@@ -27,6 +27,7 @@ pub mod FreePlaces
 pub mod Grows
 pub mod Closed
 pub mod Held
+pub mod HeldCalls
 pub mod Simulation
 pub mod Pages
 pub mod Capacity

@@ -134,7 +134,7 @@ turned-away c n = record { noted = λ L. refl; sees = never (looks c); sends-non
     no-send (Receive r) k = refl
     no-send (Control c) k = refl
 
-has-lane-of-id : (s : State) (i : LaneId) → hasLaneId s i ≡ true → hasLane s (i .key) ≡ true
+pub has-lane-of-id : (s : State) (i : LaneId) → hasLaneId s i ≡ true → hasLane s (i .key) ≡ true
 unfolding hasLaneId
 has-lane-of-id s i e = both-true (sameOpening (i .channel) (s .channel)) (hasLane s (i .key)) e .1
 

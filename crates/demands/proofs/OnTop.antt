@@ -8,7 +8,7 @@ use Rattle.model.specs.Lists.{Each}
 use Rattle.model.specs.State.{State}
 use Rattle.model.specs.Registration.{OnTop}
 
-each-append : (P : ℕ → Type 0) (a b : List ℕ) → Each P a → Each P b → Each P (a ++ b)
+pub each-append : {A : Type 0} (P : A → Type 0) (a b : List A) → Each P a → Each P b → Each P (a ++ b)
 unfolding Each
 each-append P [] b e f = f
 each-append P (x ∷ a) b e f = (e .0, each-append P a b (e .1) f)

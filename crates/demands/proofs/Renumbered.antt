@@ -23,7 +23,7 @@ use Rattle.model.specs.declared.Refusal.{Refusal}
 use Rattle.model.specs.declared.Refusal.the-variants.{ReceiverClosed, NoSuchLane}
 use Rattle.model.specs.declared.Answer.the-variants.{Done, Item, Empty, Disconnected, Refused}
 use Rattle.model.specs.Lists.{if, both, nonEmpty, without, from}
-use Rattle.model.specs.State.{State, mayQueue, registeredLanes, livingSenders, keyOf, idOf, senderLives, hasLane, hasLaneId, isFull, freePlaces}
+use Rattle.model.specs.State.{State, mayQueue, registeredLanes, livingSenders, itemsHeld, keyOf, idOf, senderLives, hasLane, hasLaneId, isFull, freePlaces}
 use Rattle.model.specs.Changes.{withBudget}
 use Rattle.model.specs.Ready.{marks, isReady, collectMarks, collectGroup, startGroup, groupsRound, collectFirst, collectEach, collectReadyGroup, collectReady}
 use Rattle.model.specs.Turn.{retireLane, retireLaneIf, settleEmpty, beforeNextTurn, runDownFrom, runDown, unreleasedAfterOne, giveItem, Took, giveOldest, giveFront, collectIfDue, collectIfNoneQueued, polled, takeOne, takeFair}
@@ -323,7 +323,7 @@ module _ (f : ℕ → ℕ) where
         passing _ s _ (ap (λ (u : Bool × Took). answerWhile limit (u .0) (u .1 .0) (releaseAll (u .1 .1))) (take-while bound limit s) ∙ answer-while limit (t .0) (t .1 .0) (releaseAll (t .1 .1)))
 
     control-call : (s : State) (c : ControlCall) → controlOutcome (renumbered s) (renumberedControl f c) ≡ renumberedOutcome (controlOutcome s c)
-    unfolding controlOutcome pause resume closeLane retireLane releaseConsumed releaseAll pollAllLanes mayQueue closeReceiver countHeld renumberedControl renumberedAnswer
+    unfolding controlOutcome pause resume closeLane retireLane releaseConsumed releaseAll pollAllLanes mayQueue closeReceiver countHeld itemsHeld renumberedControl renumberedAnswer
     control-call s (Pause i) = passing-id s i _ refl
     control-call s (Resume i) = passing-id s i _ (ap (says Done) (resume-if (s .slotOf (i .key .slot) .paused) (i .key .slot) s))
     control-call s (CloseLane i) = passing-id s i _ refl

@@ -12,11 +12,10 @@ use Rattle.model.specs.declared.ReceiveCall.{ReceiveCall}
 use Rattle.model.specs.declared.ReceiveCall.the-variants.{TryRecv, TryRecvFair, TryRecvFrom, TryRecvBatchInto, TryRecvBatchIntoWhile}
 use Rattle.model.specs.declared.Call.{Call}
 use Rattle.model.specs.declared.Call.the-variants.{Sender, Receive, Control}
-use Rattle.model.specs.declared.Answer.{Answer}
 use Rattle.model.specs.declared.Answer.the-variants.{Done}
 use Rattle.model.specs.Lists.{Each}
 use Rattle.model.specs.State.{State, ringOf}
-use Rattle.model.specs.Runs.{Tick, ends, Rules, handed, ticks, trace, countTicks, afterList}
+use Rattle.model.specs.Runs.{Tick, Rules, handed, ticks, trace, countTicks, afterList}
 use Rattle.model.specs.Rules.{theRules}
 use Rattle.model.specs.Viewed.{Viewed, rulesViewed}
 use Rattle.model.specs.Events.{Event, budgetSet, callEvents, eventsFrom, runEvents}
@@ -58,11 +57,15 @@ module _ (W : Viewed) (sim : Simulation W) where
   abbrev R : Rules
   R = W .rules
 
+  pub same-handed : (s : R .State) (c : Call) → W .Ok s → handed R s c ≡ handed theRules (W .view s) c
+  unfolding handed
+  same-handed s (Sender c) o = refl
+  same-handed s (Control c) o = refl
+  same-handed s (Receive r) o = rw (sim .hands-alike s r o)
+
   same-ticks : (s : R .State) (c : Call) → W .Ok s → ticks R s c ≡ ticks theRules (W .view s) c
-  unfolding ticks handed
-  same-ticks s (Sender c) o = ap (λ (a : Answer). ends (Sender c) a ∷ []) (sim .answers-alike s (Sender c) o)
-  same-ticks s (Control c) o = ap (λ (a : Answer). ends (Control c) a ∷ []) (sim .answers-alike s (Control c) o)
-  same-ticks s (Receive r) o = rw (sim .hands-alike s r o, sim .answers-alike s (Receive r) o)
+  unfolding ticks
+  same-ticks s c o = rw (same-handed s c o, sim .answers-alike s c o)
 
   pub same-trace : (s : R .State) (cs : List Call) → W .Ok s → trace R s cs ≡ trace theRules (W .view s) cs
   unfolding trace

@@ -40,6 +40,7 @@ use Rattle.model.specs.Sender.{clearSlots, issueSlot, senderOutcome, registerSe
 use Rattle.model.specs.Control.{controlOutcome, pause, resume, closeLane, releaseConsumed, pollAllLanes, closeReceiver, countHeld}
 use Rattle.model.specs.Stops.{plainItems, AllAdmitted, StopsInFront, StoppedInFront, StopsExactly, StopAtZero, hasBound, OnlyBoundedStop, StopKeepsPaused, SameReceive, PlainWhereAdmitted, RefusedAsBatch, StillWaits, oldestAbove, someAbove, StopsAt, isPlain, ofPlain, givesAbove, NextIsAboveIn, NextIsAbove, StopsOnlyAtItemsIn, StopsOnlyAtItems, HandsOnlyAdmittedIn, HandsOnlyAdmitted}
 use Rattle.demands.proofs.Counting.{no, not-false}
+use Rattle.demands.proofs.OnTop.{each-append}
 use Rattle.demands.proofs.Quiet.{poll, poll-quiet, polled-quiet}
 use Rattle.demands.proofs.FrontItem.{take-one-front}
 use Rattle.demands.proofs.PausedKept.{polled-kept, take-up-to-kept}
@@ -279,11 +280,6 @@ Fine (gives TryRecvFair k v) = Unit {0}
 Fine (gives (TryRecvFrom i) k v) = Unit {0}
 Fine (gives (TryRecvBatchInto limit room) k v) = Unit {0}
 Fine (ends c a) = Unit {0}
-
-each-append : {A : Type 0} (P : A → Type 0) (xs ys : List A) → Each P xs → Each P ys → Each P (xs ++ ys)
-unfolding Each
-each-append P [] ys f g = g
-each-append P (x ∷ xs) ys f g = (f .0, each-append P xs ys (f .1) g)
 
 each-at : {A : Type 0} (P : A → Type 0) (xs : List A) (x : A) (ys : List A) → Each P (xs ++ (x ∷ ys)) → P x
 unfolding Each

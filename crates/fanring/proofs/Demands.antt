@@ -26,7 +26,8 @@ use Rattle.refinement.proofs.RulesKept.{keeps-rules}
 use Rattle.refinement.proofs.Simulation.{simulates}
 use Rattle.refinement.proofs.AsRules.{each-call-as-rules, lists-as-rules, examples-of, credit-of}
 use Rattle.fanring.specs.Runs.{checkedWords, checkedCalls, theCalls}
-use Rattle.fanring.specs.Demands.{RefusalsChangeNothing, FiveExactly, CallsSimulate, CallsKeepOrder, OpensAsRules, OpensInOrder, runs, NeverFive, ItemsInOrder, AnswersTell, LanesWaitBounded, LanesWaitUnstopped, StopsOnlyAtItems, NextIsAbove, HandsOnlyAdmitted, LanesShareEqually, FreePlacesSaid, NotFullBefore, OpeningsToldApart, SavedIdsRefused, NumberOnlyTellsIds, NoneAfterClose, HeldIsCounted, RulesKept, TraceAsRules, MixedAsChecked, ExamplesHold, CreditByTable, NoLostWake, NothingWaits, KeysNeverAgain, IssuedAsAnswered}
+use Rattle.fanring.specs.Demands.{RefusalsChangeNothing, FiveExactly, CallsSimulate, CallsKeepOrder, OpensAsRules, OpensInOrder, runs, NeverFive, ItemsInOrder, AnswersTell, LanesWaitBounded, LanesWaitUnstopped, StopsOnlyAtItems, NextIsAbove, HandsOnlyAdmitted, LanesShareEqually, FreePlacesSaid, NotFullBefore, OpeningsToldApart, SavedIdsRefused, NumberOnlyTellsIds, NoneAfterClose, HeldIsCounted, UntrueHeldRefused, RulesKept, TraceAsRules, MixedAsChecked, ExamplesHold, CreditByTable, NoLostWake, NothingWaits, KeysNeverAgain, IssuedAsAnswered}
+use Rattle.store.proofs.HeldLaws.{held-walked}
 use Rattle.fanring.proofs.CheckedLaws.{checked-five}
 use Rattle.fanring.proofs.CheckedCalls.{checked-as-inner, words-unmoved, output-left}
 use Rattle.fanring.proofs.NeverFive.{never-five}
@@ -50,6 +51,10 @@ five-exactly = record {
   when = λ t r c n. ap (λ (w : Words). w .0) (checked-five t r n _);
   only-then = only-not-in-order;
 }
+
+pub untrue-held-refused : UntrueHeldRefused
+unfolding checkedWords
+untrue-held-refused t r c n = checked-five t r (λ o. n (held-walked t r o)) _
 
 pub calls-simulate : CallsSimulate
 calls-simulate = each-call-as-rules checkedCalls checked-as-inner

@@ -23,9 +23,10 @@ use Rattle.model.specs.Closed.{NoneAfterCloseIn}
 use Rattle.model.specs.Held.{HeldAsCountedIn}
 use Rattle.model.specs.Wake.{NoLostWakeIn, NothingWaitsIn}
 use Rattle.model.specs.Keys.{KeysNeverAgainIn, IssuedAsAnsweredIn}
-use Rattle.queues.specs.Header.{issued}
+use Rattle.queues.specs.Header.{issued, heldCount}
 use Rattle.store.specs.View.{view}
 use Rattle.store.specs.Order.{StoreInOrder}
+use Rattle.store.specs.Held.{walkedHeld}
 use Rattle.opening.specs.Opening.{openStore}
 use Rattle.refinement.specs.Runs.{Run, storesAfter}
 use Rattle.refinement.specs.Demands.{itemsIn}
@@ -135,8 +136,12 @@ NoneAfterClose = NoneAfterCloseIn theCalls runs
 abbrev pub HeldIsCounted : Type 0
 HeldIsCounted = HeldAsCountedIn theCalls runs
 
+-- document 02, N6: "A store whose held count is untrue is not in order.": every call is refused 5, and changes no word
+abbrev pub UntrueHeldRefused : Type 0
+UntrueHeldRefused = (t r : List ℕ) (c : Call) → (heldCount t ≡ walkedHeld t → ⊥) → checkedWords t r c ≡ (Refused StoreNotInOrder, t, r)
+
 -- document 01's sentences on order kept, the poll budget, turns of 64, collections, where receives end, Disconnected and Empty, refusal 13, signals, first cursors
--- and queued keys, and document 02's on registrations and the free list (N4) and on a batch that stops (N2), one field for each
+-- and queued keys, and document 02's on registrations and the free list (N4), on a batch that stops (N2) and on the held count (N6), one field for each
 abbrev pub RulesKept : Type 0
 RulesKept = KeepsRules checkedCalls
 

@@ -3,14 +3,13 @@
 use mathlib.Core.Bool.{Bool, true, false, not}
 use mathlib.Core.List.{[], _∷_, _++_}
 use Prim.Native.Nat.{ℕ}
-use lib.ListN.{length}
 use Rattle.model.specs.declared.LaneId.{LaneId}
 use Rattle.model.specs.declared.ControlCall.{ControlCall}
 use Rattle.model.specs.declared.ControlCall.the-variants.{Pause, Resume, CloseLane, ReleaseConsumed, PollAllLanes, CloseReceiver, CountHeld}
 use Rattle.model.specs.declared.Refusal.the-variants.{ReceiverClosed, NoSuchLane}
 use Rattle.model.specs.declared.Answer.the-variants.{Done, Held}
-use Rattle.model.specs.Lists.{keep, without, from, total}
-use Rattle.model.specs.State.{State, mayQueue, hasLaneId}
+use Rattle.model.specs.Lists.{keep, without, from}
+use Rattle.model.specs.State.{State, mayQueue, itemsHeld, hasLaneId}
 use Rattle.model.specs.Changes.{withQueue, withOpen, put, signalled, withPaused, credited}
 use Rattle.model.specs.Turn.{retireLane}
 use Rattle.model.specs.Outcome.{Outcome, says, unless}
@@ -55,7 +54,7 @@ closeReceiver s = unless ((not (s .isOpen), ReceiverClosed) ∷ []) s (says Done
 
 -- "the number of items in rings of registered lanes, paused ones too". Reading: answered after the receiver is closed, too.
 unfoldable pub countHeld : State → Outcome
-countHeld s = says (Held (total (λ x. length (s .slotOf x .ring)) (keep (λ x. s .slotOf x .registered) (from 0 (s .issued))))) s
+countHeld s = says (Held (itemsHeld s)) s
 
 unfoldable pub controlOutcome : State → ControlCall → Outcome
 controlOutcome s (Pause i) = pause s i

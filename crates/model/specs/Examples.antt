@@ -9,6 +9,7 @@ pub mod Calls
 pub mod Ready
 pub mod Events
 pub mod Held
+pub mod HeldCalls
 pub mod BoundMet
 pub mod Stretch
 pub mod StopsInRuns

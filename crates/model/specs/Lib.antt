@@ -24,6 +24,7 @@ pub mod LaneIds
 pub mod Renumbered
 pub mod Closed
 pub mod Held
+pub mod HeldCalls
 pub mod Simulation
 pub mod Events
 pub mod Budget

@@ -9,7 +9,7 @@ use lib.Dec.{leb, eqb}
 use Rattle.model.specs.declared.LaneKey.{LaneKey}
 use Rattle.model.specs.declared.OpenedChannel.{OpenedChannel}
 use Rattle.model.specs.declared.LaneId.{LaneId}
-use Rattle.model.specs.Lists.{if, both, count, keep, from}
+use Rattle.model.specs.Lists.{if, both, count, keep, from, total}
 
 -- A slot: its lane, if one is registered, and what stays in it when none is.
 pub record Slot : Type 0 where
@@ -81,6 +81,10 @@ registeredLanes s = length (keep (λ x. s .slotOf x .registered) (from 0 (s .iss
 -- The number of living senders; those of closed lanes are among them.
 unfoldable pub livingSenders : State → ℕ
 livingSenders s = length (keep (λ x. s .slotOf x .living) (from 0 (s .issued)))
+
+-- "the number of items in rings of registered lanes, paused ones too"
+unfoldable pub itemsHeld : State → ℕ
+itemsHeld s = total (λ x. length (s .slotOf x .ring)) (keep (λ x. s .slotOf x .registered) (from 0 (s .issued)))
 
 -- "lane key (slot, generation)"
 abbrev pub keyOf : State → ℕ → LaneKey

@@ -14,8 +14,8 @@ use Rattle.model.specs.declared.Refusal.{Refusal}
 use Rattle.model.specs.declared.Refusal.the-variants.{CapacityOutOfRange, SlotsOutOfRange, RingStoreShort, TableStoreShort}
 use Rattle.model.specs.declared.Answer.{Answer}
 use Rattle.model.specs.declared.Answer.the-variants.{Done, Refused}
-use Rattle.model.specs.Lists.{if, either, count, keep, from}
-use Rattle.model.specs.State.{State, registeredLanes, livingSenders}
+use Rattle.model.specs.Lists.{if, either, count, keep, from, total}
+use Rattle.model.specs.State.{State, registeredLanes, livingSenders, itemsHeld}
 use Rattle.model.specs.Outcome.{Outcome, says, unless}
 use Rattle.model.specs.Runs.{Lent}
 use Rattle.model.specs.Opening.{nextPowerOfTwo, openedState, openingOutcome}
@@ -25,7 +25,7 @@ use Rattle.demands.proofs.Opened.{opened-ordered}
 use Rattle.demands.proofs.LaneIds.{channel-path}
 use Rattle.yring.specs.Cursor.{Capacity}
 use Rattle.lane.specs.Table.{head, cellAt, headerWords, rowWords}
-use Rattle.queues.specs.Header.{issued, newHeader, headerList, putHeader}
+use Rattle.queues.specs.Header.{issued, heldCount, newHeader, headerList, putHeader}
 use Rattle.queues.specs.Queue.{queueOf}
 use Rattle.queues.proofs.HeaderLaws.{shaped-opened, queue-opened, free-opened, head-opened}
 use Rattle.store.specs.declared.refusal.Verdict.{Verdict}
@@ -174,6 +174,11 @@ module _ (o : Opening) (t r : List ℕ) where
           living-counted = rw view-opened (hd 14 refl);
         }
 
+    -- no slot is issued, and the word is 0, whatever it was
+    held-opened : heldCount u ≡ itemsHeld (view u r)
+    unfolding itemsHeld keep from total openedState
+    held-opened = rw view-opened (hd 16 refl)
+
   -- "An accepted opening leaves a store in order, whatever the lent words held", and it shows the rules' opened state
   pub open-view : (openStore o t r) .0 ≡ Done → view ((openStore o t r) .1) ((openStore o t r) .2) ≡ openedState o
   open-view e = let a = accepted e in rw (a .leaves) (view-opened a e)
@@ -181,4 +186,4 @@ module _ (o : Opening) (t r : List ℕ) where
   pub open-in-order : o .cursor < 2 ^ 64 → (openStore o t r) .0 ≡ Done → StoreInOrder ((openStore o t r) .1) ((openStore o t r) .2)
   open-in-order c e =
       let a = accepted e in
-      rw (a .leaves) (record { stores = stores-opened a e c; ordered = rw (view-opened a e) (ordered a e) })
+      rw (a .leaves) (record { stores = stores-opened a e c; ordered = rw (view-opened a e) (ordered a e); held-counted = held-opened a e })

@@ -23,6 +23,7 @@ use Rattle.store.specs.View.{flag, slotOf, slotAt, view}
 use Rattle.store.specs.Order.{Flag, Flags, Fast, MarkWords, Stores, StoreInOrder}
 use Rattle.store.proofs.ViewLaws.{slot-in, slot-out}
 use Rattle.store.proofs.CountLaws.{passing-same}
+use Rattle.store.proofs.HeldLaws.{held-total, held-walked}
 use Rattle.order_slot.specs.Clauses.{HeaderHolds, SlotHolds, registeredBelow, livingBelow, PagesHold, GroupsHold, Clauses}
 
 -- ---- the header
@@ -235,7 +236,7 @@ module _ (t r : List ℕ) where
             slot-holds t r x _ _ (s .named .once x) (d .each-slot x .free-once)
             (subst (SlotOrdered x (issued t) (count x (queueOf t)) (count x (freeOf t))) (slot-in t r x h) (d .each-slot x))
             (s .flags x h) (s .lanes x h) (s .named .flagged x h) (s .windows x h);
-        counts = record { lanes = s .lanes-counted ∙ registered-is t r; living = s .living-counted ∙ living-is t r };
+        counts = record { lanes = s .lanes-counted ∙ registered-is t r; living = s .living-counted ∙ living-is t r; held = held-walked t r o };
         pages = pages-hold t (s .linked) (s .mark-words);
         groups = groups-hold t (s .linked) (s .mark-words);
       }
@@ -289,4 +290,4 @@ module _ (t r : List ℕ) where
       }
 
   pub holds-in-order : Clauses t r → StoreInOrder t r
-  holds-in-order c = record { stores = stores-of c; ordered = ordered-of c }
+  holds-in-order c = record { stores = stores-of c; ordered = ordered-of c; held-counted = c .counts .held ∙ held-total t r }

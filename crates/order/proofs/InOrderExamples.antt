@@ -10,12 +10,13 @@ use Rattle.model.specs.State.{releaseBatch}
 use Rattle.lane.specs.Table.{cellAt, laneAt}
 use Rattle.queues.specs.Queue.{queueOf}
 use Rattle.queues.specs.Registry.{freeOf}
+use Rattle.store.specs.Held.{heldIn, heldFrom}
 use Rattle.order_slot.specs.Clauses.{registeredBelow, livingBelow}
 use Rattle.order.specs.InOrder.{allBelow, someBelow, capacityTest, lengthsTest, placesTest, limitsTest, headerTest, namesTest, cursorsTest, amountsTest, laneTest, fastTest, flagsTest, registeredTest, unregisteredTest, slotTest, slotsTest, countsTest, pageTest, groupTest, pagesTest, groupsTest, inOrder}
 
--- slots 0 to 2 of 3 are issued, C is 2; the queue has slot 0, the free list slot 2; two lanes, one living sender
+-- slots 0 to 2 of 3 are issued, C is 2; the queue has slot 0, the free list slot 2; two lanes, one living sender, three items
 abbrev pub header : List ℕ
-header = 3 ∷ 0 ∷ 1 ∷ 1 ∷ 3 ∷ 64 ∷ 0 ∷ 1 ∷ 2 ∷ 7 ∷ 0 ∷ 0 ∷ 0 ∷ 2 ∷ 1 ∷ []
+header = 3 ∷ 0 ∷ 1 ∷ 1 ∷ 3 ∷ 64 ∷ 0 ∷ 1 ∷ 2 ∷ 7 ∷ 0 ∷ 0 ∷ 0 ∷ 2 ∷ 1 ∷ 0 ∷ 3 ∷ []
 
 -- the front lane, with a window of 1 and one item more; page 0 has the bit of slot 1, group 0 that of page 0
 abbrev pub front : List ℕ
@@ -30,7 +31,7 @@ abbrev pub third : List ℕ
 third = 5 ∷ replicate 23 0
 
 abbrev pub table : List ℕ
-table = header ++ replicate 497 0 ++ front ++ second ++ third
+table = header ++ replicate 495 0 ++ front ++ second ++ third
 
 abbrev pub rings : List ℕ
 rings = replicate 12 0
@@ -49,6 +50,11 @@ unfoldable pub noneInOrder : List (List Change) → Bool
 noneInOrder [] = true
 noneInOrder (cs ∷ rest) = both (not (inOrder (changed table cs) rings)) (noneInOrder rest)
 
+-- all of them are
+unfoldable pub allInOrder : List (List Change) → Bool
+allInOrder [] = true
+allInOrder (cs ∷ rest) = both (inOrder (changed table cs) rings) (allInOrder rest)
+
 abbrev pub headerChanges : List (List Change)
 headerChanges =
     -- issued, the queue's front, S, the budget, the budget below the window
@@ -60,14 +66,14 @@ headerChanges =
 
 abbrev pub laneChanges : List (List Change)
 laneChanges =
-    -- the tail no u64, short of the known tail, too far from the released head
-    ((cellAt 1 0, 18446744073709551618) ∷ []) ∷ ((cellAt 1 0, 1) ∷ []) ∷ ((cellAt 1 0, 3) ∷ [])
+    -- the tail no u64; with a true held count, short of the known tail, too far from the released head
+    ((cellAt 1 0, 18446744073709551618) ∷ []) ∷ ((cellAt 1 0, 1) ∷ (16, 2) ∷ []) ∷ ((cellAt 1 0, 3) ∷ (16, 4) ∷ [])
     -- the released head, the head, the known tail no u64
     ∷ ((cellAt 2 1, 18446744073709551616) ∷ []) ∷ ((cellAt 3 1, 18446744073709551616) ∷ []) ∷ ((cellAt 4 1, 18446744073709551616) ∷ [])
     -- cached, unreleased, the burst below the window, the burst above 63
     ∷ ((cellAt 5 0, 2) ∷ []) ∷ ((cellAt 6 0, 0) ∷ []) ∷ ((cellAt 7 0, 0) ∷ []) ∷ ((cellAt 7 0, 64) ∷ [])
     -- unreleased no longer below the batch
-    ∷ ((cellAt 1 1, 2) ∷ (cellAt 3 1, 2) ∷ (cellAt 4 1, 2) ∷ (cellAt 6 1, 2) ∷ [])
+    ∷ ((cellAt 1 1, 2) ∷ (cellAt 3 1, 2) ∷ (cellAt 4 1, 2) ∷ (cellAt 6 1, 2) ∷ (16, 2) ∷ [])
     -- pending, queued, paused, registered, living no flags
     ∷ ((cellAt 9 0, 2) ∷ []) ∷ ((cellAt 10 2, 2) ∷ []) ∷ ((cellAt 11 1, 2) ∷ []) ∷ ((cellAt 12 2, 2) ∷ []) ∷ ((cellAt 13 1, 2) ∷ [])
     -- queued and not flagged, queued and paused, pending and not marked
@@ -89,11 +95,42 @@ listChanges =
     ∷ ((cellAt 16 0, 10) ∷ []) ∷ ((cellAt 17 0, 0) ∷ []) ∷ ((cellAt 17 0, 3) ∷ [])
     ∷ []
 
+-- the held count untrue
+abbrev pub heldChanges : List (List Change)
+heldChanges =
+    -- one less, one more, 2^64 more
+    ((16, 2) ∷ []) ∷ ((16, 4) ∷ []) ∷ ((16, 18446744073709551619) ∷ [])
+    -- left as it was by a send, by a receive, by a lane that goes
+    ∷ ((cellAt 1 1, 2) ∷ []) ∷ ((cellAt 3 1, 1) ∷ (cellAt 4 1, 1) ∷ (cellAt 6 1, 1) ∷ []) ∷ ((cellAt 12 1, 0) ∷ (13, 1) ∷ [])
+    -- without a paused lane, and of a closed receiver
+    ∷ ((cellAt 11 1, 1) ∷ (16, 2) ∷ []) ∷ ((7, 0) ∷ (16, 0) ∷ [])
+    ∷ []
+
+-- the held count true
+abbrev pub heldTrue : List (List Change)
+heldTrue =
+    -- the same send, receive and lane that goes
+    ((cellAt 1 1, 2) ∷ (16, 4) ∷ []) ∷ ((cellAt 3 1, 1) ∷ (cellAt 4 1, 1) ∷ (cellAt 6 1, 1) ∷ (16, 2) ∷ []) ∷ ((cellAt 12 1, 0) ∷ (13, 1) ∷ (16, 2) ∷ [])
+    -- with a paused lane, and of a closed receiver
+    ∷ ((cellAt 11 1, 1) ∷ []) ∷ ((7, 0) ∷ [])
+    -- an item of a lane that is idle, as an unsignalled send leaves it
+    ∷ ((cellAt 9 1, 0) ∷ [])
+    -- cursors of a slot without a lane, of one whose sender lives, of one that is not issued; a ring with an item at 2^64 - 1
+    ∷ ((cellAt 1 2, 5) ∷ []) ∷ ((cellAt 12 1, 0) ∷ (cellAt 13 1, 1) ∷ (13, 1) ∷ (14, 2) ∷ (16, 2) ∷ [])
+    ∷ ((0, 2) ∷ (3, 0) ∷ (cellAt 12 2, 1) ∷ (cellAt 1 2, 1) ∷ [])
+    ∷ ((cellAt 1 1, 0) ∷ (cellAt 2 1, 18446744073709551615) ∷ (cellAt 3 1, 18446744073709551615) ∷ (cellAt 4 1, 18446744073709551615) ∷ [])
+    ∷ []
+
+-- one slot, C 1, nothing issued, and a held count
+abbrev pub empty : ℕ → List ℕ
+empty held = replicate 4 0 ++ (1 ∷ 64 ∷ 0 ∷ 1 ∷ 1 ∷ 7 ∷ replicate 6 0) ++ held ∷ replicate 519 0
+
 -- stores that are too short
 abbrev pub shortInOrder : Bool
 shortInOrder = either (inOrder (take 583 table) rings) (either (inOrder table (replicate 5 0)) (inOrder [] []))
 
 pub in-order-examples : (inOrder table rings ≡ true) × (shortInOrder ≡ false) × (noneInOrder headerChanges ≡ true) × (noneInOrder laneChanges ≡ true)
-    × (noneInOrder listChanges ≡ true)
-unfolding inOrder headerTest lengthsTest placesTest limitsTest capacityTest namesTest slotsTest slotTest flagsTest registeredTest unregisteredTest laneTest cursorsTest amountsTest fastTest countsTest pagesTest pageTest groupsTest groupTest allBelow someBelow registeredBelow livingBelow queueOf freeOf laneAt count same keep from releaseBatch noneInOrder changed
-in-order-examples = (refl, refl, refl, refl, refl)
+    × (noneInOrder listChanges ≡ true) × (noneInOrder heldChanges ≡ true) × (allInOrder heldTrue ≡ true)
+    × (inOrder (empty 0) (0 ∷ []) ≡ true) × (inOrder (empty 1) (0 ∷ []) ≡ false)
+unfolding inOrder headerTest lengthsTest placesTest limitsTest capacityTest namesTest slotsTest slotTest flagsTest registeredTest unregisteredTest laneTest cursorsTest amountsTest fastTest countsTest pagesTest pageTest groupsTest groupTest allBelow someBelow registeredBelow livingBelow heldFrom heldIn queueOf freeOf laneAt count same keep from releaseBatch noneInOrder allInOrder changed
+in-order-examples = (refl, refl, refl, refl, refl, refl, refl, refl, refl)

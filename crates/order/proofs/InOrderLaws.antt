@@ -199,7 +199,11 @@ module _ (t : List ℕ) where
 
   pub counts-tell : Tells (CountsHold t) (countsTest t)
   unfolding countsTest
-  counts-tell = tells-of (λ h. record { lanes = h .0; living = h .1 }) (λ o. (o .lanes, o .living)) (tells-both (tells-equal _ _) (tells-equal _ _))
+  counts-tell =
+      tells-field (tells-equal _ _) (λ o. o .lanes) (λ a.
+      tells-field (tells-equal _ _) (λ o. o .living) (λ b.
+      tells-field (tells-equal _ _) (λ o. o .held) (λ c.
+      yes (record { lanes = a; living = b; held = c }))))
 
   -- ---- marks
 

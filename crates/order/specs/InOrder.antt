@@ -11,11 +11,12 @@ use Rattle.model.specs.State.{releaseBatch}
 use Rattle.lane.specs.declared.lane.Lane.{Lane}
 use Rattle.yring.specs.Cursor.{distance}
 use Rattle.lane.specs.Table.{cellAt, laneAt}
-use Rattle.queues.specs.Header.{issued, queueFront, queueCount, freeCount, slots, budget, groupCursor, alive, capacity, firstCursor, fastSlot, laneCount, livingCount}
+use Rattle.queues.specs.Header.{issued, queueFront, queueCount, freeCount, slots, budget, groupCursor, alive, capacity, firstCursor, fastSlot, laneCount, livingCount, heldCount}
 use Rattle.queues.specs.Queue.{queueOf}
 use Rattle.queues.specs.Registry.{freeOf}
 use Rattle.ready.specs.Bits.{bit}
 use Rattle.ready.specs.Ready.{pageWord, groupWord, pageBit, groupBit, nonZero, groupCount}
+use Rattle.store.specs.Held.{walkedHeld}
 use Rattle.order_slot.specs.Clauses.{registeredBelow, livingBelow}
 
 -- ---- tests put together
@@ -197,7 +198,14 @@ slotsTest t = allBelow (issued t) (λ x. slotTest t (laneAt t x) x (count x (que
 
 -- "counts of lanes and living senders are true"
 unfoldable pub countsTest : List ℕ → Bool
-countsTest t = both (eqb (laneCount t) (registeredBelow t (issued t))) (eqb (livingCount t) (livingBelow t (issued t)))
+countsTest t =
+    every (
+    eqb (laneCount t) (registeredBelow t (issued t))
+    ∷ eqb (livingCount t) (livingBelow t (issued t))
+    -- document 02, N6: "A store whose held count is untrue is not in order."
+    ∷ eqb (heldCount t) (walkedHeld t)
+    ∷ []
+    )
 
 -- ---- marks: "A page or group exists once a slot of it has been issued."
 

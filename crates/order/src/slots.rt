@@ -10,7 +10,7 @@ use order_slot::slot as each;
 use queues::header::Header;
 use yring::release;
 
-// Whether every issued slot is in order, and the counts of lanes and living senders are true.
+// Whether every issued slot is in order, and the counts of lanes, living senders and held items are true.
 pub(crate) fn slots_hold(t: &[u64], queued: &[u64; 128], free: &[u64; 128]) -> bool
     requires { ⌜ Shaped (now t) × Capacity (capacity (now t)) ⌝ }
     ensures { λ a. ⌜ Tells (SlotsHold (now (t .entry)) (has (now (queued .entry))) (has (now (free .entry))) × CountsHold (now (t .entry))) a ⌝ }
@@ -19,6 +19,7 @@ pub(crate) fn slots_hold(t: &[u64], queued: &[u64; 128], free: &[u64; 128]) -> b
     let n = t[Header::ISSUED];
     let mut lanes = 0;
     let mut living = 0;
+    let mut held = 0;
     let mut slot = 0;
     while slot < n {
         let l = Lane::load(t, slot);
@@ -29,12 +30,16 @@ pub(crate) fn slots_hold(t: &[u64], queued: &[u64; 128], free: &[u64; 128]) -> b
         }
         lanes += l.registered;
         living += l.living;
+        held += each::held_in(l);
         slot += 1;
     }
     if lanes != t[Header::LANES] {
         return false;
     }
     if living != t[Header::LIVING] {
+        return false;
+    }
+    if held != t[Header::HELD] {
         return false;
     }
     true

@@ -10,13 +10,14 @@ use Rattle.lane.specs.declared.lane.Lane.{Lane}
 use Rattle.yring.specs.Cursor.{Capacity}
 use Rattle.lane.specs.Order.{InOrder}
 use Rattle.lane.specs.Table.{cellAt, laneAt}
-use Rattle.queues.specs.Header.{issued, queueFront, queueCount, freeCount, slots, budget, groupCursor, alive, capacity, firstCursor, fastSlot, laneCount, livingCount}
+use Rattle.queues.specs.Header.{issued, queueFront, queueCount, freeCount, slots, budget, groupCursor, alive, capacity, firstCursor, fastSlot, laneCount, livingCount, heldCount}
 use Rattle.queues.specs.Queue.{queueOf}
 use Rattle.queues.specs.Registry.{freeOf}
 use Rattle.ready.specs.Bits.{bit}
 use Rattle.ready.specs.Ready.{pageWord, groupWord, pageBit, groupBit, nonZero, groupCount}
 use Rattle.store.specs.View.{flag}
 use Rattle.store.specs.Order.{Flag, Flags, Fast}
+use Rattle.store.specs.Held.{walkedHeld}
 
 -- "Stores have at least the lengths that the opening asked for."
 pub record LengthsHold (t r : List ℕ) : Type 0 where
@@ -97,6 +98,8 @@ livingBelow t n = length (keep (λ x. flag (laneAt t x .living)) (from 0 n))
 pub record CountsHold (t : List ℕ) : Type 0 where
   pub lanes : laneCount t ≡ registeredBelow t (issued t)
   pub living : livingCount t ≡ livingBelow t (issued t)
+  -- document 02, N6: "A store whose held count is untrue is not in order"; "the outer test of order still walks"
+  pub held : heldCount t ≡ walkedHeld t
 
 -- a page's word
 pub record PageHolds (t : List ℕ) (page : ℕ) : Type 0 where

@@ -6,6 +6,7 @@ ghost use Rattle.queues.specs.Header.{Shaped, issued, capacity, fastSlot, budge
 ghost use Rattle.queues.specs.Queue.{queueOf};
 ghost use Rattle.ready.specs.Ready.{pageBit};
 ghost use Rattle.store.specs.Order.{Fast};
+ghost use Rattle.store.specs.Held.{heldIn};
 ghost use Rattle.order_slot.specs.Tells.{Tells};
 ghost use Rattle.order_slot.specs.Clauses.{RegisteredHolds, UnregisteredHolds, SlotHolds};
 use crate::record;
@@ -13,6 +14,7 @@ use lane::lane::Lane;
 use queues::header::Header;
 use queues::queue;
 use ready::ready::Page;
+use yring::ring;
 
 // Whether a slot's window, if it has one, is the front lane's at `fast_slot` and within the budget.
 fn window_holds(t: &[u64], slot: u64, window: u64) -> bool
@@ -116,4 +118,14 @@ pub fn slot_holds(t: &[u64], l: Lane, slot: u64, queued: u64, free: u64, batch: 
         return registered_holds(t, l, slot, queued, free, batch);
     }
     unregistered_holds(l.key.generation, queued, free)
+}
+
+// The items in a slot's ring; of a slot without a lane the cursors say nothing.
+pub fn held_in(l: Lane) -> u64
+    ensures { λ n. ⌜ n ≡ heldIn l ⌝ }
+{
+    if l.registered != 1 {
+        return 0;
+    }
+    ring::distance(l.tail, l.head)
 }

@@ -6,6 +6,7 @@ use lib.ListN.{length}
 use Rattle.model.specs.declared.OpenedChannel.{OpenedChannel}
 use Rattle.model.specs.declared.Opening.{Opening}
 use Rattle.lane.specs.Table.{cellAt, head, setHead}
+use Rattle.yring.specs.Cursor.{after, distance}
 use Rattle.yring.specs.Lists.{scatter}
 use Rattle.queues.specs.declared.header.Header.{Header}
 
@@ -61,6 +62,10 @@ livingCount t = head t 14
 abbrev pub openingNumber : List ℕ → ℕ
 openingNumber t = head t 15
 
+-- document 02, N6: the items in the rings of registered lanes
+abbrev pub heldCount : List ℕ → ℕ
+heldCount t = head t 16
+
 -- document 02, N7: what a lane id carries of its opening
 abbrev pub channel : List ℕ → OpenedChannel
 channel t = record { id = channelId t; opening = openingNumber t }
@@ -94,6 +99,16 @@ setLaneCount t v = setHead t 13 v
 
 abbrev pub setLivingCount : List ℕ → ℕ → List ℕ
 setLivingCount t v = setHead t 14 v
+
+abbrev pub setHeldCount : List ℕ → ℕ → List ℕ
+setHeldCount t v = setHead t 16 v
+
+-- One item more is held, and n fewer. Both wrap, as cursors do, and no call on stores in order comes to that: store, proofs/HeldLaws.antt (`held-counted-after`).
+abbrev pub heldMore : List ℕ → List ℕ
+heldMore t = setHeldCount t (after (heldCount t) 1)
+
+abbrev pub heldLess : List ℕ → ℕ → List ℕ
+heldLess t n = setHeldCount t (distance (heldCount t) n)
 
 -- what the queue, the free list and the marks ask of the header; over numbers
 pub record Shape (issued front count free slots cursor long : ℕ) : Type 0 where
@@ -132,12 +147,13 @@ newHeader o C =
       lanes = 0;
       living = 0;
       opening = o .number;
+      held = 0;
     }
 
 abbrev pub headerList : Header → List ℕ
 headerList h =
     h .issued ∷ h .front ∷ h .queued ∷ h .free ∷ h .slots ∷ h .budget ∷ h .group ∷ h .alive ∷ h .capacity ∷ h .channel
-    ∷ h .cursor ∷ h .generation ∷ h .fast ∷ h .lanes ∷ h .living ∷ h .opening ∷ []
+    ∷ h .cursor ∷ h .generation ∷ h .fast ∷ h .lanes ∷ h .living ∷ h .opening ∷ h .held ∷ []
 
 -- the table with these words at its start
 unfoldable pub putHeader : List ℕ → Header → List ℕ

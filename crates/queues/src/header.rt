@@ -3,9 +3,10 @@ ghost use mathlib.Core.Path.{_≡_};
 ghost use Prim.Native.Nat.{_≤_};
 ghost use lib.ListN.{length};
 ghost use Rattle.lane.specs.Table.{headerWords};
-ghost use Rattle.queues.specs.Header.{channel, newHeader, headerList, putHeader};
+ghost use Rattle.queues.specs.Header.{channel, heldMore, heldLess, newHeader, headerList, putHeader};
 use model::OpenedChannel;
 use model::Opening;
+use yring::ring;
 
 pub struct Header {
     // Slots 0 to issued - 1 have been issued.
@@ -34,6 +35,8 @@ pub struct Header {
     pub living: u64,
     // The opening number, which lane ids carry beside the channel's id.
     pub opening: u64,
+    // The items in the rings of registered lanes.
+    pub held: u64,
 }
 
 impl Header {
@@ -69,8 +72,10 @@ impl Header {
 
     pub const OPENING: usize = 15;
 
+    pub const HELD: usize = 16;
+
     // The words that the header takes.
-    pub const WORDS: usize = 16;
+    pub const WORDS: usize = 17;
 
     // `READY_POLL_INTERVAL`
     pub const POLL_BUDGET: u64 = 64;
@@ -96,11 +101,12 @@ impl Header {
             lanes: 0,
             living: 0,
             opening: opening.number,
+            held: 0,
         }
     }
 
     // The header's words, in the order of their places.
-    fn words(self) -> [u64; 16]
+    fn words(self) -> [u64; 17]
         ensures { λ r. ⌜ r ≡ headerList self ⌝ }
     {
         [
@@ -120,6 +126,7 @@ impl Header {
             self.lanes,
             self.living,
             self.opening,
+            self.held,
         ]
     }
 
@@ -132,6 +139,22 @@ impl Header {
             id: table[Header::CHANNEL],
             opening: table[Header::OPENING],
         }
+    }
+
+    // One item more is held.
+    pub fn held_more(table: &mut [u64])
+        requires { ⌜ headerWords ≤ length (now table) ⌝ }
+        ensures { λ _. ⌜ now (table .exit) ≡ heldMore (now (table .entry)) ⌝ }
+    {
+        table[Header::HELD] = ring::after(table[Header::HELD], 1);
+    }
+
+    // So many items fewer are held.
+    pub fn held_less(table: &mut [u64], n: u64)
+        requires { ⌜ headerWords ≤ length (now table) ⌝ }
+        ensures { λ _. ⌜ now (table .exit) ≡ heldLess (now (table .entry)) n ⌝ }
+    {
+        table[Header::HELD] = ring::distance(table[Header::HELD], n);
     }
 
     // The first words of the table store.

@@ -1,11 +1,12 @@
 -- What the code's ways out of a plain and of a lone lane's fair receive have for the definitions' parts.
 -- Assumes nothing.
-use mathlib.Core.Path.{_≡_, refl, sym, ap, ap₂, _∙_}
+use Rattle.store.specs.Order.{but-held}
+use mathlib.Core.Path.{_≡_, sym, ap, ap₂, _∙_}
 use mathlib.Core.List.{List}
 use Prim.Native.Nat.{ℕ, _-_, _≤_, _<_}
 use native.Mathlib.Omega.{arith}
 use lib.ListN.{length}
-use borrow.Author.Tests.{eq-eqb, ne-eqb, lt-ltb, le-ltb}
+use borrow.Author.Tests.{ne-eqb, lt-ltb, le-ltb}
 use Rattle.yring.specs.declared.ring.Ring.{Ring}
 use Rattle.lane.specs.declared.consumer.Taken.{Taken}
 use Rattle.lane.specs.declared.lane.Lane.{Lane}
@@ -61,12 +62,12 @@ module _ (t r : List ℕ) (l : Lane) (k : FastOpen t r l) where
 
   pub open-sizes : (l .key .slot < 8192) × (capacity t ≤ 65536)
   open-sizes =
-      let turning = turning-of t r (k .in-order) in
+      let turning = turning-of t r (but-held (k .in-order)) in
       (rw open-slot (omega (arith, slot-below t turning (fastSlot t) (k .is-issued), turning .shaped .slots-most)), turning .power .most)
 
   pub open-within : (ring : Ring) → ring ≡ newRing (l .key .slot) (capacity t) → Within ring (length r) × (0 < l .window)
   open-within ring e = (
-    rw (open-ring ring e) (ring-in t (turning-of t r (k .in-order)) (fastSlot t) (k .is-issued) r (ringed-of t r (k .in-order))),
+    rw (open-ring ring e) (ring-in t (turning-of t r (but-held (k .in-order))) (fastSlot t) (k .is-issued) r (ringed-of t r (but-held (k .in-order)))),
     omega (arith, k .is-open),
   )
 

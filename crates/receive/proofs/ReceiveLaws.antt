@@ -9,7 +9,6 @@ use borrow.Author.Tests.{eq-eqb, ne-eqb, eqb-true, lt-ltb}
 use lib.Dec.{eqb, ltb}
 use lib.ListN.{length, set}
 use lib.Seq.{set-comm}
-use Rattle.model.specs.State.{registeredLanes}
 use Rattle.model.specs.declared.LaneKey.{LaneKey}
 use Rattle.yring.specs.declared.ring.Ring.{Ring}
 use Rattle.lane.specs.declared.lane.Lane.{Lane}
@@ -28,24 +27,20 @@ use Rattle.queues.specs.Header.{Shaped, issued, slots, queueCount, budget, capa
 use Rattle.queues.proofs.QueueLaws.{header-in}
 use Rattle.queues.specs.Queue.{frontSlot}
 use Rattle.ready.specs.Ready.{collectReady}
-use Rattle.store.specs.View.{flag, slotAt, view}
-use Rattle.store.specs.Order.{StoreInOrder}
+use Rattle.store.specs.Order.{StoreInOrder, but-held}
 use Rattle.turns.specs.declared.turn.Took.{Took}
 use Rattle.turns.specs.declared.turn.Took.the-variants as Took
 use Rattle.turns.specs.declared.turn.Turn.{Turn}
 use Rattle.turns.specs.declared.turn.Turn.the-variants as Turn
-use Rattle.turns.specs.Turn.{registeredIn, Turning, Ringed, frontLane, turnBy, pollFront, afterTurn, turnsWithin, turns}
+use Rattle.turns.specs.Turn.{Turning, frontLane, turnBy, pollFront, afterTurn, turnsWithin, turns}
 use Rattle.turns.specs.Drained.{Idle, Rests}
-use Rattle.receive.specs.Receive.{elseTake, takeFromWindow, fastTook, Affords, takeFast, takeIfPopped, takeFrontWindow, pollLoop, tryRecvRefill, takeOne, takeLone, takeFair}
-use Rattle.store.proofs.ViewLaws.{slot-in}
-use Rattle.store.proofs.CountLaws.{passing-same}
-use Rattle.store.proofs.StoreLaws.{free-slot}
+use Rattle.receive.specs.Receive.{elseTake, takeFromWindow, fastTook, Affords, takeFast, takeIfPopped, takeFrontWindow, pollLoop, tryRecvRefill, takeLone, takeFair}
 use Rattle.store.proofs.LaneFields.{Flagged, flagged-pop-fast, flagged-grant, flagged-pop-fair}
 use Rattle.turns.proofs.TurnLaws.{slot-below, front-issued, front-ordered, turning-budget}
-use Rattle.turns.proofs.FrontLaws.{Keeps, keeps-self, keeps-then, Turned, polledFront, poll-front-turned, turns-keep}
+use Rattle.turns.proofs.FrontLaws.{Keeps, keeps-then, Turned, polledFront, poll-front-turned, turns-keep}
 use Rattle.turns.proofs.CollectKeeps.{collect-keeps}
 use Rattle.turns.specs.Due.{collectIfDue}
-use Rattle.turns.proofs.DueLaws.{turning-of, ringed-of, due-keeps}
+use Rattle.turns.proofs.DueLaws.{turning-of, due-keeps}
 
 -- ---- windows
 
@@ -68,7 +63,7 @@ module _ (t r : List ℕ) (o : StoreInOrder t r) (h : fastSlot t < issued t) (e 
       let some = pop-open (newRing (fastSlot t) (capacity t)) r (laneAt t (fastSlot t)) item m p in
       let w : 0 < laneAt t (fastSlot t) .window = omega (arith, some) in
       let at = pop-slot (newRing (fastSlot t) (capacity t)) r (laneAt t (fastSlot t)) (Popped.Item item m) p ∙ slot-of-lane t (fastSlot t) in
-      (o .stores .shaped, rw at (slot-below t (turning-of t r o) (fastSlot t) h), omega (arith, w, o .stores .windows (fastSlot t) h e w .within))
+      (o .stores .shaped, rw at (slot-below t (turning-of t r (but-held o)) (fastSlot t) h), omega (arith, w, o .stores .windows (fastSlot t) h e w .within))
 
 -- a window granted is within the budget
 pub granted-within : (C b : ℕ) (l : Lane) → C ≤ 65536 → InOrder C l → grantFast C b l .window ≤ b

@@ -14,7 +14,7 @@ use Rattle.lane.specs.declared.lane.Popped.the-variants as Popped
 use Rattle.yring.specs.Ring.{newRing}
 use Rattle.lane.specs.Lane.{popFast, grantFast, popLone}
 use Rattle.lane.specs.Table.{laneAt, putLane}
-use Rattle.queues.specs.Header.{setBudget, setFastSlot, issued, queueCount, budget, capacity, channel, fastSlot}
+use Rattle.queues.specs.Header.{setBudget, setFastSlot, issued, queueCount, budget, capacity, channel, fastSlot, heldLess}
 use Rattle.queues.specs.Queue.{frontSlot}
 use Rattle.ready.specs.Ready.{collectReady}
 use Rattle.turns.specs.declared.turn.Took.{Took}
@@ -95,7 +95,7 @@ takeFair t r = elseTake (takeLone (setBudget (collectReady true t) 64) r) (λ u.
 
 -- "Single receives answer item and lane id (channel id, key)." The id carries the opening number too.
 unfoldable pub answerOne : OpenedChannel → Took × List ℕ → Answer × List ℕ
-answerOne channel (Took.Item item k, t) = (Item item (record { channel = channel; key = k }), t)
+answerOne channel (Took.Item item k, t) = (Item item (record { channel = channel; key = k }), heldLess t 1)
 answerOne channel (Took.Nothing, t) = nothingTaken t
 
 unfoldable pub tryRecv : List ℕ → List ℕ → Words

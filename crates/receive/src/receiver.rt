@@ -4,10 +4,11 @@
 // one that was opened for this item, `take_if_popped` the same if it gave one; `take_front_window` opens one on the
 // front lane (plain), `take_lone` on the only queued lane (fair), whose item `take_from_lone_window` takes.
 ghost use mathlib.Core.Path.{_≡_};
-ghost use Prim.Native.Nat.{_<_};
+ghost use Prim.Native.Nat.{_≤_, _<_};
 ghost use lib.ListN.{length};
 ghost use Rattle.lane.specs.Lane.{popFair};
 ghost use Rattle.lane.specs.Order.{poppedLane};
+ghost use Rattle.lane.specs.Table.{headerWords};
 ghost use Rattle.yring.specs.Ring.{Within};
 ghost use Rattle.lane.specs.declared.lane.Popped.the-variants as Popped;
 ghost use Rattle.queues.specs.Header.{Shaped, slots, budget, channel};
@@ -157,20 +158,23 @@ fn take_fair(t: &mut [u64], r: &[u64]) -> Took
     }
 }
 
-// The item with its lane's id, or Empty or Disconnected.
+// The item with its lane's id, held no more, or Empty or Disconnected.
 fn answer_one(t: &mut [u64], channel: OpenedChannel, took: Took) -> Answer
-    requires { ⌜ Rests (took, now t) ⌝ }
+    requires { ⌜ (headerWords ≤ length (now t)) × Rests (took, now t) ⌝ }
     ensures { λ a. ⌜ (a, now (t .exit)) ≡ answerOne channel (took, now (t .entry)) ⌝ }
 {
     match took {
         Took::Nothing => drained::nothing_taken(t),
-        Took::Item { item, key } => Answer::Item {
-            item: item,
-            lane: LaneId {
-                channel: channel,
-                key: key,
-            },
-        },
+        Took::Item { item, key } => {
+            Header::held_less(t, 1);
+            Answer::Item {
+                item: item,
+                lane: LaneId {
+                    channel: channel,
+                    key: key,
+                },
+            }
+        }
     }
 }
 

@@ -18,7 +18,7 @@ use Rattle.yring.specs.Lists.{written}
 use Rattle.yring.specs.Ring.{newRing, items}
 use Rattle.lane.specs.Lane.{refill, endFullBurst, chunkLimit, moveChunk}
 use Rattle.lane.specs.Table.{putLane}
-use Rattle.queues.specs.Header.{setBudget, queueCount, budget, capacity}
+use Rattle.queues.specs.Header.{setBudget, queueCount, budget, capacity, heldLess}
 use Rattle.ready.specs.Ready.{collectReady}
 use Rattle.store.specs.declared.refusal.Verdict.{Verdict}
 use Rattle.store.specs.declared.refusal.Verdict.the-variants.{Pass, Refuse}
@@ -140,7 +140,7 @@ batchVerdict t limit room = andThen (receiverVerdict t) (roomVerdict limit room)
 
 -- "Limit 0 answers 0 items, even with no senders, and still gives back."
 unfoldable pub answerItems : ℕ → ℕ → List ℕ → Answer × List ℕ
-answerItems limit n t = cond (eqb n 0) (cond (eqb limit 0) (Items 0, t) (nothingTaken t)) (Items n, t)
+answerItems limit n t = cond (eqb n 0) (cond (eqb limit 0) (Items 0, t) (nothingTaken t)) (Items n, heldLess t n)
 
 -- what the answer asks of the table
 abbrev pub RestsAt : ℕ → ℕ → List ℕ → Type 0

@@ -4,6 +4,7 @@ ghost use Prim.Native.Nat.{_+_, _≤_, _<_};
 ghost use lib.ListN.{length};
 ghost use Rattle.yring.specs.Cursor.{Capacity};
 ghost use Rattle.lane.specs.Order.{InOrder};
+ghost use Rattle.lane.specs.Table.{headerWords};
 ghost use Rattle.queues.specs.Header.{Shaped, slots, queueCount, budget, capacity};
 ghost use Rattle.store.specs.Order.{StoreInOrder};
 ghost use Rattle.turns.specs.Turn.{Turning, Ringed};
@@ -198,12 +199,13 @@ pub fn batch_verdict(t: &[u64], limit: u64, room: u64) -> Verdict
     }
 }
 
-// The number of items; Empty or Disconnected where some were asked for and there were none.
+// The number of items, which are held no more; Empty or Disconnected where some were asked for and there were none.
 pub fn answer_items(t: &mut [u64], limit: u64, received: u64) -> Answer
-    requires { ⌜ RestsAt limit received (now t) ⌝ }
+    requires { ⌜ (headerWords ≤ length (now t)) × RestsAt limit received (now t) ⌝ }
     ensures { λ a. ⌜ (a, now (t .exit)) ≡ answerItems limit received (now (t .entry)) ⌝ }
 {
     if received != 0 {
+        Header::held_less(t, received);
         return Answer::Items { count: received };
     }
     if limit == 0 {

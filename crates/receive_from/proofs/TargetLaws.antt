@@ -18,10 +18,10 @@ use Rattle.lane.specs.Table.{laneAt, putLane}
 use Rattle.lane.proofs.OrderLaws.{refundable, refill-fills}
 use Rattle.lane.proofs.AtHandLaws.{refill-filled}
 use Rattle.lane.proofs.TableLaws.{frames, slot-of-lane}
-use Rattle.queues.specs.Header.{Shaped, issued, slots, queueCount, freeCount, capacity, channel, laneCount}
+use Rattle.queues.specs.Header.{Shaped, issued, slots, queueCount, freeCount, capacity, channel, laneCount, heldLess}
 use Rattle.queues.specs.Queue.{remove}
 use Rattle.queues.proofs.QueueLaws.{queue-has-room}
-use Rattle.store.specs.Order.{StoreInOrder}
+use Rattle.store.specs.Order.{StoreInOrder, but-held}
 use Rattle.turns.specs.Turn.{Turning, retireIf}
 use Rattle.receive_from.specs.Target.{AtHand, settleTarget, queueTarget, keepTarget, targetTook, takeFrom}
 use Rattle.store.proofs.LaneFields.{Fixed, Flagged, flagged, RefillKept, refill-kept, flagged-targeted}
@@ -33,7 +33,7 @@ use lib.Dec.{eqb}
 
 module _ (t r : List ℕ) (o : StoreInOrder t r) (x : ℕ) (h : x < issued t) (e : laneAt t x .registered ≡ 1) where
   turning : Turning t
-  turning = turning-of t r o
+  turning = turning-of t r (but-held o)
 
   ordered : InOrder (capacity t) (laneAt t x)
   ordered = o .stores .lanes x h e
@@ -45,7 +45,7 @@ module _ (t r : List ℕ) (o : StoreInOrder t r) (x : ℕ) (h : x < issued t) (e
   target-below = slot-below t turning x h
 
   pub target-ring : Within (newRing x (capacity t)) (length r)
-  target-ring = ring-in t turning x h r (ringed-of t r o)
+  target-ring = ring-in t turning x h r (ringed-of t r (but-held o))
 
   pub settled-room : (found : EmptyLane) → refill (laneAt t x) ≡ Refill.Idle found
       → Shaped t × (found .lane .key .slot < slots t) × (freeCount t < slots t) × (0 < laneCount t)
@@ -108,13 +108,13 @@ module _ (t r : List ℕ) (l : Lane) (k : AtHand t r l) where
       go true = simp (ne-eqb (popped .queued) 0 (λ e. k .is-queued (sym (ap (λ (z : Flagged). z .4) still) ∙ e)))
       go false = refl
 
-  pub hand-channel : channel (putLane t popped) ≡ channel t
+  pub hand-channel : channel (heldLess (putLane t popped) 1) ≡ channel t
   hand-channel = simp frames
 
-  pub hand-taken : _≡_ {A = Answer × List ℕ} (Item (popTargeted (newRing x (capacity t)) r l .item) (record { channel = channel t; key = l .key }), putLane t popped) (takeFrom t r x)
+  pub hand-taken : _≡_ {A = Answer × List ℕ} (Item (popTargeted (newRing x (capacity t)) r l .item) (record { channel = channel t; key = l .key }), heldLess (putLane t popped) 1) (takeFrom t r x)
   unfolding targetTook
   hand-taken =
-      ap (λ (u : List ℕ). (Item (popTargeted (newRing x (capacity t)) r l .item) (record { channel = channel t; key = l .key }), u)) stored
+      ap (λ (u : List ℕ). (Item (popTargeted (newRing x (capacity t)) r l .item) (record { channel = channel t; key = l .key }), heldLess u 1)) stored
       ∙ take-from-is t r x (Refill.Ready l) (sym (ap refill (k .is-lane)) ∙ refill-filled (capacity t) l (k .filled))
 
 module _ (t r : List ℕ) (o : StoreInOrder t r) (x : ℕ) (h : x < issued t) (e : laneAt t x .registered ≡ 1) (l : Lane) (q : l ≡ laneAt t x) where

@@ -16,7 +16,7 @@ use Rattle.yring.specs.Ring.{newRing}
 use Rattle.lane.specs.Order.{Filled}
 use Rattle.lane.specs.Lane.{refill, popTargeted}
 use Rattle.lane.specs.Table.{laneAt, putLane}
-use Rattle.queues.specs.Header.{issued, capacity, channel}
+use Rattle.queues.specs.Header.{issued, capacity, channel, heldLess}
 use Rattle.queues.specs.Queue.{pushBack, remove}
 use Rattle.store.specs.Order.{StoreInOrder}
 use Rattle.store.specs.Refusal.{idVerdict}
@@ -54,7 +54,7 @@ unfoldable pub targetTook : List ℕ → List ℕ → ℕ → Refill → Answer 
 targetTook t r x (Refill.Idle found) = settleTarget t found
 targetTook t r x (Refill.Ready l) = (
   Item (popTargeted (newRing x (capacity t)) r l .item) (record { channel = channel t; key = l .key }),
-  keepTarget t (popTargeted (newRing x (capacity t)) r l .lane),
+  heldLess (keepTarget t (popTargeted (newRing x (capacity t)) r l .lane)) 1,
 )
 
 unfoldable pub takeFrom : List ℕ → List ℕ → ℕ → Answer × List ℕ

@@ -73,6 +73,7 @@ fn take_refilled(t: &mut [u64], r: &[u64], slot: u64) -> Answer
             let key = lane.key;
             let taken = lane.pop_targeted(ring, r);
             keep_target(t, taken.lane);
+            Header::held_less(t, 1);
             Answer::Item {
                 item: taken.item,
                 lane: LaneId {
@@ -92,6 +93,7 @@ fn take_at_hand(t: &mut [u64], r: &[u64], l: Lane) -> Answer
     let key = l.key;
     let taken = l.pop_targeted(Ring::new(key.slot, t[Header::CAPACITY]), r);
     taken.lane.store(t);
+    Header::held_less(t, 1);
     let channel = Header::channel(t);
     Answer::Item {
         item: taken.item,

@@ -11,6 +11,7 @@ use Rattle.model.specs.declared.Answer.{Answer}
 use Rattle.model.specs.declared.Answer.the-variants.{Stopped}
 use Rattle.model.specs.Receive as rules
 use Rattle.lane.specs.declared.lane.Lane.{Lane}
+use Rattle.queues.specs.Header.{heldLess}
 use Rattle.yring.specs.Lists.{written}
 use Rattle.yring.specs.Ring.{acceptedPrefix}
 use Rattle.store.specs.Words.{Words, unlessRefused, withRings}
@@ -63,7 +64,7 @@ drainWhile t r out limit bound =
 
 -- "it answers the count and whether it stopped so. A stop at count 0 is never Empty."
 unfoldable pub answerWhile : ℕ → Drained → List ℕ → Answer × List ℕ
-answerWhile limit m t = cond (m .rejected) (Stopped (m .received), t) (answerItems limit (m .received) t)
+answerWhile limit m t = cond (m .rejected) (Stopped (m .received), heldLess t (m .received)) (answerItems limit (m .received) t)
 
 unfoldable pub whileAnswer : List ℕ → List ℕ → ℕ → ℕ → Answer × List ℕ
 whileAnswer t r limit bound =

@@ -4,6 +4,7 @@ ghost use mathlib.Core.Path.{_≡_};
 ghost use Prim.Native.Nat.{_+_, _≤_, _<_};
 ghost use mathlib.Core.Bool.{false};
 ghost use lib.ListN.{length};
+ghost use Rattle.lane.specs.Table.{headerWords};
 ghost use Rattle.store.specs.Order.{StoreInOrder};
 ghost use Rattle.turns.specs.Turn.{Turning, Ringed};
 ghost use Rattle.receive_batch.specs.Batch.{Fronts, RestsAt};
@@ -89,13 +90,14 @@ fn drain_while(t: &mut [u64], r: &[u64], out: &mut [u64], limit: u64, bound: u64
     }
 }
 
-// The number of items and that it stopped; else as a batch answers.
+// The number of items, which are held no more, and that it stopped; else as a batch answers.
 fn answer_while(t: &mut [u64], limit: u64, drained: Drained) -> Answer
-    requires { ⌜ (drained .rejected ≡ false → RestsAt limit (drained .received) (now t)) ⌝ }
+    requires { ⌜ (headerWords ≤ length (now t)) × (drained .rejected ≡ false → RestsAt limit (drained .received) (now t)) ⌝ }
     ensures { λ a. ⌜ (a, now (t .exit)) ≡ answerWhile limit drained (now (t .entry)) ⌝ }
 {
     let count = drained.received;
     if drained.rejected {
+        Header::held_less(t, count);
         return Answer::Stopped { count: count };
     }
     batch::answer_items(t, limit, count)

@@ -4,7 +4,9 @@ use mathlib.Core.Path.{_≡_, refl, ap, _∙_}
 use mathlib.Core.List.{List, [], _∷_}
 use Prim.Native.Nat.{ℕ}
 use Rattle.model.specs.declared.ReceiveCall.{ReceiveCall}
+use Rattle.model.specs.declared.ControlCall.the-variants.{CountHeld}
 use Rattle.model.specs.declared.Call.{Call}
+use Rattle.model.specs.declared.Call.the-variants.{Control}
 use Rattle.model.specs.Runs.{afterList}
 use Rattle.model.specs.Receive.{receiveOutcome}
 use Rattle.model.specs.Rules.{outcome}
@@ -14,9 +16,12 @@ use Rattle.store.specs.View.{view}
 use Rattle.store.specs.Order.{StoreInOrder}
 use Rattle.store.specs.Words.{Words}
 use Rattle.store.proofs.RefusalLaws.{seen}
+use Rattle.store.proofs.HeldLaws.{held-walked}
+use Rattle.all_lanes.proofs.CountHeldLaws.{count-held-as-walked}
+use Rattle.control.specs.Calls.{controlWords}
 use Rattle.opening.proofs.OpeningLaws.{open-in-order}
-use Rattle.refinement.specs.Runs.{handsWords, outputWords, callWords, StoreCalls, listsOf, innerCalls, Run, openedStores}
-use Rattle.refinement.specs.RulesOnWords.{StaysInOrder, QueuedKeysKept}
+use Rattle.refinement.specs.Runs.{handsWords, outputWords, callWords, StoreCalls, listsOf, innerCalls, Run, openedStores, storesAfter}
+use Rattle.refinement.specs.RulesOnWords.{StaysInOrder, QueuedKeysKept, HeldWordTrue, HeldAsWalked}
 use Rattle.refinement.proofs.CallLaws as inner
 use Rattle.refinement.proofs.HeaderSteps.{Unwritten}
 use Rattle.refinement.proofs.HeaderKept.{call-leaves}
@@ -62,6 +67,14 @@ module _ (M : StoreCalls) (i : AsInner M) where
   calls-leave {j = j} n w (c ∷ cs) o =
       calls-leave n ((listsOf M .step w c) .1) cs (words-keep (w .0) (w .1) o c)
       ∙ ap (λ (z : Words). head (z .1) j) (i .same-words (w .0) (w .1) o c) ∙ call-leaves n (w .0) (w .1) c
+
+  pub held-word-true : HeldWordTrue M
+  unfolding HeldWordTrue StaysInOrder
+  held-word-true x = let end = storesAfter M x in held-walked (end .0) (end .1) (stays-in-order x)
+
+  pub held-as-walked : HeldAsWalked M
+  unfolding HeldAsWalked callWords controlWords
+  held-as-walked t r o = (held-walked t r o, i .same-words t r o (Control CountHeld) ∙ count-held-as-walked t r o)
 
   pub queued-keys-kept : QueuedKeysKept M
   unfolding QueuedKeysKept

@@ -26,7 +26,7 @@ use Rattle.lane.proofs.HeldLaws.{move-chunk-takes-first, refill-is}
 use Rattle.queues.specs.Header.{budget, capacity}
 use Rattle.queues.specs.Queue.{queueOf, frontSlot, popFront}
 use Rattle.store.specs.View.{slotAt, view}
-use Rattle.store.specs.Order.{Stores, StoreInOrder}
+use Rattle.store.specs.Order.{Stores, InOrderButHeld}
 use Rattle.receive_batch.specs.Batch.{Fronts, fullBudget, chunkItems, gaveChunk, chunkGiven}
 use Rattle.store.proofs.ViewLaws.{slot-in}
 use Rattle.store.proofs.LaneView.{looked-counts}
@@ -90,7 +90,7 @@ end-holds x C r l = go (eqb (l .burst) 64)
 
 -- ---- the chunk
 
-module _ (t r : List ℕ) (o : StoreInOrder t r) (l : Lane) (f : Fronts t l) (n : ℕ) (h : n ≤ chunkLimit (capacity t) l) (b : n ≤ fullBudget (budget t)) where
+module _ (t r : List ℕ) (o : InOrderButHeld t r) (l : Lane) (f : Fronts t l) (n : ℕ) (h : n ≤ chunkLimit (capacity t) l) (b : n ≤ fullBudget (budget t)) where
   abbrev C : ℕ
   C = capacity t
 
@@ -200,7 +200,7 @@ module _ (t r : List ℕ) (o : StoreInOrder t r) (l : Lane) (f : Fronts t l) (n 
   pub chunk-owes : slot .unreleased < releaseBatch C
   chunk-owes = omega (arith, seen-counts .0, chunk-filled t l f .order .counts .unreleased-below)
 
-  chunk-ordered : Ordered (given (view t r) x q n) → StoreInOrder (chunkGiven t n l) r
+  chunk-ordered : Ordered (given (view t r) x q n) → InOrderButHeld (chunkGiven t n l) r
   unfolding chunkGiven gaveChunk
   chunk-ordered k = record { stores = stored; ordered = subst Ordered (sym chunk-view) k }
     where
@@ -211,10 +211,10 @@ module _ (t r : List ℕ) (o : StoreInOrder t r) (l : Lane) (f : Fronts t l) (n 
   unfolding view
   queue-seen = chunk-queue
 
-  pub chunk-in-order : 1 ≤ n → StoreInOrder (chunkGiven t n l) r
+  pub chunk-in-order : 1 ≤ n → InOrderButHeld (chunkGiven t n l) r
   chunk-in-order some = chunk-ordered (given-ordered n (view t r) x q queue-seen (chunk-fits some) (o .ordered))
 
   -- a part of a chunk of c, none of it too
-  pub part-in-order : (c : ℕ) → ChunkFits (view t r) x c → n < c → StoreInOrder (chunkGiven t n l) r
+  pub part-in-order : (c : ℕ) → ChunkFits (view t r) x c → n < c → InOrderButHeld (chunkGiven t n l) r
   unfolding view
   part-in-order c fits i = chunk-ordered (part-given-ordered n c (view t r) x q queue-seen fits i chunk-owes (o .ordered))

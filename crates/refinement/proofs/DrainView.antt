@@ -16,7 +16,7 @@ use Rattle.queues.specs.Queue.{queueOf, frontSlot, popFront}
 use Rattle.receive_batch.specs.declared.batch.Front.{Front}
 use Rattle.receive_batch.specs.declared.batch.Front.the-variants as Front
 use Rattle.store.specs.View.{view}
-use Rattle.store.specs.Order.{StoreInOrder}
+use Rattle.store.specs.Order.{InOrderButHeld}
 use Rattle.receive_batch.specs.Batch.{refreshActive, Reached, fullBudget, chunkSize, chunkGiven, HandsAndTable, chunkThen, drainedWithin, drained}
 use Rattle.turns.proofs.DueLaws.{turning-of}
 use Rattle.receive_batch.proofs.LookLaws.{refresh-searched}
@@ -28,11 +28,11 @@ use Rattle.receive_batch.proofs.DrainLaws.{within-next}
 -- the same is handed out, the rules see the same state, and the words are in order
 pub record DrainedAs (r : List ℕ) (d : HandsAndTable) (w : Took) : Type 0 where
   pub alike : (d .0, view (d .1) r) ≡ w
-  pub in-order : StoreInOrder (d .1) r
+  pub in-order : InOrderButHeld (d .1) r
 
 -- the steps that are left do what the rules do with what is left of the limit
 abbrev Goes : List ℕ → ℕ → (List ℕ → ℕ → HandsAndTable) → Type 0
-Goes r n more = (u : List ℕ) (m : ℕ) → m ≤ n → StoreInOrder u r → DrainedAs r (more u m) (takeUpTo m (view u r))
+Goes r n more = (u : List ℕ) (m : ℕ) → m ≤ n → InOrderButHeld u r → DrainedAs r (more u m) (takeUpTo m (view u r))
 
 module _ (r : List ℕ) (s : State) (n left : ℕ) (some : 1 ≤ left) (enough : left ≤ suc n) (more : List ℕ → ℕ → HandsAndTable) (ih : Goes r n more) where
   -- nothing is queued and nothing is ready
@@ -53,7 +53,7 @@ module _ (r : List ℕ) (s : State) (n left : ℕ) (some : 1 ≤ left) (enough :
     one : 1 ≤ c
     one = chunk-some u left l (chunk-filled u l k) some
 
-    chunked : StoreInOrder (chunkGiven u c l) r
+    chunked : InOrderButHeld (chunkGiven u c l) r
     chunked = chunk-in-order u r (a .in-order) l k c (least .2) (least .1) one
 
     queue-seen : (polled s) .queue ≡ frontSlot u ∷ queueOf (popFront u)
@@ -88,7 +88,7 @@ module _ (r : List ℕ) (s : State) (n left : ℕ) (some : 1 ≤ left) (enough :
   chunk-then-alike (Front.None, u) a k = none-left u a k
   chunk-then-alike (Front.Ready l, u) a k = some-left l u a k
 
-drained-within-alike : (n : ℕ) (t r : List ℕ) (left : ℕ) → left ≤ n → StoreInOrder t r → DrainedAs r (drainedWithin n t r left) (takeUpTo left (view t r))
+drained-within-alike : (n : ℕ) (t r : List ℕ) (left : ℕ) → left ≤ n → InOrderButHeld t r → DrainedAs r (drainedWithin n t r left) (takeUpTo left (view t r))
 unfolding drainedWithin takeUpTo
 drained-within-alike zero t r zero h o = record { alike = refl; in-order = o }
 drained-within-alike zero t r (suc left) h o = absurd (omega arith)
@@ -98,6 +98,6 @@ drained-within-alike (suc n) t r (suc left) h o =
     (chunk-then-alike r (view t r) n (suc left) (omega arith) h (λ u m. drainedWithin n u r m) (λ u m i p. drained-within-alike n u r m i p) (refreshActive t) (refresh-alike t r o)
     (refresh-searched t (turning-of t r o) .reached))
 
-pub drained-alike : (t r : List ℕ) (limit : ℕ) → StoreInOrder t r → DrainedAs r (drained t r limit) (takeUpTo limit (view t r))
+pub drained-alike : (t r : List ℕ) (limit : ℕ) → InOrderButHeld t r → DrainedAs r (drained t r limit) (takeUpTo limit (view t r))
 unfolding drained
 drained-alike t r limit o = drained-within-alike limit t r limit (omega arith) o

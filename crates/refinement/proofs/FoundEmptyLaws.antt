@@ -22,7 +22,7 @@ use Rattle.queues.specs.Header.{issued, slots, freeCount, budget, capacity, fas
 use Rattle.queues.specs.Queue.{queueOf}
 use Rattle.ready.specs.Ready.{pageBit}
 use Rattle.store.specs.View.{flag, slotOf, slotAt, view}
-use Rattle.store.specs.Order.{Flags, Stores, StoreInOrder}
+use Rattle.store.specs.Order.{Flags, Stores, InOrderButHeld}
 use Rattle.store.specs.Registry.{retired, retireLane}
 use Rattle.turns.specs.Turn.{retireIf}
 use Rattle.store.proofs.ViewLaws.{slot-in, view-put-lane}
@@ -34,7 +34,7 @@ use Rattle.store.proofs.RetireLaws.{view-retire-lane, step-retire-lane}
 use Rattle.store.proofs.LaneFields.{Fixed}
 use Rattle.refinement.proofs.EmptyLaneLaws.{slot-path, Empties}
 
-module _ (t r : List ℕ) (o : StoreInOrder t r) (x : ℕ) (h : x < issued t) (g : laneAt t x .registered ≡ 1) (found : EmptyLane) (k : Empties t r x found) where
+module _ (t r : List ℕ) (o : InOrderButHeld t r) (x : ℕ) (h : x < issued t) (g : laneAt t x .registered ≡ 1) (found : EmptyLane) (k : Empties t r x found) where
   abbrev l : Lane
   l = found .lane
 
@@ -142,7 +142,7 @@ module _ (t r : List ℕ) (o : StoreInOrder t r) (x : ℕ) (h : x < issued t) (g
         go true = stores-after t r _ r (o .stores) x h (retired l) _ _ (step-retire-lane step l found-slot h room) owes-retired (o .stores .rings-room)
         go false = stores-after t r _ r (o .stores) x h l _ _ step owes-settled (o .stores .rings-room)
 
-    pub settled-in-order : StoreInOrder (retireIf (found .disconnected) u (found .lane)) r
+    pub settled-in-order : InOrderButHeld (retireIf (found .disconnected) u (found .lane)) r
     unfolding view
     settled-in-order =
         record {

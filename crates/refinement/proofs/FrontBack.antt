@@ -19,7 +19,7 @@ use Rattle.queues.specs.Header.{budget, capacity, fastSlot, laneCount, livingCo
 use Rattle.queues.specs.Queue.{queueOf, rotateLeft}
 use Rattle.queues.proofs.QueueLaws.{queue-putLane, shaped-putLane}
 use Rattle.store.specs.View.{view}
-use Rattle.store.specs.Order.{Stores, StoreInOrder}
+use Rattle.store.specs.Order.{Stores, InOrderButHeld}
 use Rattle.turns.specs.Turn.{rotateIf}
 use Rattle.store.proofs.ViewLaws.{view-put-holding, view-rotated, view-budget}
 use Rattle.store.proofs.HeaderWords.{withWord}
@@ -39,7 +39,7 @@ pub record Back (t : List ℕ) (x : ℕ) (m : Lane) : Type 0 where
   pub order : InOrder (capacity t) m
   pub closed : m .window ≡ 0
 
-module _ (t r : List ℕ) (o : StoreInOrder t r) (x : ℕ) (q : List ℕ) (e : queueOf t ≡ x ∷ q) (rotate : Bool) (m : Lane) (k : Back t x m) (b : ℕ) where
+module _ (t r : List ℕ) (o : InOrderButHeld t r) (x : ℕ) (q : List ℕ) (e : queueOf t ≡ x ∷ q) (rotate : Bool) (m : Lane) (k : Back t x m) (b : ℕ) where
   -- the items left
   abbrev left : List ℕ
   left = heldItems (newRing x (capacity t)) r m

@@ -25,7 +25,7 @@ use Rattle.lane.proofs.HeldLaws.{poll-takes-first}
 use Rattle.queues.specs.Header.{issued, budget, capacity}
 use Rattle.queues.specs.Queue.{queueOf}
 use Rattle.store.specs.View.{slotAt, view}
-use Rattle.store.specs.Order.{Stores, StoreInOrder}
+use Rattle.store.specs.Order.{Stores, InOrderButHeld}
 use Rattle.turns.specs.Turn.{lessOne, gaveFront}
 use Rattle.store.proofs.ViewLaws.{slot-in}
 use Rattle.store.proofs.StoreLaws.{issued-ring-in}
@@ -61,7 +61,7 @@ gives-by-poll t r o x h g fair item rotate gave m e =
 
 -- ---- it goes back to its slot, and to the back where its turn is over
 
-module _ (t r : List ℕ) (o : StoreInOrder t r) (x : ℕ) (q : List ℕ) (e : queueOf t ≡ x ∷ q) (fair : Bool) (item : ℕ) (rotate : Bool) (m : Lane) (k : Gives t r x fair item rotate m) where
+module _ (t r : List ℕ) (o : InOrderButHeld t r) (x : ℕ) (q : List ℕ) (e : queueOf t ≡ x ∷ q) (fair : Bool) (item : ℕ) (rotate : Bool) (m : Lane) (k : Gives t r x fair item rotate m) where
   abbrev slot : Slot
   slot = view t r .slotOf x
 
@@ -108,7 +108,7 @@ module _ (t r : List ℕ) (o : StoreInOrder t r) (x : ℕ) (q : List ℕ) (e : q
   unfolding gaveFront
   gave-stores = back-stores t r o x q e rotate m back (lessOne (budget t))
 
-  pub gave-in-order : StoreInOrder (gaveFront t rotate m) r
+  pub gave-in-order : InOrderButHeld (gaveFront t rotate m) r
   unfolding view
   gave-in-order =
       record {

@@ -3,7 +3,7 @@
 -- Assumes nothing.
 use mathlib.Core.Path.{_≡_, refl, _∙_}
 use mathlib.Core.Bool.{Bool, true, false}
-use mathlib.Core.List.{List, [], _∷_}
+use mathlib.Core.List.{List, []}
 use Prim.Native.Nat.{ℕ, zero, suc, _-_}
 use lib.Dec.{eqb, ltb}
 use lib.ListN.{length}
@@ -13,6 +13,8 @@ use Rattle.model.specs.declared.ReceiveCall.the-variants.{TryRecv, TryRecvFair,
 use Rattle.model.specs.declared.Call.{Call}
 use Rattle.model.specs.declared.Call.the-variants.{Sender, Receive, Control}
 use Rattle.model.specs.declared.Answer.the-variants.{Items, Stopped, Empty}
+use Rattle.model.specs.Lists.{either}
+use Rattle.demands.proofs.Counting.{no}
 use Rattle.demands.proofs.LaneIds.{channel-path}
 use Rattle.lane.specs.declared.lane.Lane.{Lane}
 use Rattle.lane.specs.declared.lane.Popped.{Popped}
@@ -26,7 +28,7 @@ use Rattle.yring.specs.Ring.{newRing}
 use Rattle.lane.specs.Lane.{reloadIsEmpty, refill, popTargeted, poll, endFullBurst, moveChunk}
 use Rattle.lane.specs.Table.{head, laneAt, putLane}
 use Rattle.lane.proofs.OrderLaws.{cond-holds}
-use Rattle.queues.specs.Header.{issued, queueFront, queueCount, freeCount, slots, budget, capacity, channelId, openingNumber, channel, firstCursor, firstGeneration, fastSlot, laneCount, livingCount, setBudget, setFastSlot}
+use Rattle.queues.specs.Header.{issued, queueFront, queueCount, freeCount, slots, budget, capacity, channelId, openingNumber, channel, firstCursor, firstGeneration, fastSlot, laneCount, livingCount, heldCount, setBudget, setFastSlot, heldLess}
 use Rattle.queues.specs.Queue.{frontSlot, rotateLeft}
 use Rattle.ready.specs.Ready.{collectReady}
 use Rattle.queues.proofs.QueueLaws.{head-rotated}
@@ -48,9 +50,9 @@ use Rattle.receive_from.specs.Target.{settleTarget, queueTarget, keepTarget, ta
 use Rattle.receive_batch.specs.Batch.{lookBy, lookFront, afterLook, runDownWithin, runDown, elseFront, refreshActive, fullBudget, chunkSize, gaveChunk, chunkGiven, HandsAndTable, chunkThen, drainedWithin, drained, answerItems, batchAnswer, batchWords}
 use Rattle.receive_while.specs.While.{chunkAdmitted, DrainedWhile, whileThen, drainedWhileWithin, drainedWhile, answerWhile, whileAnswer, whileWords}
 use Rattle.refinement.specs.Runs.{receiveWords, callWords}
-use Rattle.store.proofs.HeaderWords.{placeOf, beside, apart}
+use Rattle.store.proofs.HeaderWords.{placeOf, Beside, beside, apart}
 use Rattle.turns.proofs.FrontLaws.{head-left, head-met, head-gave}
-use Rattle.refinement.proofs.HeaderSteps.{Unwritten, KeptWord, At, at-by, at-put, at-head, at-pushed-back, at-removed, at-marked-if-idle, at-retired, at-slots, at-collected, unless-at, sender-at, control-at, at-release-all}
+use Rattle.refinement.proofs.HeaderSteps.{partsWrite, Unwritten, KeptWord, NotHeld, At, at-by, at-put, at-head, at-held, at-pushed-back, at-removed, at-marked-if-idle, at-retired, at-slots, at-collected, unless-at, sender-at, control-at, at-release-all}
 
 -- of an answer with a table
 abbrev TableAt : {A : Type 0} → KeptWord → A × List ℕ → Type 0
@@ -166,35 +168,35 @@ module _ {c : KeptWord} where
       cond-holds (At c) (eqb (laneAt t x .registered) 1) _ t
       (λ e. cond-holds (At c) (eqb (laneAt t x .paused) 1) _ t (λ f. at-retired-if (reloadIsEmpty (laneAt t x) .empty) t h (reloadIsEmpty (laneAt t x) .lane)) (λ f. h)) (λ e. h)
 
-  at-nothing : (t : List ℕ) → At c t → At c ((nothingTaken t) .1)
+  pub at-nothing : (t : List ℕ) → At c t → At c ((nothingTaken t) .1)
   unfolding nothingTaken emptyOrDrained retireEmptyPausedLanes
   at-nothing t h =
       cond-holds (TableAt c) (eqb (livingCount t) 0) _ (Empty, t)
       (λ e. at-slots retireEmptyPaused at-empty-paused (issued t) 0 t h) (λ e. h)
 
-  at-answer : (channel : OpenedChannel) (took : Took × List ℕ) → At c (took .1) → At c ((answerOne channel took) .1)
+  at-answer : NotHeld c → (channel : OpenedChannel) (took : Took × List ℕ) → At c (took .1) → At c ((answerOne channel took) .1)
   unfolding answerOne
-  at-answer channel (Took.Item item k, t) h = h
-  at-answer channel (Took.Nothing, t) h = at-nothing t h
+  at-answer n channel (Took.Item item k, t) h = at-held t h n _
+  at-answer n channel (Took.Nothing, t) h = at-nothing t h
 
   -- ---- the targeted receive
 
-  at-settled : (t : List ℕ) → At c t → (found : EmptyLane) → At c ((settleTarget t found) .1)
+  pub at-settled : (t : List ℕ) → At c t → (found : EmptyLane) → At c ((settleTarget t found) .1)
   unfolding settleTarget
   at-settled t h found =
       at-retired-if (found .disconnected) _ (at-removed (putLane t (found .lane)) (at-put t h (found .lane)) (found .lane .key .slot)) (found .lane)
 
-  at-kept : (t : List ℕ) → At c t → (l : Lane) → At c (keepTarget t l)
+  pub at-kept : (t : List ℕ) → At c t → (l : Lane) → At c (keepTarget t l)
   unfolding keepTarget queueTarget
   at-kept t h l =
       let p = at-put t h l in
       let q = at-pushed-back _ (at-marked-if-idle _ (at-put t h (withTurn 1 1 0 l)) l) (l .key .slot) in
       cond-holds (At c) (eqb (l .paused) 0) _ (putLane t l) (λ e. cond-holds (At c) (eqb (l .queued) 0) _ (putLane t l) (λ f. q) (λ f. p)) (λ e. p)
 
-  at-target : (t r : List ℕ) → At c t → (x : ℕ) (p : Refill) → At c ((targetTook t r x p) .1)
+  at-target : NotHeld c → (t r : List ℕ) → At c t → (x : ℕ) (p : Refill) → At c ((targetTook t r x p) .1)
   unfolding targetTook
-  at-target t r h x (Refill.Idle found) = at-settled t h found
-  at-target t r h x (Refill.Ready l) = at-kept t h (popTargeted (newRing x (capacity t)) r l .lane)
+  at-target n t r h x (Refill.Idle found) = at-settled t h found
+  at-target n t r h x (Refill.Ready l) = at-held _ (at-kept t h (popTargeted (newRing x (capacity t)) r l .lane)) n _
 
   -- ---- the batch
 
@@ -257,16 +259,19 @@ module _ {c : KeptWord} where
       cond-holds (TableAt c) (eqb left 0) ([], t) _ (λ e. h)
       (λ e. at-chunk-then (refreshActive t) r left _ (at-refresh t h) (λ u m k. at-drained-within n u r m k))
 
-  at-items : (limit n : ℕ) (t : List ℕ) → At c t → At c ((answerItems limit n t) .1)
+  at-items : NotHeld c → (limit n : ℕ) (t : List ℕ) → At c t → At c ((answerItems limit n t) .1)
   unfolding answerItems
-  at-items limit n t h =
-      cond-holds (TableAt c) (eqb n 0) _ (Items n, t) (λ e. cond-holds (TableAt c) (eqb limit 0) (Items 0, t) (nothingTaken t) (λ f. h) (λ f. at-nothing t h)) (λ e. h)
+  at-items e limit n t h =
+      cond-holds (TableAt c) (eqb n 0) _ (Items n, heldLess t n) (λ f. cond-holds (TableAt c) (eqb limit 0) (Items 0, t) (nothingTaken t) (λ g. h) (λ g. at-nothing t h)) (λ f. at-held t h e _)
 
-  at-batch : (t r : List ℕ) (limit : ℕ) → At c t → At c ((batchAnswer t r limit) .1)
-  unfolding batchAnswer drained
-  at-batch t r limit h =
-      let d = drainedWithin limit t r limit in
-      at-items limit (length (d .0)) (releaseAll (d .1)) (at-release-all (d .1) (at-drained-within limit t r limit h))
+  -- a batch up to its answer
+  pub at-released : (t r : List ℕ) (limit : ℕ) → At c t → At c (releaseAll ((drained t r limit) .1))
+  unfolding drained
+  at-released t r limit h = at-release-all _ (at-drained-within limit t r limit h)
+
+  at-batch : NotHeld c → (t r : List ℕ) (limit : ℕ) → At c t → At c ((batchAnswer t r limit) .1)
+  unfolding batchAnswer
+  at-batch n t r limit h = at-items n limit (length ((drained t r limit) .0)) (releaseAll ((drained t r limit) .1)) (at-released t r limit h)
 
   at-while-then : (f : Front × List ℕ) (r : List ℕ) (bound left : ℕ) (more : List ℕ → ℕ → DrainedWhile) → At c (f .1) → ((u : List ℕ) (m : ℕ) → At c u → At c ((more u m) .1 .1))
       → At c ((whileThen f r bound left more) .1 .1)
@@ -284,47 +289,60 @@ module _ {c : KeptWord} where
       cond-holds (λ (d : DrainedWhile). At c (d .1 .1)) (eqb left 0) (false, ([], t)) _ (λ e. h)
       (λ e. at-while-then (refreshActive t) r bound left _ (at-refresh t h) (λ u m k. at-while-within n u r bound m k))
 
-  at-while : (t r : List ℕ) (limit bound : ℕ) → At c t → At c ((whileAnswer t r limit bound) .1)
-  unfolding whileAnswer answerWhile drainedWhile
-  at-while t r limit bound h =
-      let d = drainedWhileWithin limit t r bound limit in
-      let p = at-release-all (d .1 .1) (at-while-within limit t r bound limit h) in
-      cond-holds (TableAt c) (d .0) (Stopped (length (d .1 .0)), releaseAll (d .1 .1)) _ (λ e. p) (λ e. at-items limit (length (d .1 .0)) (releaseAll (d .1 .1)) p)
+  pub at-while-released : (t r : List ℕ) (limit bound : ℕ) → At c t → At c (releaseAll ((drainedWhile t r limit bound) .1 .1))
+  unfolding drainedWhile
+  at-while-released t r limit bound h = at-release-all _ (at-while-within limit t r bound limit h)
+
+  at-while : NotHeld c → (t r : List ℕ) (limit bound : ℕ) → At c t → At c ((whileAnswer t r limit bound) .1)
+  unfolding whileAnswer answerWhile
+  at-while n t r limit bound h =
+      let d = drainedWhile t r limit bound in
+      let u : List ℕ = releaseAll (d .1 .1) in
+      let p = at-while-released t r limit bound h in
+      cond-holds (TableAt c) (d .0) (Stopped (length (d .1 .0)), heldLess u (length (d .1 .0))) _ (λ e. at-held u p n _) (λ e. at-items n limit (length (d .1 .0)) u p)
 
   -- ---- every call
 
-  receive-at : (t r : List ℕ) (s : ReceiveCall) → At c t → At c ((receiveWords t r s) .1)
+  receive-at : NotHeld c → (t r : List ℕ) (s : ReceiveCall) → At c t → At c ((receiveWords t r s) .1)
   unfolding receiveWords tryRecv tryRecvFair tryRecvFrom takeFrom batchWords whileWords
-  receive-at t r TryRecv h = unless-at t h _ r _ (at-answer (channel t) (takeOne t r) (at-one t r h))
-  receive-at t r TryRecvFair h = unless-at t h _ r _ (at-answer (channel t) (takeFair t r) (at-fair t r h))
-  receive-at t r (TryRecvFrom i) h = unless-at t h _ r _ (at-target t r h (i .key .slot) (refill (laneAt t (i .key .slot))))
-  receive-at t r (TryRecvBatchInto limit room) h = unless-at t h _ r _ (at-batch t r limit h)
-  receive-at t r (TryRecvBatchIntoWhile limit bound room) h = unless-at t h _ r _ (at-while t r limit bound h)
+  receive-at n t r TryRecv h = unless-at t h _ r _ (at-answer n (channel t) (takeOne t r) (at-one t r h))
+  receive-at n t r TryRecvFair h = unless-at t h _ r _ (at-answer n (channel t) (takeFair t r) (at-fair t r h))
+  receive-at n t r (TryRecvFrom i) h = unless-at t h _ r _ (at-target n t r h (i .key .slot) (refill (laneAt t (i .key .slot))))
+  receive-at n t r (TryRecvBatchInto limit room) h = unless-at t h _ r _ (at-batch n t r limit h)
+  receive-at n t r (TryRecvBatchIntoWhile limit bound room) h = unless-at t h _ r _ (at-while n t r limit bound h)
 
-  call-at : (t r : List ℕ) (s : Call) → At c t → At c ((callWords t r s) .1)
+  call-at : NotHeld c → (t r : List ℕ) (s : Call) → At c t → At c ((callWords t r s) .1)
   unfolding callWords
-  call-at t r (Sender s) h = sender-at t h r s
-  call-at t r (Receive s) h = receive-at t r s h
-  call-at t r (Control s) h = control-at t h r s
+  call-at n t r (Sender s) h = sender-at t h n r s
+  call-at n t r (Receive s) h = receive-at n t r s h
+  call-at n t r (Control s) h = control-at t h n r s
 
 -- ---- the same, without the value
 
 -- what a table holds at such a word
-abbrev keptNow : {j : ℕ} → Unwritten j → List ℕ → KeptWord
+abbrev pub keptNow : {j : ℕ} → Beside partsWrite j → List ℕ → KeptWord
 keptNow {j = j} n t = record { word = j; value = head t j; unwritten = n }
 
-holds-now : {j : ℕ} (n : Unwritten j) (t : List ℕ) → At (keptNow n t) t
+pub holds-now : {j : ℕ} (n : Beside partsWrite j) (t : List ℕ) → At (keptNow n t) t
 holds-now n t = record { holds = refl }
 
-module _ {j : ℕ} (n : Unwritten j) (t r : List ℕ) where
-  take-one-leaves : head ((takeOne t r) .1) j ≡ head t j
+-- a word that no call writes is written by no part of one
+no-part : {j : ℕ} → Unwritten j → Beside partsWrite j
+no-part {j = j} n = beside (n .in-header) (neither (eqb (placeOf heldCount) j) (partsWrite j) (n .not-one))
+  where
+    neither : (a b : Bool) → either a b ≡ false → b ≡ false
+    neither true b e = absurd (no refl e)
+    neither false b e = e
+
+module _ {j : ℕ} (n : Beside partsWrite j) (t r : List ℕ) where
+  pub take-one-leaves : head ((takeOne t r) .1) j ≡ head t j
   take-one-leaves = at-one t r (holds-now n t) .holds
 
-  take-fair-leaves : head ((takeFair t r) .1) j ≡ head t j
+  pub take-fair-leaves : head ((takeFair t r) .1) j ≡ head t j
   take-fair-leaves = at-fair t r (holds-now n t) .holds
 
-  pub call-leaves : (s : Call) → head ((callWords t r s) .1) j ≡ head t j
-  call-leaves s = call-at t r s (holds-now n t) .holds
+pub call-leaves : {j : ℕ} → Unwritten j → (t r : List ℕ) (s : Call) → head ((callWords t r s) .1) j ≡ head t j
+call-leaves n t r s = call-at (apart n (placeOf heldCount) refl) t r s (holds-now (no-part n) t) .holds
 
 -- ---- the words that no call writes
 
@@ -348,7 +366,7 @@ first-generation-unwritten = beside refl refl
 
 -- so a take leaves what names the opening
 pub take-one-channel : (t r : List ℕ) → channel ((takeOne t r) .1) ≡ channel t
-take-one-channel t r = channel-path _ _ (take-one-leaves channel-id-unwritten t r) (take-one-leaves opening-number-unwritten t r)
+take-one-channel t r = channel-path _ _ (take-one-leaves (no-part channel-id-unwritten) t r) (take-one-leaves (no-part opening-number-unwritten) t r)
 
 pub take-fair-channel : (t r : List ℕ) → channel ((takeFair t r) .1) ≡ channel t
-take-fair-channel t r = channel-path _ _ (take-fair-leaves channel-id-unwritten t r) (take-fair-leaves opening-number-unwritten t r)
+take-fair-channel t r = channel-path _ _ (take-fair-leaves (no-part channel-id-unwritten) t r) (take-fair-leaves (no-part opening-number-unwritten) t r)

@@ -1,4 +1,4 @@
--- A header word that no call writes stays what it is: every store of a lane, a mark, the queue, the free list or another header word, and what is made of
+-- A header word that no part of a call writes, and one that no call writes, stays what it is: every store of a lane, a mark, the queue, the free list or another header word, and what is made of
 -- these for sender calls and control calls. Of any words, in order or not.
 -- Assumes nothing.
 use mathlib.Core.Path.{_≡_, refl, _∙_}
@@ -19,7 +19,7 @@ use Rattle.lane.specs.Lane.{newLane}
 use Rattle.lane.specs.Table.{head, setHead, setCell, laneAt, putLane}
 use Rattle.lane.proofs.OrderLaws.{cond-holds}
 use Rattle.lane.proofs.TableLaws.{head-putLane, head-setCell, other-head-kept}
-use Rattle.queues.specs.Header.{issued, queueFront, queueCount, freeCount, budget, groupCursor, alive, firstCursor, fastSlot, laneCount, livingCount, setIssued, setGroupCursor, setLaneCount}
+use Rattle.queues.specs.Header.{issued, queueFront, queueCount, freeCount, budget, groupCursor, alive, firstCursor, fastSlot, laneCount, livingCount, heldCount, setIssued, setGroupCursor, setLaneCount, setHeldCount}
 use Rattle.ready.specs.Bits.{bitsFrom}
 use Rattle.queues.specs.Queue.{pushBack, remove}
 use Rattle.queues.specs.Registry.{free, reissue}
@@ -41,21 +41,29 @@ use Rattle.all_lanes.specs.AllLanes.{forSlots, releaseSlot, releaseAll, release
 use Rattle.control.specs.Control.{withTurn, pausedLane, pauseLane, pause, resumeLane, resume, close, closeLane, closeReceiver}
 use Rattle.control.specs.Calls.{controlWords}
 
--- the header words that some call writes
-abbrev pub callsWrite : ℕ → Bool
-callsWrite j =
+-- the header words that the parts of some call write: all that calls write but the held count, which is changed where a call's answer is made
+abbrev pub partsWrite : ℕ → Bool
+partsWrite j =
     either (eqb (placeOf issued) j) (either (eqb (placeOf queueFront) j) (either (eqb (placeOf queueCount) j) (either (eqb (placeOf freeCount) j)
     (either (eqb (placeOf budget) j) (either (eqb (placeOf groupCursor) j) (either (eqb (placeOf alive) j) (either (eqb (placeOf fastSlot) j)
     (either (eqb (placeOf laneCount) j) (eqb (placeOf livingCount) j)))))))))
 
+-- those that some call writes
+abbrev pub callsWrite : ℕ → Bool
+callsWrite j = either (eqb (placeOf heldCount) j) (partsWrite j)
+
 abbrev pub Unwritten : ℕ → Type 0
 Unwritten j = Beside callsWrite j
 
--- a header word that no call writes, and a value
+-- a header word that no part of a call writes, and a value
 pub record KeptWord : Type 0 where
   pub word : ℕ
   pub value : ℕ
-  pub unwritten : Unwritten word
+  pub unwritten : Beside partsWrite word
+
+-- and which is not the held count: no call writes it
+abbrev pub NotHeld : KeptWord → Type 0
+NotHeld c = eqb (placeOf heldCount) (c .word) ≡ false
 
 -- the word of this table has the value
 pub record At (c : KeptWord) (t : List ℕ) : Type 0 where
@@ -70,8 +78,12 @@ module _ {c : KeptWord} (t : List ℕ) (h : At c t) where
   pub at-put : (l : Lane) → At c (putLane t l)
   at-put l = at-by (putLane t l) (head-putLane t l (c .word) (c .unwritten .in-header))
 
-  pub at-head : (k v : ℕ) → callsWrite k ≡ true → At c (setHead t k v)
+  pub at-head : (k v : ℕ) → partsWrite k ≡ true → At c (setHead t k v)
   at-head k v e = at-by (setHead t k v) (other-head-kept t k v (c .word) (apart (c .unwritten) k e))
+
+  -- the held count's word
+  pub at-held : NotHeld c → (v : ℕ) → At c (setHeldCount t v)
+  at-held n v = at-by (setHeldCount t v) (other-head-kept t (placeOf heldCount) v (c .word) n)
 
   pub at-cell : (column row v : ℕ) → At c (setCell t column row v)
   at-cell column row v = at-by (setCell t column row v) (head-setCell t column row v (c .word) (c .unwritten .in-header))
@@ -155,7 +167,7 @@ module _ {c : KeptWord} (t : List ℕ) (h : At c t) where
       (λ e.
       at-head (openPage t (issued t)) (at-by t h (openPage t (issued t)) (head-opened-page t (issued t) (c .word) (c .unwritten .in-header))) (placeOf issued) (issued t + 1) refl)
 
-  registered-at : (d : ℕ) (k : LaneKey) → At c (registerLane t d k)
+  pub registered-at : (d : ℕ) (k : LaneKey) → At c (registerLane t d k)
   unfolding registerLane
   registered-at d k =
       let u : List ℕ = putLane (takeSlot t d) (newLane k (firstCursor t)) in
@@ -163,28 +175,32 @@ module _ {c : KeptWord} (t : List ℕ) (h : At c t) where
       let p : At c v = at-head u (at-put (takeSlot t d) (taken-at d) (newLane k (firstCursor t))) (placeOf laneCount) (laneCount t + 1) refl in
       at-head v p (placeOf livingCount) (livingCount t + 1) refl
 
-  signaled-at : (s : Sent × List ℕ) → At c ((sendSignaled t s) .1)
-  unfolding sendSignaled takeSignaled
-  signaled-at (Sent.Taken l free, r) = at-marked-if-idle _ (at-put t h (withSender 1 (l .living) l)) l
-  signaled-at (Sent.Full l, r) = h
+  pub take-signaled-at : (l : Lane) (free : ℕ) → At c ((takeSignaled t l free) .1)
+  unfolding takeSignaled
+  take-signaled-at l free = at-marked-if-idle _ (at-put t h (withSender 1 (l .living) l)) l
 
-  unsignaled-at : (s : Sent × List ℕ) → At c ((sendUnsignaled t s) .1)
+  signaled-at : NotHeld c → (s : Sent × List ℕ) → At c ((sendSignaled t s) .1)
+  unfolding sendSignaled
+  signaled-at n (Sent.Taken l free, r) = at-held _ (take-signaled-at l free) n _
+  signaled-at n (Sent.Full l, r) = h
+
+  unsignaled-at : NotHeld c → (s : Sent × List ℕ) → At c ((sendUnsignaled t s) .1)
   unfolding sendUnsignaled
-  unsignaled-at (Sent.Taken l free, r) = at-put t h l
-  unsignaled-at (Sent.Full l, r) = h
+  unsignaled-at n (Sent.Taken l free, r) = at-held _ (at-put t h l) n _
+  unsignaled-at n (Sent.Full l, r) = h
 
-  dropped-at : (l : Lane) → At c (dropLane t l)
+  pub dropped-at : (l : Lane) → At c (dropLane t l)
   unfolding dropLane
   dropped-at l =
       let u : List ℕ = putLane t (withSender 1 0 l) in
       at-head (markIfIdle u l) (at-marked-if-idle u (at-put t h (withSender 1 0 l)) l) (placeOf livingCount) (livingCount t - 1) refl
 
-  pub sender-at : (r : List ℕ) (s : SenderCall) → At c ((senderWords t r s) .1)
+  pub sender-at : NotHeld c → (r : List ℕ) (s : SenderCall) → At c ((senderWords t r s) .1)
   unfolding senderWords registerSender registerSlot trySend trySendUnsignaled dropSender
-  sender-at r (RegisterSender most) = unless-at _ r _ (unless-at _ r _ (registered-at _ _))
-  sender-at r (TrySend k v) = unless-at _ r _ (signaled-at (pushed t r k v))
-  sender-at r (TrySendUnsignaled k v) = unless-at _ r _ (unsignaled-at (pushed t r k v))
-  sender-at r (DropSender k) = unless-at _ r _ (dropped-at (laneAt t (k .slot)))
+  sender-at n r (RegisterSender most) = unless-at _ r _ (unless-at _ r _ (registered-at _ _))
+  sender-at n r (TrySend k v) = unless-at _ r _ (signaled-at n (pushed t r k v))
+  sender-at n r (TrySendUnsignaled k v) = unless-at _ r _ (unsignaled-at n (pushed t r k v))
+  sender-at n r (DropSender k) = unless-at _ r _ (dropped-at (laneAt t (k .slot)))
 
 -- ---- control calls
 
@@ -201,31 +217,35 @@ module _ {c : KeptWord} where
   unfolding pollSlot
   at-poll-slot t h x = cond-holds (At c) (mayQueue (laneAt t x)) (enqueue t x) t (λ e. at-enqueued t h x) (λ e. h)
 
-  at-poll-all : (t : List ℕ) → At c t → At c (pollSlots t)
+  pub at-poll-all : (t : List ℕ) → At c t → At c (pollSlots t)
   unfolding pollSlots
   at-poll-all t h = at-slots pollSlot at-poll-slot (issued t) 0 t h
 
 module _ {c : KeptWord} (t : List ℕ) (h : At c t) where
-  paused-at : (l : Lane) → At c (pauseLane t l)
+  pub paused-at : (l : Lane) → At c (pauseLane t l)
   unfolding pauseLane
   paused-at l = at-removed _ (at-put t h (pausedLane l)) (l .key .slot)
 
-  resumed-at : (l : Lane) → At c (resumeLane t l)
+  pub resumed-at : (l : Lane) → At c (resumeLane t l)
   unfolding resumeLane
   resumed-at l =
       cond-holds (At c) (eqb (l .paused) 1) (pushBack (markIfIdle (putLane t (withTurn 1 1 0 l)) l) (l .key .slot)) t
       (λ e. at-pushed-back _ (at-marked-if-idle _ (at-put t h (withTurn 1 1 0 l)) l) (l .key .slot)) (λ e. h)
 
-  closed-at : (l : Lane) → At c (close t l)
-  unfolding close
-  closed-at l = at-retired _ (at-removed t h (l .key .slot)) l
+  -- a lane closed, before its items are taken off the held count
+  pub gone-at : (l : Lane) → At c (retireLane (remove t (l .key .slot)) l)
+  gone-at l = at-retired _ (at-removed t h (l .key .slot)) l
 
-  pub control-at : (r : List ℕ) (s : ControlCall) → At c ((controlWords t r s) .1)
+  closed-at : NotHeld c → (l : Lane) → At c (close t l)
+  unfolding close
+  closed-at n l = at-held _ (gone-at l) n _
+
+  pub control-at : NotHeld c → (r : List ℕ) (s : ControlCall) → At c ((controlWords t r s) .1)
   unfolding controlWords pause resume closeLane releaseConsumed pollAllLanes closeReceiver countHeld
-  control-at r (Pause i) = unless-at t h _ r _ (paused-at (laneAt t (i .key .slot)))
-  control-at r (Resume i) = unless-at t h _ r _ (resumed-at (laneAt t (i .key .slot)))
-  control-at r (CloseLane i) = unless-at t h _ r _ (closed-at (laneAt t (i .key .slot)))
-  control-at r ReleaseConsumed = unless-at t h _ r _ (at-release-all t h)
-  control-at r PollAllLanes = unless-at t h _ r _ (at-poll-all t h)
-  control-at r CloseReceiver = unless-at t h _ r _ (at-head t h (placeOf alive) 0 refl)
-  control-at r CountHeld = h
+  control-at n r (Pause i) = unless-at t h _ r _ (paused-at (laneAt t (i .key .slot)))
+  control-at n r (Resume i) = unless-at t h _ r _ (resumed-at (laneAt t (i .key .slot)))
+  control-at n r (CloseLane i) = unless-at t h _ r _ (closed-at n (laneAt t (i .key .slot)))
+  control-at n r ReleaseConsumed = unless-at t h _ r _ (at-release-all t h)
+  control-at n r PollAllLanes = unless-at t h _ r _ (at-poll-all t h)
+  control-at n r CloseReceiver = unless-at t h _ r _ (at-head t h (placeOf alive) 0 refl)
+  control-at n r CountHeld = h

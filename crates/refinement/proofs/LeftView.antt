@@ -20,7 +20,7 @@ use Rattle.queues.specs.Header.{slots, queueCount, freeCount, budget, fastSlot,
 use Rattle.queues.specs.Queue.{queueOf, popFront}
 use Rattle.queues.proofs.QueueLaws.{queue-frames, length-queue, queue-putLane, shaped-putLane}
 use Rattle.store.specs.View.{view}
-use Rattle.store.specs.Order.{StoreInOrder}
+use Rattle.store.specs.Order.{InOrderButHeld}
 use Rattle.turns.specs.Turn.{settleEmptyFront, meetBudget}
 use Rattle.store.proofs.ViewLaws.{view-popped-front, view-budget}
 use Rattle.store.proofs.StepLaws.{Step, step-start, step-put-lane, step-popped-front}
@@ -31,7 +31,7 @@ pub use Rattle.refinement.proofs.EmptyLaneLaws.{slot-path, Empties, emp
 
 -- ---- it leaves the queue
 
-module _ (t r : List ℕ) (o : StoreInOrder t r) (x : ℕ) (q : List ℕ) (e : queueOf t ≡ x ∷ q) (found : EmptyLane) (k : Empties t r x found) where
+module _ (t r : List ℕ) (o : InOrderButHeld t r) (x : ℕ) (q : List ℕ) (e : queueOf t ≡ x ∷ q) (found : EmptyLane) (k : Empties t r x found) where
   -- the table before the lane may retire
   abbrev settled : List ℕ
   settled = popFront (putLane t (found .lane))
@@ -60,7 +60,7 @@ module _ (t r : List ℕ) (o : StoreInOrder t r) (x : ℕ) (q : List ℕ) (e : q
       settled-view t r o x (front .is-issued) (front .registered) found k settled q step-settled room view-settled (front .alone)
       (kept.front-rest (view t r) x q e) (windows-front t r (o .stores) x q e q (fastSlot t) (budget t))
 
-  pub left-in-order : StoreInOrder (settleEmptyFront t found) r
+  pub left-in-order : InOrderButHeld (settleEmptyFront t found) r
   unfolding settleEmptyFront view
   left-in-order =
       settled-in-order t r o x (front .is-issued) (front .registered) found k settled q step-settled room view-settled (front .alone)
@@ -78,7 +78,7 @@ unfolding rules.refill
 refill-some zero h = absurd (omega arith)
 refill-some (suc n) h = refl
 
-module _ (t r : List ℕ) (o : StoreInOrder t r) where
+module _ (t r : List ℕ) (o : InOrderButHeld t r) where
   met : (b : Bool) → eqb (budget t) 0 ≡ b → view (cond b (setBudget t 64) t) r ≡ withBudget (rules.refill (budget t)) (view t r)
   unfolding view rules.refill
   met true e = view-budget t r (o .stores .shaped) 64 ∙ ap (λ (n : ℕ). withBudget (rules.refill n) (view t r)) (sym (eqb-true (budget t) 0 e))
@@ -89,11 +89,11 @@ module _ (t r : List ℕ) (o : StoreInOrder t r) where
   met-view [] e = rw (eq-eqb (queueCount t) 0 (sym (length-queue t) ∙ ap length e))
   met-view (y ∷ q) e = rw (ne-eqb (queueCount t) 0 (λ z. omega (arith, length-queue t, ap length e))) (met (eqb (budget t) 0) refl)
 
-  pub met-in-order : StoreInOrder (meetBudget t) r
+  pub met-in-order : InOrderButHeld (meetBudget t) r
   unfolding meetBudget
   met-in-order = go (eqb (queueCount t) 0) (eqb (budget t) 0)
     where
-      go : (a b : Bool) → StoreInOrder (cond a t (cond b (setBudget t 64) t)) r
+      go : (a b : Bool) → InOrderButHeld (cond a t (cond b (setBudget t 64) t)) r
       go true b = o
       go false true = full-budget-in-order t r o
       go false false = o

@@ -17,6 +17,7 @@ pub mod StaleNever
 pub mod TurnKeys
 pub mod HeaderSteps
 pub mod HeaderKept
+pub mod HeldKept
 pub mod TryRecvLaws
 pub mod TakeFairView
 pub mod TryRecvFairLaws

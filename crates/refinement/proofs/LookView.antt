@@ -29,7 +29,7 @@ use Rattle.receive_batch.specs.declared.batch.Front.{Front}
 use Rattle.receive_batch.specs.declared.batch.Front.the-variants as Front
 use Rattle.receive_batch.specs.declared.batch.Look.{Look}
 use Rattle.store.specs.View.{slotAt, view}
-use Rattle.store.specs.Order.{Stores, StoreInOrder}
+use Rattle.store.specs.Order.{Stores, InOrderButHeld}
 use Rattle.turns.specs.Turn.{settleEmptyFront, meetBudget}
 use Rattle.turns.specs.Due.{collectIfDue}
 use Rattle.receive_batch.specs.Batch.{lookBy, lookFront, afterLook, runDownWithin, runDown, elseFront, refreshActive, Reached}
@@ -47,7 +47,7 @@ use Rattle.receive_batch.proofs.LookLaws.{run-down-searched}
 -- the rules see the state that the search leaves, and the words are in order
 pub record ReachedAs (r : List ℕ) (o : Front × List ℕ) (s : State) : Type 0 where
   pub alike : view (o .1) r ≡ s
-  pub in-order : StoreInOrder (o .1) r
+  pub in-order : InOrderButHeld (o .1) r
 
 -- ---- a lane that is ready
 
@@ -70,7 +70,7 @@ module _ (t r : List ℕ) (o : Stores t r) (x : ℕ) (h : x < issued t) (g : lan
 
 -- ---- look after look
 
-module _ (t r : List ℕ) (o : StoreInOrder t r) (x : ℕ) (q : List ℕ) (e : queueOf t ≡ x ∷ q) where
+module _ (t r : List ℕ) (o : InOrderButHeld t r) (x : ℕ) (q : List ℕ) (e : queueOf t ≡ x ∷ q) where
   front : FrontLane t x q
   front = front-lane t r o x q e
 
@@ -91,7 +91,7 @@ module _ (t r : List ℕ) (o : StoreInOrder t r) (x : ℕ) (q : List ℕ) (e : q
       ap (λ (v : List ℕ). if (nonEmpty v) (view t r) (rules.runDownFrom q (rules.beforeNextTurn q (rules.settleEmpty x q (view t r))))) (none-held t r o true x q e found k)
       ∙ ap (rules.runDownFrom q) (sym (view-left t r o true x q e found k))
 
-run-down-within-alike : (q t r : List ℕ) → StoreInOrder t r → queueOf t ≡ q → ReachedAs r (runDownWithin (length q) t) (rules.runDownFrom q (view t r))
+run-down-within-alike : (q t r : List ℕ) → InOrderButHeld t r → queueOf t ≡ q → ReachedAs r (runDownWithin (length q) t) (rules.runDownFrom q (view t r))
 unfolding runDownWithin afterLook lookBy rules.runDownFrom
 run-down-within-alike [] t r o e = record { alike = refl; in-order = o }
 run-down-within-alike (x ∷ q) t r o e =
@@ -101,7 +101,7 @@ run-down-within-alike (x ∷ q) t r o e =
     h : FrontLane t x q
     h = front-lane t r o x q e
 
-    go : ((u : List ℕ) → StoreInOrder u r → queueOf u ≡ q → ReachedAs r (runDownWithin (length q) u) (rules.runDownFrom q (view u r)))
+    go : ((u : List ℕ) → InOrderButHeld u r → queueOf u ≡ q → ReachedAs r (runDownWithin (length q) u) (rules.runDownFrom q (view u r)))
         → (p : Refill) → refill (laneAt t x) ≡ p → ReachedAs r (afterLook (lookBy t p) (runDownWithin (length q) ((lookBy t p) .1))) (rules.runDownFrom (x ∷ q) (view t r))
     go ih (Refill.Ready l) f = record { alike = sym (stays t r o x q e l f); in-order = o }
     go ih (Refill.Idle found) f =
@@ -109,7 +109,7 @@ run-down-within-alike (x ∷ q) t r o e =
         subst (ReachedAs r (runDownWithin (length q) (meetBudget (settleEmptyFront t found)))) (sym (goes t r o x q e found k))
         (ih (meetBudget (settleEmptyFront t found)) (left-ordered t r o true x q e found k) (left-rest t r o true x q e found k))
 
-pub run-down-alike : (t r : List ℕ) → StoreInOrder t r → ReachedAs r (runDown t) (rules.runDown (view t r))
+pub run-down-alike : (t r : List ℕ) → InOrderButHeld t r → ReachedAs r (runDown t) (rules.runDown (view t r))
 unfolding runDown rules.runDown view
 run-down-alike t r o = subst (λ (n : ℕ). ReachedAs r (runDownWithin n t) (rules.runDownFrom (queueOf t) (view t r))) (length-queue t) (run-down-within-alike (queueOf t) t r o refl)
 
@@ -123,7 +123,7 @@ no-items (x ∷ q) z = absurd (omega arith)
 pub none-queued : (u : List ℕ) → Reached (Front.None, u) → queueOf u ≡ []
 none-queued u k = no-items (queueOf u) (length-queue u ∙ k .none-queued)
 
-module _ (t r : List ℕ) (o : StoreInOrder t r) where
+module _ (t r : List ℕ) (o : InOrderButHeld t r) where
   pub refresh-alike : ReachedAs r (refreshActive t) (rules.polled (view t r))
   unfolding refreshActive elseFront rules.polled rules.collectIfNoneQueued view
   refresh-alike =

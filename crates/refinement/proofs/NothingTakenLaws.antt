@@ -26,7 +26,7 @@ use Rattle.lane.proofs.HeldLaws.{reload-holds, pop-targeted-takes-first}
 use Rattle.queues.specs.Header.{issued, slots, budget, capacity, freeCount, laneCount, livingCount}
 use Rattle.queues.specs.Queue.{queueOf}
 use Rattle.store.specs.View.{flag, slotAt, view}
-use Rattle.store.specs.Order.{Stores, StoreInOrder}
+use Rattle.store.specs.Order.{Stores, InOrderButHeld}
 use Rattle.store.specs.Registry.{retired, retireLane}
 use Rattle.all_lanes.specs.AllLanes.{forSlots}
 use Rattle.turns.specs.Turn.{retireIf}
@@ -124,7 +124,7 @@ module _ (t r : List ℕ) (o : Stores t r) (x : ℕ) (h : x < issued t) (g : lan
 abbrev retires : State → ℕ → Bool
 retires s x = both (s .slotOf x .registered) (both (s .slotOf x .paused) (not (nonEmpty (s .slotOf x .ring))))
 
-module _ (t r : List ℕ) (o : StoreInOrder t r) (x : ℕ) (h : x < issued t) where
+module _ (t r : List ℕ) (o : InOrderButHeld t r) (x : ℕ) (h : x < issued t) where
   abbrev lane₁ : Lane
   lane₁ = laneAt t x
 
@@ -157,7 +157,7 @@ module _ (t r : List ℕ) (o : StoreInOrder t r) (x : ℕ) (h : x < issued t) wh
   issued-slot : issued (retireEmptyPaused t x) ≡ issued t
   issued-slot = slot-cases (λ u b. issued u ≡ issued t) (λ g. issued-kept (step-retired t r (o .stores) x h g (room-if g))) refl
 
-  slot-in-order : StoreInOrder (retireEmptyPaused t x) r
+  slot-in-order : InOrderButHeld (retireEmptyPaused t x) r
   unfolding rules.retireEmptyPausedLanes
   slot-in-order =
       record {
@@ -168,7 +168,7 @@ module _ (t r : List ℕ) (o : StoreInOrder t r) (x : ℕ) (h : x < issued t) wh
 -- ---- all slots
 
 module _ (r : List ℕ) where
-  view-from : (n k : ℕ) (t : List ℕ) → StoreInOrder t r → k + n ≤ issued t → view (forSlots retireEmptyPaused n k t) r ≡ rules.retireEmptyPausedLanes (from k n) (view t r)
+  view-from : (n k : ℕ) (t : List ℕ) → InOrderButHeld t r → k + n ≤ issued t → view (forSlots retireEmptyPaused n k t) r ≡ rules.retireEmptyPausedLanes (from k n) (view t r)
   unfolding forSlots from rules.retireEmptyPausedLanes
   view-from zero k t o h = refl
   view-from (suc n) k t o h =
@@ -176,18 +176,18 @@ module _ (r : List ℕ) where
       view-from n (k + 1) (retireEmptyPaused t k) (slot-in-order t r o k (omega arith)) (rw (issued-slot t r o k (omega arith)) (omega arith))
       ∙ ap₂ (λ (j : ℕ) (s : State). rules.retireEmptyPausedLanes (from j n) s) one (view-slot t r o k (omega arith))
 
-  from-in-order : (n k : ℕ) (t : List ℕ) → StoreInOrder t r → k + n ≤ issued t → StoreInOrder (forSlots retireEmptyPaused n k t) r
+  from-in-order : (n k : ℕ) (t : List ℕ) → InOrderButHeld t r → k + n ≤ issued t → InOrderButHeld (forSlots retireEmptyPaused n k t) r
   unfolding forSlots
   from-in-order zero k t o h = o
   from-in-order (suc n) k t o h =
       from-in-order n (k + 1) (retireEmptyPaused t k) (slot-in-order t r o k (omega arith)) (rw (issued-slot t r o k (omega arith)) (omega arith))
 
-module _ (t r : List ℕ) (o : StoreInOrder t r) where
+module _ (t r : List ℕ) (o : InOrderButHeld t r) where
   view-all : view (retireEmptyPausedLanes t) r ≡ rules.retireEmptyPausedLanes (from 0 (view t r .issued)) (view t r)
   unfolding retireEmptyPausedLanes view
   view-all = view-from r (issued t) 0 t o (omega arith)
 
-  all-in-order : StoreInOrder (retireEmptyPausedLanes t) r
+  all-in-order : InOrderButHeld (retireEmptyPausedLanes t) r
   unfolding retireEmptyPausedLanes
   all-in-order = from-in-order r (issued t) 0 t o (omega arith)
 
@@ -208,7 +208,7 @@ empty-or-drained-alike t r o =
     go true = refl
     go false = refl
 
-module _ (t r : List ℕ) (o : StoreInOrder t r) where
+module _ (t r : List ℕ) (o : InOrderButHeld t r) where
   -- Empty or Disconnected as the rules say, and the rules' state
   pub nothing-taken-alike : seen (withRings r (nothingTaken t)) ≡ (rules.nothingTaken (view t r)) .1
   unfolding nothingTaken rules.nothingTaken
@@ -224,10 +224,10 @@ module _ (t r : List ℕ) (o : StoreInOrder t r) where
           ∙ ap (λ (s : State). (rules.emptyOrDrained s) .1) (view-all t r o)
       go false = refl
 
-  pub nothing-taken-keeps : StoreInOrder ((nothingTaken t) .1) r
+  pub nothing-taken-keeps : InOrderButHeld ((nothingTaken t) .1) r
   unfolding nothingTaken emptyOrDrained
   nothing-taken-keeps =
-      cond-holds (λ (w : Answer × List ℕ). StoreInOrder (w .1) r) (eqb (livingCount t) 0) (emptyOrDrained (retireEmptyPausedLanes t)) (Empty, t)
+      cond-holds (λ (w : Answer × List ℕ). InOrderButHeld (w .1) r) (eqb (livingCount t) 0) (emptyOrDrained (retireEmptyPausedLanes t)) (Empty, t)
       (λ e. all-in-order t r o) (λ e. o)
 
 -- the rules hand out nothing with it

@@ -26,7 +26,7 @@ use Rattle.lane.specs.declared.lane.Refill.the-variants as Refill
 use Rattle.yring.specs.Ring.{pushItem}
 use Rattle.lane.specs.Lane.{sent, pushAndFlushItem, refill}
 use Rattle.lane.specs.Table.{laneAt}
-use Rattle.queues.specs.Header.{capacity, channel, laneCount, livingCount}
+use Rattle.queues.specs.Header.{capacity, channel, laneCount, livingCount, heldLess}
 use Rattle.store.specs.declared.refusal.Verdict.{Verdict}
 use Rattle.store.specs.declared.refusal.Verdict.the-variants.{Pass, Refuse}
 use Rattle.turns.specs.declared.turn.Took.{Took}
@@ -155,7 +155,7 @@ answer-items-accepted : (limit n : ℕ) (t : List ℕ) → accepted ((answerItem
 unfolding answerItems accepted
 answer-items-accepted limit n t = go (eqb n 0) (eqb limit 0)
   where
-    go : (b c : Bool) → accepted (cond {A = Answer × List ℕ} b (cond c (Items 0, t) (nothingTaken t)) (Items n, t) .0) ≡ true
+    go : (b c : Bool) → accepted (cond {A = Answer × List ℕ} b (cond c (Items 0, t) (nothingTaken t)) (Items n, heldLess t n) .0) ≡ true
     go true true = refl
     go true false = nothing-taken-accepted t
     go false c = refl
@@ -183,7 +183,7 @@ answer-while-accepted : (limit : ℕ) (m : Drained) (t : List ℕ) → accepted 
 unfolding answerWhile accepted
 answer-while-accepted limit m t = go (m .rejected)
   where
-    go : (b : Bool) → accepted (cond {A = Answer × List ℕ} b (Stopped (m .received), t) (answerItems limit (m .received) t) .0) ≡ true
+    go : (b : Bool) → accepted (cond {A = Answer × List ℕ} b (Stopped (m .received), heldLess t (m .received)) (answerItems limit (m .received) t) .0) ≡ true
     go true = refl
     go false = answer-items-accepted limit (m .received) t
 

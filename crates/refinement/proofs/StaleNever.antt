@@ -23,7 +23,7 @@ use Rattle.lane.specs.Table.{laneAt}
 use Rattle.queues.specs.Header.{issued, queueCount}
 use Rattle.queues.specs.Queue.{queueOf, frontSlot}
 use Rattle.store.specs.View.{flag, slotAt, view}
-use Rattle.store.specs.Order.{StoreInOrder}
+use Rattle.store.specs.Order.{InOrderButHeld, StoreInOrder}
 use Rattle.store.specs.Words.{Words}
 use Rattle.turns.specs.Turn.{Turning, pollFront}
 use Rattle.receive_batch.specs.Batch.{lookFront}
@@ -57,7 +57,7 @@ pub record QueuedLane (t : List ℕ) (x : ℕ) : Type 0 where
   pub once : count x (queueOf t) ≡ 1
 
 -- every entry of the queue, and so the front one, is of a registered lane
-pub stale-never : (t r : List ℕ) → StoreInOrder t r → (x : ℕ) → 1 ≤ count x (queueOf t) → QueuedLane t x
+pub stale-never : (t r : List ℕ) → InOrderButHeld t r → (x : ℕ) → 1 ≤ count x (queueOf t) → QueuedLane t x
 unfolding view slotAt
 stale-never t r o x named =
     let h : x < issued t = o .stores .named .issued-only x named in
@@ -74,7 +74,7 @@ stale-never t r o x named =
     }
 
 -- a slot whose lane has gone has no entry: whatever retires or closes a lane takes it out of the queue
-pub gone-unqueued : (t r : List ℕ) → StoreInOrder t r → (x : ℕ) → (laneAt t x .registered ≡ 1 → ⊥) → count x (queueOf t) ≡ 0
+pub gone-unqueued : (t r : List ℕ) → InOrderButHeld t r → (x : ℕ) → (laneAt t x .registered ≡ 1 → ⊥) → count x (queueOf t) ≡ 0
 gone-unqueued t r o x gone = go (count x (queueOf t)) refl
   where
     go : (n : ℕ) → count x (queueOf t) ≡ n → n ≡ 0
@@ -87,7 +87,7 @@ stale-never-after-targeted t r i o x named = stale-never ((tryRecvFrom t r i) .1
 
 -- ---- the key behind an entry
 
-module _ (t r : List ℕ) (c : Call) (w : Words) (o : StoreInOrder t r) (e : seen w ≡ (outcome (view t r) c) .1) (x : ℕ) (named : 1 ≤ count x (queueOf t)) where
+module _ (t r : List ℕ) (c : Call) (w : Words) (o : InOrderButHeld t r) (e : seen w ≡ (outcome (view t r) c) .1) (x : ℕ) (named : 1 ≤ count x (queueOf t)) where
   state-after : view (w .1) (w .2) ≡ (outcome (view t r) c) .1 .1
   state-after = ap (λ (z : Answer × State). z .1) e
 

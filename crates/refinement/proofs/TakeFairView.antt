@@ -29,7 +29,7 @@ use Rattle.ready.specs.Ready.{collectReady}
 use Rattle.queues.proofs.QueueLaws.{header-in, length-queue, queue-front}
 use Rattle.turns.specs.declared.turn.Took.the-variants as Took
 use Rattle.store.specs.View.{view}
-use Rattle.store.specs.Order.{Stores, StoreInOrder}
+use Rattle.store.specs.Order.{Stores, InOrderButHeld}
 use Rattle.turns.specs.Turn.{frontLane, turns}
 use Rattle.receive.specs.Receive.{takeFromWindow, takeIfPopped, takeLone, takeFair}
 use Rattle.store.proofs.ViewLaws.{view-budget, view-fast-slot}
@@ -68,7 +68,7 @@ pops-fair t r o x h g b item m e =
     most : {B d a c u n w : ℕ} → Counts B d a c u n w → w ≤ 63
     most k = omega arith
 
-module _ (t r : List ℕ) (o : StoreInOrder t r) (b : budget t ≡ 64) where
+module _ (t r : List ℕ) (o : InOrderButHeld t r) (b : budget t ≡ 64) where
   abbrev x : ℕ
   x = frontSlot t
 
@@ -109,18 +109,18 @@ module _ (t r : List ℕ) (o : StoreInOrder t r) (b : budget t ≡ 64) where
 
 -- ---- the fair take
 
-module _ (t r : List ℕ) (o : StoreInOrder t r) where
+module _ (t r : List ℕ) (o : InOrderButHeld t r) where
   -- "collect all groups if any is ready, budget 64"
   abbrev u : List ℕ
   u = setBudget (collectReady true t) 64
 
-  all : StoreInOrder (collectReady true t) r
+  all : InOrderButHeld (collectReady true t) r
   all = collected-in-order t r o true
 
   ready-view : view u r ≡ withBudget 64 (marks.collectReady (view t r))
   ready-view = view-budget (collectReady true t) r (all .stores .shaped) 64 ∙ ap (withBudget 64) (view-collect-all t r (o .stores))
 
-  ready-in-order : StoreInOrder u r
+  ready-in-order : InOrderButHeld u r
   ready-in-order = full-budget-in-order (collectReady true t) r all
 
   ready-budget : budget u ≡ 64

@@ -20,7 +20,7 @@ use Rattle.queues.proofs.QueueLaws.{length-queue}
 use Rattle.turns.specs.declared.turn.Took.{Took}
 use Rattle.turns.specs.declared.turn.Took.the-variants as Took
 use Rattle.store.specs.View.{view}
-use Rattle.store.specs.Order.{StoreInOrder}
+use Rattle.store.specs.Order.{InOrderButHeld}
 use Rattle.turns.specs.Turn.{turns}
 use Rattle.turns.specs.Drained.{Rests}
 use Rattle.receive.specs.Receive.{elseTake, takeFast, takeFrontWindow, pollLoop, tryRecvRefill, takeOne}
@@ -78,7 +78,7 @@ gave-none fair d u (y ∷ q) e = go (d .slotOf y .ring) e
 
 -- ---- the poll loop
 
-module _ (t r : List ℕ) (o : StoreInOrder t r) where
+module _ (t r : List ℕ) (o : InOrderButHeld t r) where
   abbrev d : State
   d = rules.runDown (view t r)
 
@@ -99,15 +99,15 @@ module _ (t r : List ℕ) (o : StoreInOrder t r) where
 
 -- ---- "else, budget 0 and queue non-empty, collect one group and set the budget to 64"
 
-module _ (t r : List ℕ) (o : StoreInOrder t r) where
+module _ (t r : List ℕ) (o : InOrderButHeld t r) where
   abbrev looked : List ℕ
   looked = setBudget (collectReady false t) 64
 
-  pub due-in-order : StoreInOrder (collectIfDue t) r
+  pub due-in-order : InOrderButHeld (collectIfDue t) r
   unfolding collectIfDue
   due-in-order = go (eqb (budget t) 0) (eqb (queueCount t) 0)
     where
-      go : (a b : Bool) → StoreInOrder (cond a (cond b t looked) t) r
+      go : (a b : Bool) → InOrderButHeld (cond a (cond b t looked) t) r
       go true true = o
       go true false = full-budget-in-order (collectReady false t) r (collected-in-order t r o false)
       go false b = o
@@ -131,7 +131,7 @@ unfolding elseTake
 else-took t r w (Took.Item item key, u) f a e b = a
 else-took t r w (Took.Nothing, u) f a e b = subst (λ (v : List ℕ). TookAs r (f v) w) (sym e) b
 
-module _ (t r : List ℕ) (o : StoreInOrder t r) where
+module _ (t r : List ℕ) (o : InOrderButHeld t r) where
   abbrev u : List ℕ
   u = collectIfDue t
 

@@ -21,15 +21,18 @@ use Rattle.model.specs.Turn.{Took}
 use Rattle.model.specs.Receive as rules
 use Rattle.demands.proofs.Moves.{nothing-taken-gives-none}
 use Rattle.demands.proofs.OrderKept.{release-all-ordered}
+use Rattle.queues.specs.Header.{heldLess}
 use Rattle.store.specs.declared.refusal.Verdict.{Verdict}
 use Rattle.store.specs.declared.refusal.Verdict.the-variants.{Pass, Refuse}
 use Rattle.store.specs.View.{view}
-use Rattle.store.specs.Order.{StoreInOrder}
+use Rattle.store.specs.Order.{InOrderButHeld}
 use Rattle.store.specs.Refusal.{andThen}
 use Rattle.store.specs.Words.{Words, withRings}
 use Rattle.turns.specs.Drained.{nothingTaken}
 use Rattle.all_lanes.specs.AllLanes.{releaseAll}
 use Rattle.receive_batch.specs.Batch.{HandsAndTable, drained, roomVerdict, batchVerdict, answerItems, batchAnswer, batchWords, handedBy, batchHands}
+use Rattle.store.proofs.ViewLaws.{view-held-count}
+use Rattle.store.proofs.HeldLaws.{but-held-count}
 use Rattle.store.proofs.RefusalLaws.{seen, firstOf, first-of-append, receiver-verdict, refused-alike, unless-refused-case}
 use Rattle.all_lanes.proofs.ReleaseConsumedLaws.{view-release-all, stores-release-all}
 use Rattle.refinement.proofs.NothingTakenLaws.{nothing-taken-alike, nothing-taken-keeps}
@@ -37,32 +40,39 @@ use Rattle.refinement.proofs.DrainView.{DrainedAs, drained-alike}
 
 -- ---- every lane has given back its credit
 
-module _ (t r : List ℕ) (o : StoreInOrder t r) where
-  pub released-in-order : StoreInOrder (releaseAll t) r
+module _ (t r : List ℕ) (o : InOrderButHeld t r) where
+  pub released-in-order : InOrderButHeld (releaseAll t) r
   released-in-order =
       record {
         stores = stores-release-all t r (o .stores);
         ordered = subst Ordered (sym (view-release-all t r (o .stores))) (release-all-ordered (view t r) (o .ordered));
       }
 
+  -- and n items are held no more
+  pub released-held : (n : ℕ) → InOrderButHeld (heldLess (releaseAll t) n) r
+  released-held n = but-held-count (releaseAll t) r _ released-in-order
+
+  pub view-released : (n : ℕ) → view (heldLess (releaseAll t) n) r ≡ rules.releaseAll (view t r)
+  view-released n = view-held-count (releaseAll t) r (released-in-order .stores .shaped) _ ∙ view-release-all t r (o .stores)
+
   -- the answer to items handed out from that table
   pub answer-items-alike : (limit : ℕ) (l : List (LaneKey × ℕ))
       → seen (withRings r (answerItems limit (length l) (releaseAll t))) ≡ (rules.answerItems limit l (rules.releaseAll (view t r))) .1
   unfolding answerItems rules.answerItems
   answer-items-alike zero [] = ap (λ (s : State). (Items 0, s)) (view-release-all t r (o .stores))
-  answer-items-alike zero (g ∷ l) = rw (ne-eqb (suc (length l)) 0 (λ z. omega arith)) (ap (λ (s : State). (Items (suc (length l)), s)) (view-release-all t r (o .stores)))
+  answer-items-alike zero (g ∷ l) = rw (ne-eqb (suc (length l)) 0 (λ z. omega arith)) (ap (λ (s : State). (Items (suc (length l)), s)) (view-released (suc (length l))))
   answer-items-alike (suc n) [] =
       rw (ne-eqb (suc n) 0 (λ z. omega arith)) (nothing-taken-alike (releaseAll t) r released-in-order ∙ ap (λ (s : State). (rules.nothingTaken s) .1) (view-release-all t r (o .stores)))
-  answer-items-alike (suc n) (g ∷ l) = rw (ne-eqb (suc (length l)) 0 (λ z. omega arith)) (ap (λ (s : State). (Items (suc (length l)), s)) (view-release-all t r (o .stores)))
+  answer-items-alike (suc n) (g ∷ l) = rw (ne-eqb (suc (length l)) 0 (λ z. omega arith)) (ap (λ (s : State). (Items (suc (length l)), s)) (view-released (suc (length l))))
 
-  pub answer-items-keeps : (limit n : ℕ) → StoreInOrder ((answerItems limit n (releaseAll t)) .1) r
+  pub answer-items-keeps : (limit n : ℕ) → InOrderButHeld ((answerItems limit n (releaseAll t)) .1) r
   unfolding answerItems
   answer-items-keeps limit n = go (eqb n 0) (eqb limit 0)
     where
-      go : (a b : Bool) → StoreInOrder ((cond a (cond b (Items 0, releaseAll t) (nothingTaken (releaseAll t))) (Items n, releaseAll t)) .1) r
+      go : (a b : Bool) → InOrderButHeld ((cond a (cond b (Items 0, releaseAll t) (nothingTaken (releaseAll t))) (Items n, heldLess (releaseAll t) n)) .1) r
       go true true = released-in-order
       go true false = nothing-taken-keeps (releaseAll t) r released-in-order
-      go false b = released-in-order
+      go false b = released-held n
 
 -- the rules' answer goes with what they hand out
 pub answer-items-hands : (limit : ℕ) (l : List (LaneKey × ℕ)) (s : State) → (rules.answerItems limit l s) .0 ≡ l
@@ -100,7 +110,7 @@ module _ (t r : List ℕ) (limit room : ℕ) where
 
 -- ---- the call
 
-module _ (t r : List ℕ) (o : StoreInOrder t r) (limit room : ℕ) where
+module _ (t r : List ℕ) (o : InOrderButHeld t r) (limit room : ℕ) where
   abbrev d : HandsAndTable
   d = drained t r limit
 
@@ -124,10 +134,10 @@ module _ (t r : List ℕ) (o : StoreInOrder t r) (limit room : ℕ) where
   try-recv-batch-alike =
       refused-alike (batchVerdict t limit room) (tests t r limit room) t r (withRings r (batchAnswer t r limit)) outcome (batch-verdict t r limit room) (λ e. batch-answer-alike)
 
-  pub try-recv-batch-keeps : StoreInOrder ((batchWords t r limit room) .1) ((batchWords t r limit room) .2)
+  pub try-recv-batch-keeps : InOrderButHeld ((batchWords t r limit room) .1) ((batchWords t r limit room) .2)
   unfolding batchWords batchAnswer
   try-recv-batch-keeps =
-      unless-refused-case (λ (z : Words). StoreInOrder (z .1) (z .2)) (batchVerdict t limit room) t r (withRings r (batchAnswer t r limit)) (λ why e. o)
+      unless-refused-case (λ (z : Words). InOrderButHeld (z .1) (z .2)) (batchVerdict t limit room) t r (withRings r (batchAnswer t r limit)) (λ why e. o)
       (λ e. answer-items-keeps (d .1) r (taken .in-order) limit (length (d .0)))
 
   -- each item with its lane's key, in order
@@ -144,6 +154,6 @@ module _ (t r : List ℕ) (o : StoreInOrder t r) (limit room : ℕ) where
           ∙ ap (λ (z : Took). (rules.answerItems limit (z .0) (rules.releaseAll (z .1))) .0) (taken .alike)
 
 -- "A batch hands out its output in order": the output's words
-pub try-recv-batch-output : (t r out : List ℕ) → StoreInOrder t r → (limit room : ℕ) → rules.writtenTo (batchHands t r limit room) out ≡ rules.outputAfter (view t r) (TryRecvBatchInto limit room) out
+pub try-recv-batch-output : (t r out : List ℕ) → InOrderButHeld t r → (limit room : ℕ) → rules.writtenTo (batchHands t r limit room) out ≡ rules.outputAfter (view t r) (TryRecvBatchInto limit room) out
 unfolding rules.outputAfter
 try-recv-batch-output t r out o limit room = ap (λ (l : List (LaneKey × ℕ)). rules.writtenTo l out) (try-recv-batch-hands t r o limit room)

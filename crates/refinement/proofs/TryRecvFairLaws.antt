@@ -9,7 +9,7 @@ use Rattle.model.specs.Turn as rules-turn
 use Rattle.model.specs.Receive as rules
 use Rattle.queues.specs.Header.{channel}
 use Rattle.store.specs.View.{view}
-use Rattle.store.specs.Order.{StoreInOrder}
+use Rattle.store.specs.Order.{InOrderButHeld}
 use Rattle.store.specs.Refusal.{receiverVerdict}
 use Rattle.store.specs.Words.{Words, withRings}
 use Rattle.refinement.specs.Hands.{handsOf}
@@ -20,7 +20,7 @@ use Rattle.refinement.proofs.TakeFairView.{take-fair-alike}
 use Rattle.refinement.proofs.HeaderKept.{take-fair-channel}
 use Rattle.refinement.proofs.TryRecvLaws.{answer-one-alike, answer-one-keeps}
 
-module _ (t r : List ℕ) (o : StoreInOrder t r) where
+module _ (t r : List ℕ) (o : InOrderButHeld t r) where
   pub try-recv-fair-alike : seen (tryRecvFair t r) ≡ (rules.tryRecvFair (view t r)) .1
   unfolding tryRecvFair rules.tryRecvFair view
   try-recv-fair-alike =
@@ -28,10 +28,10 @@ module _ (t r : List ℕ) (o : StoreInOrder t r) where
       refused-alike (receiverVerdict t) ((not (view t r .isOpen), ReceiverClosed) ∷ []) t r (withRings r (answerOne (channel t) (takeFair t r))) (rules.answerOne (w .0) (w .1))
       (receiver-verdict t r) (λ e. answer-one-alike r (channel t) (takeFair t r) w (take-fair-alike t r o) (take-fair-channel t r))
 
-  pub try-recv-fair-keeps : StoreInOrder ((tryRecvFair t r) .1) ((tryRecvFair t r) .2)
+  pub try-recv-fair-keeps : InOrderButHeld ((tryRecvFair t r) .1) ((tryRecvFair t r) .2)
   unfolding tryRecvFair
   try-recv-fair-keeps =
-      unless-refused-case (λ (w : Words). StoreInOrder (w .1) (w .2)) (receiverVerdict t) t r (withRings r (answerOne (channel t) (takeFair t r))) (λ why e. o)
+      unless-refused-case (λ (w : Words). InOrderButHeld (w .1) (w .2)) (receiverVerdict t) t r (withRings r (answerOne (channel t) (takeFair t r))) (λ why e. o)
       (λ e. answer-one-keeps r (channel t) (takeFair t r) (rules-turn.takeFair (view t r)) (take-fair-alike t r o))
 
   -- what is handed out, read off the answer

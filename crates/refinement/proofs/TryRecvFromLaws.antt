@@ -29,20 +29,21 @@ use Rattle.queues.specs.Header.{issued, slots, freeCount, capacity, channel}
 use Rattle.queues.specs.Queue.{queueOf, remove}
 use Rattle.queues.proofs.QueueLaws.{queue-frames, shaped-putLane}
 use Rattle.store.specs.View.{slotAt, view}
-use Rattle.store.specs.Order.{Stores, StoreInOrder}
+use Rattle.store.specs.Order.{Stores, InOrderButHeld, StoreInOrder, but-held}
 use Rattle.store.specs.Refusal.{idVerdict}
 use Rattle.turns.specs.Turn.{retireIf}
 use Rattle.store.specs.Words.{withRings}
-use Rattle.receive_from.specs.Target.{settleTarget, targetTook, takeFrom, tryRecvFrom}
-use Rattle.store.proofs.ViewLaws.{slot-in, view-removed}
+use Rattle.receive_from.specs.Target.{settleTarget, keepTarget, targetTook, takeFrom, tryRecvFrom}
+use Rattle.store.proofs.ViewLaws.{slot-in, view-removed, view-held-count}
+use Rattle.store.proofs.HeldLaws.{stores-held-count}
 use Rattle.store.proofs.RefusalLaws.{seen, id-verdict, id-passes, refused-alike, unless-refused-case}
 use Rattle.store.proofs.StepLaws.{Step, step-start, step-put-lane, step-removed}
-use Rattle.store.proofs.StoreLaws.{room-in-free, store-in-order-after, windows-without}
+use Rattle.store.proofs.StoreLaws.{room-in-free, but-held-after, windows-without}
 use Rattle.store.proofs.LaneFields.{Flagged, flagged-reload}
 use Rattle.store.proofs.LaneView.{looked}
 use Rattle.refinement.proofs.EmptyLaneLaws.{Empties, empties-by-refill}
 use Rattle.refinement.proofs.FoundEmptyLaws.{found-slot, found-view, found-dropped, settled-view, settled-in-order}
-use Rattle.refinement.proofs.TargetTookLaws.{target-takes, target-view, target-stores}
+use Rattle.refinement.proofs.TargetTookLaws.{targetLane, target-takes, target-view, target-stores}
 
 -- ---- a lane found empty: it settles and leaves the queue
 
@@ -58,7 +59,7 @@ module _ (t r : List ℕ) (o : StoreInOrder t r) (x : ℕ) (h : x < issued t) (g
   rest = lists.without x (queueOf t)
 
   step-left : Step t left x l rest (head t)
-  step-left = step-removed (step-put-lane (step-start t r (o .stores) x) l (found-slot t r o x h g found k) h) x
+  step-left = step-removed (step-put-lane (step-start t r (o .stores) x) l (found-slot t r (but-held o) x h g found k) h) x
 
   room : freeCount left < slots left
   room = simp (queue-frames, frames) (room-in-free t r (o .stores) x h g (o .ordered))
@@ -67,15 +68,15 @@ module _ (t r : List ℕ) (o : StoreInOrder t r) (x : ℕ) (h : x < issued t) (g
   unfolding view
   view-left =
       view-removed (putLane t l) r (shaped-putLane t (o .stores .shaped) l) x
-      ∙ ap (λ (s : State). withQueue (lists.without x (s .queue)) s) (found-view t r o x h g found k)
+      ∙ ap (λ (s : State). withQueue (lists.without x (s .queue)) s) (found-view t r (but-held o) x h g found k)
 
   settled-is : settleTarget t found ≡ (cond (found .disconnected) Disconnected Empty, retireIf (found .disconnected) left l)
   unfolding settleTarget
   settled-is =
-      ap (λ (y : ℕ). (cond (found .disconnected) Disconnected Empty, retireIf (found .disconnected) (remove (putLane t l) y) l)) (found-slot t r o x h g found k)
+      ap (λ (y : ℕ). (cond (found .disconnected) Disconnected Empty, retireIf (found .disconnected) (remove (putLane t l) y) l)) (found-slot t r (but-held o) x h g found k)
 
   answer-settled : cond (found .disconnected) Disconnected Empty ≡ if (view t r .slotOf x .living) Empty Disconnected
-  answer-settled = ap (λ (b : Bool). cond b Disconnected Empty) (found-dropped t r o x h g found k) ∙ go (view t r .slotOf x .living)
+  answer-settled = ap (λ (b : Bool). cond b Disconnected Empty) (found-dropped t r (but-held o) x h g found k) ∙ go (view t r .slotOf x .living)
     where
       go : (b : Bool) → cond (not b) Disconnected Empty ≡ if b Empty Disconnected
       go true = refl
@@ -90,13 +91,13 @@ module _ (t r : List ℕ) (o : StoreInOrder t r) (x : ℕ) (h : x < issued t) (g
   settled-alike =
       ap (λ (w : Answer × List ℕ). seen (withRings r w)) settled-is
       ∙ ap₂ (λ (a : Answer) (s : State). (a, s)) answer-settled
-      (settled-view t r o x h g found k left rest step-left room view-left (without-own x (queueOf t)) (λ y. without-other x y (queueOf t)) (windows-without t r (o .stores) x))
+      (settled-view t r (but-held o) x h g found k left rest step-left room view-left (without-own x (queueOf t)) (λ y. without-other x y (queueOf t)) (windows-without t r (o .stores) x))
       ∙ ap (λ (vs : List ℕ). (rules.takeFrom vs x (view t r)) .1) (sym holds-none)
 
   settled-kept : Stores ((settleTarget t found) .1) r
   settled-kept =
       subst (λ (w : Answer × List ℕ). Stores (w .1) r) (sym settled-is)
-      (settled-in-order t r o x h g found k left rest step-left room view-left (without-own x (queueOf t)) (λ y. without-other x y (queueOf t)) (windows-without t r (o .stores) x) .stores)
+      (settled-in-order t r (but-held o) x h g found k left rest step-left room view-left (without-own x (queueOf t)) (λ y. without-other x y (queueOf t)) (windows-without t r (o .stores) x) .stores)
 
 -- ---- a lane with an item, or without
 
@@ -119,7 +120,8 @@ module _ (t r : List ℕ) (o : StoreInOrder t r) (x : ℕ) (h : x < issued t) (g
       → seen (withRings r (targetTook t r x (Refill.Ready (looked old)))) ≡ (rules.takeFrom (view t r .slotOf x .ring) x (view t r)) .1
   unfolding targetTook rules.takeFrom view
   took-alike e =
-      ap₂ (λ (k : LaneKey) (s : State). (Item (popTargeted (newRing x (capacity t)) r (looked old) .item) (record { channel = channel t; key = k }), s)) same-key (target-view t r o x h g e)
+      ap₂ (λ (k : LaneKey) (s : State). (Item (popTargeted (newRing x (capacity t)) r (looked old) .item) (record { channel = channel t; key = k }), s)) same-key
+      (view-held-count (keepTarget t (targetLane t r x)) r (target-stores t r o x h g e .shaped) _ ∙ target-view t r o x h g e)
       ∙ ap (λ (vs : List ℕ). (rules.takeFrom vs x (view t r)) .1) (sym (target-takes t r o x h g e))
 
   take-from-alike : seen (withRings r (takeFrom t r x)) ≡ (rules.takeFrom (view t r .slotOf x .ring) x (view t r)) .1
@@ -137,7 +139,7 @@ module _ (t r : List ℕ) (o : StoreInOrder t r) (x : ℕ) (h : x < issued t) (g
     where
       go : (b : Bool) → eqb (looked old .cached) 0 ≡ b → Stores ((targetTook t r x (cond b (Refill.Idle (settleEmpty (looked old))) (Refill.Ready (looked old)))) .1) r
       go true e = settled-kept t r o x h g (settleEmpty (looked old)) (empties e)
-      go false e = target-stores t r o x h g e
+      go false e = stores-held-count _ r _ (target-stores t r o x h g e)
 
 -- ---- the call
 
@@ -155,6 +157,6 @@ module _ (t r : List ℕ) (i : LaneId) (o : StoreInOrder t r) where
       unless-refused-case (λ w. Stores (w .1) (w .2)) (idVerdict t i) t r (withRings r (takeFrom t r (i .key .slot))) (λ why e. o .stores)
       (λ e. let k = id-passes t i e .1 in take-from-stores t r o (i .key .slot) (k .is-issued) (k .registered))
 
-  pub try-recv-from-keeps : StoreInOrder ((tryRecvFrom t r i) .1) ((tryRecvFrom t r i) .2)
+  pub try-recv-from-keeps : InOrderButHeld ((tryRecvFrom t r i) .1) ((tryRecvFrom t r i) .2)
   unfolding outcome rules.receiveOutcome
-  try-recv-from-keeps = store-in-order-after t r (Receive (TryRecvFrom i)) (tryRecvFrom t r i) o try-recv-from-alike try-recv-from-stores
+  try-recv-from-keeps = but-held-after t r (Receive (TryRecvFrom i)) (tryRecvFrom t r i) (but-held o) try-recv-from-alike try-recv-from-stores

@@ -14,27 +14,26 @@ use Rattle.model.specs.Turn.{Took}
 use Rattle.model.specs.Receive as rules
 use Rattle.store.specs.declared.refusal.Verdict.{Verdict}
 use Rattle.store.specs.View.{view}
-use Rattle.store.specs.Order.{StoreInOrder}
+use Rattle.store.specs.Order.{InOrderButHeld}
 use Rattle.store.specs.Words.{Words, withRings}
 use Rattle.all_lanes.specs.AllLanes.{releaseAll}
 use Rattle.receive_batch.specs.Batch.{batchVerdict, handedBy}
 use Rattle.receive_while.specs.While.{DrainedWhile, drainedWhile, answerWhile, whileAnswer, whileWords, whileHands}
 use Rattle.store.proofs.RefusalLaws.{seen, firstOf, refused-alike, unless-refused-case}
-use Rattle.all_lanes.proofs.ReleaseConsumedLaws.{view-release-all}
-use Rattle.refinement.proofs.TryRecvBatchLaws.{released-in-order, answer-items-alike, answer-items-keeps, answer-items-hands, handed-by-tests, tests, batch-verdict}
+use Rattle.refinement.proofs.TryRecvBatchLaws.{released-held, view-released, answer-items-alike, answer-items-keeps, answer-items-hands, handed-by-tests, tests, batch-verdict}
 use Rattle.refinement.proofs.WhileView.{WhileAs, drained-while-alike}
 
 -- the answer to items handed out from a table, by whether it stopped
-module _ (t r : List ℕ) (o : StoreInOrder t r) where
+module _ (t r : List ℕ) (o : InOrderButHeld t r) where
   answer-while-alike : (limit : ℕ) (b : Bool) (l : List (LaneKey × ℕ))
       → seen (withRings r (answerWhile limit record { received = length l; rejected = b } (releaseAll t))) ≡ (rules.answerWhile limit b l (rules.releaseAll (view t r))) .1
   unfolding answerWhile rules.answerWhile
-  answer-while-alike limit true l = ap (λ (s : State). (Stopped (length l), s)) (view-release-all t r (o .stores))
+  answer-while-alike limit true l = ap (λ (s : State). (Stopped (length l), s)) (view-released t r o (length l))
   answer-while-alike limit false l = answer-items-alike t r o limit l
 
-  answer-while-keeps : (limit n : ℕ) (b : Bool) → StoreInOrder ((answerWhile limit record { received = n; rejected = b } (releaseAll t)) .1) r
+  answer-while-keeps : (limit n : ℕ) (b : Bool) → InOrderButHeld ((answerWhile limit record { received = n; rejected = b } (releaseAll t)) .1) r
   unfolding answerWhile
-  answer-while-keeps limit n true = released-in-order t r o
+  answer-while-keeps limit n true = released-held t r o n
   answer-while-keeps limit n false = answer-items-keeps t r o limit n
 
 answer-while-hands : (limit : ℕ) (b : Bool) (l : List (LaneKey × ℕ)) (s : State) → (rules.answerWhile limit b l s) .0 ≡ l
@@ -42,7 +41,7 @@ unfolding rules.answerWhile
 answer-while-hands limit true l s = refl
 answer-while-hands limit false l s = answer-items-hands limit l s
 
-module _ (t r : List ℕ) (o : StoreInOrder t r) (limit bound room : ℕ) where
+module _ (t r : List ℕ) (o : InOrderButHeld t r) (limit bound room : ℕ) where
   abbrev d : DrainedWhile
   d = drainedWhile t r limit bound
 
@@ -66,10 +65,10 @@ module _ (t r : List ℕ) (o : StoreInOrder t r) (limit bound room : ℕ) where
   try-recv-while-alike =
       refused-alike (batchVerdict t limit room) (tests t r limit room) t r (withRings r (whileAnswer t r limit bound)) outcome (batch-verdict t r limit room) (λ e. while-answer-alike)
 
-  pub try-recv-while-keeps : StoreInOrder ((whileWords t r limit bound room) .1) ((whileWords t r limit bound room) .2)
+  pub try-recv-while-keeps : InOrderButHeld ((whileWords t r limit bound room) .1) ((whileWords t r limit bound room) .2)
   unfolding whileWords whileAnswer
   try-recv-while-keeps =
-      unless-refused-case (λ (z : Words). StoreInOrder (z .1) (z .2)) (batchVerdict t limit room) t r (withRings r (whileAnswer t r limit bound)) (λ why e. o)
+      unless-refused-case (λ (z : Words). InOrderButHeld (z .1) (z .2)) (batchVerdict t limit room) t r (withRings r (whileAnswer t r limit bound)) (λ why e. o)
       (λ e. answer-while-keeps (d .1 .1) r (taken .in-order) limit (length (d .1 .0)) (d .0))
 
   -- each item with its lane's key, in order
@@ -86,6 +85,6 @@ module _ (t r : List ℕ) (o : StoreInOrder t r) (limit bound room : ℕ) where
           ∙ ap (λ (z : Bool × Took). (rules.answerWhile limit (z .0) (z .1 .0) (rules.releaseAll (z .1 .1))) .0) (taken .alike)
 
 -- "A batch hands out its output in order": the output's words
-pub try-recv-while-output : (t r out : List ℕ) → StoreInOrder t r → (limit bound room : ℕ) → rules.writtenTo (whileHands t r limit bound room) out ≡ rules.outputAfter (view t r) (TryRecvBatchIntoWhile limit bound room) out
+pub try-recv-while-output : (t r out : List ℕ) → InOrderButHeld t r → (limit bound room : ℕ) → rules.writtenTo (whileHands t r limit bound room) out ≡ rules.outputAfter (view t r) (TryRecvBatchIntoWhile limit bound room) out
 unfolding rules.outputAfter
 try-recv-while-output t r out o limit bound room = ap (λ (l : List (LaneKey × ℕ)). rules.writtenTo l out) (try-recv-while-hands t r o limit bound room)

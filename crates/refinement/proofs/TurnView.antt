@@ -27,7 +27,7 @@ use Rattle.turns.specs.declared.turn.Took.{Took}
 use Rattle.turns.specs.declared.turn.Took.the-variants as Took
 use Rattle.turns.specs.declared.turn.Turn.{Turn}
 use Rattle.store.specs.View.{slotAt, view}
-use Rattle.store.specs.Order.{StoreInOrder}
+use Rattle.store.specs.Order.{InOrderButHeld}
 use Rattle.turns.specs.Turn.{settleEmptyFront, meetBudget, gaveFront, turnBy, pollFront, afterTurn, turnsWithin, turns}
 use Rattle.turns.specs.Drained.{Rests}
 use Rattle.store.proofs.ViewLaws.{slot-in}
@@ -49,7 +49,7 @@ handed Took.Nothing = []
 -- the same is handed out, the rules see the same state, and the words are in order
 pub record TookAs (r : List ℕ) (o : Took × List ℕ) (w : rules.Took) : Type 0 where
   pub alike : (handed (o .0), view (o .1) r) ≡ w
-  pub in-order : StoreInOrder (o .1) r
+  pub in-order : InOrderButHeld (o .1) r
 
 -- the rules' turns from a queue on
 unfoldable pub turnsFrom : Bool → List ℕ → State → rules.Took
@@ -66,7 +66,7 @@ turns-from-front fair s x v q vs e f =
 
 -- ---- the front lane by the queue's first slot
 
-module _ (t r : List ℕ) (o : StoreInOrder t r) (fair : Bool) (x : ℕ) (q : List ℕ) (e : queueOf t ≡ x ∷ q) where
+module _ (t r : List ℕ) (o : InOrderButHeld t r) (fair : Bool) (x : ℕ) (q : List ℕ) (e : queueOf t ≡ x ∷ q) where
   abbrev s : State
   s = view t r
 
@@ -104,7 +104,7 @@ module _ (t r : List ℕ) (o : StoreInOrder t r) (fair : Bool) (x : ℕ) (q : Li
     abbrev left : List ℕ
     left = meetBudget (settleEmptyFront t found)
 
-    pub left-ordered : StoreInOrder left r
+    pub left-ordered : InOrderButHeld left r
     left-ordered = met-in-order (settleEmptyFront t found) r (left-in-order t r o x q e found k)
 
     pub view-left : view left r ≡ rules.beforeNextTurn q (rules.settleEmpty x q s)
@@ -124,7 +124,7 @@ module _ (t r : List ℕ) (o : StoreInOrder t r) (fair : Bool) (x : ℕ) (q : Li
 
 -- ---- turn after turn
 
-turns-within-alike : (q t r : List ℕ) (fair : Bool) → StoreInOrder t r → queueOf t ≡ q → TookAs r (turnsWithin (length q) t r fair) (turnsFrom fair q (view t r))
+turns-within-alike : (q t r : List ℕ) (fair : Bool) → InOrderButHeld t r → queueOf t ≡ q → TookAs r (turnsWithin (length q) t r fair) (turnsFrom fair q (view t r))
 unfolding turnsWithin afterTurn turnBy turnsFrom rules.runDownFrom rules.giveFront view
 turns-within-alike [] t r fair o e = record { alike = sym (ap (rules.giveFront fair (view t r)) e); in-order = o }
 turns-within-alike (x ∷ q) t r fair o e =
@@ -134,7 +134,7 @@ turns-within-alike (x ∷ q) t r fair o e =
     h : FrontLane t x q
     h = front-lane t r o x q e
 
-    go : ((u : List ℕ) → StoreInOrder u r → queueOf u ≡ q → TookAs r (turnsWithin (length q) u r fair) (turnsFrom fair q (view u r)))
+    go : ((u : List ℕ) → InOrderButHeld u r → queueOf u ≡ q → TookAs r (turnsWithin (length q) u r fair) (turnsFrom fair q (view u r)))
         → (p : LanePoll) → poll (newRing x (capacity t)) r fair (laneAt t x) ≡ p
         → TookAs r (afterTurn (turnBy t p) (turnsWithin (length q) ((turnBy t p) .1) r fair)) (turnsFrom fair (x ∷ q) (view t r))
     go ih (LanePoll.Item item rotate gave m) f =
@@ -149,7 +149,7 @@ pub turns-from-is : (fair : Bool) (s : State) → turnsFrom fair (s .queue) s �
 unfolding turnsFrom rules.runDown
 turns-from-is fair s = refl
 
-pub turns-alike : (t r : List ℕ) (fair : Bool) → StoreInOrder t r → TookAs r (turns t r fair) (let s = rules.runDown (view t r) in rules.giveFront fair s (s .queue))
+pub turns-alike : (t r : List ℕ) (fair : Bool) → InOrderButHeld t r → TookAs r (turns t r fair) (let s = rules.runDown (view t r) in rules.giveFront fair s (s .queue))
 unfolding turns turnsFrom rules.runDown view
 turns-alike t r fair o = subst (λ (n : ℕ). TookAs r (turnsWithin n t r fair) (turnsFrom fair (queueOf t) (view t r))) (length-queue t) (turns-within-alike (queueOf t) t r fair o refl)
 
@@ -162,5 +162,5 @@ pub rests-queue : (o : Took × List ℕ) → Rests o → o .0 ≡ Took.Nothing �
 rests-queue (Took.Item item key, u) k e = let z : _≡_ {A = ℕ} 0 1 = cc in absurd (omega arith)
 rests-queue (Took.Nothing, u) k e = no-length (queueOf u) (length-queue u ∙ k .none-queued)
 
-pub turns-none-queued : (t r : List ℕ) (fair : Bool) → StoreInOrder t r → (turns t r fair) .0 ≡ Took.Nothing → queueOf ((turns t r fair) .1) ≡ []
+pub turns-none-queued : (t r : List ℕ) (fair : Bool) → InOrderButHeld t r → (turns t r fair) .0 ≡ Took.Nothing → queueOf ((turns t r fair) .1) ≡ []
 turns-none-queued t r fair o = rests-queue (turns t r fair) (turns-rest t r fair (turning-of t r o))

@@ -21,7 +21,7 @@ use Rattle.queues.specs.Queue.{queueOf, frontSlot, popFront}
 use Rattle.receive_batch.specs.declared.batch.Front.{Front}
 use Rattle.receive_batch.specs.declared.batch.Front.the-variants as Front
 use Rattle.store.specs.View.{view}
-use Rattle.store.specs.Order.{StoreInOrder}
+use Rattle.store.specs.Order.{InOrderButHeld}
 use Rattle.receive_batch.specs.Batch.{refreshActive, Reached, fullBudget, chunkSize, chunkItems, chunkGiven}
 use Rattle.receive_while.specs.While.{chunkAdmitted, DrainedWhile, whileThen, drainedWhileWithin, drainedWhile}
 use Rattle.turns.proofs.DueLaws.{turning-of}
@@ -35,11 +35,11 @@ use Rattle.refinement.proofs.ChunkView.{chunk-queue, chunk-fits, chunk-
 -- the same is handed out and it stops alike, the rules see the same state, and the words are in order
 pub record WhileAs (r : List ℕ) (d : DrainedWhile) (w : Bool × Took) : Type 0 where
   pub alike : (d .0, (d .1 .0, view (d .1 .1) r)) ≡ w
-  pub in-order : StoreInOrder (d .1 .1) r
+  pub in-order : InOrderButHeld (d .1 .1) r
 
 -- the steps that are left do what the rules do with what is left of the limit
 abbrev Goes : List ℕ → ℕ → ℕ → (List ℕ → ℕ → DrainedWhile) → Type 0
-Goes r bound n more = (u : List ℕ) (m : ℕ) → m ≤ n → StoreInOrder u r → WhileAs r (more u m) (takeWhile bound m (view u r))
+Goes r bound n more = (u : List ℕ) (m : ℕ) → m ≤ n → InOrderButHeld u r → WhileAs r (more u m) (takeWhile bound m (view u r))
 
 module _ (r : List ℕ) (s : State) (bound n left : ℕ) (some : 1 ≤ left) (enough : left ≤ suc n) (more : List ℕ → ℕ → DrainedWhile) (ih : Goes r bound n more) where
   -- nothing is queued and nothing is ready
@@ -151,7 +151,7 @@ module _ (r : List ℕ) (s : State) (bound n left : ℕ) (some : 1 ≤ left) (en
   while-then-alike (Front.None, u) a k = none-left u a k
   while-then-alike (Front.Ready l, u) a k = some-left l u a k
 
-within-alike : (n : ℕ) (t r : List ℕ) (bound left : ℕ) → left ≤ n → StoreInOrder t r → WhileAs r (drainedWhileWithin n t r bound left) (takeWhile bound left (view t r))
+within-alike : (n : ℕ) (t r : List ℕ) (bound left : ℕ) → left ≤ n → InOrderButHeld t r → WhileAs r (drainedWhileWithin n t r bound left) (takeWhile bound left (view t r))
 unfolding drainedWhileWithin
 within-alike zero t r bound zero h o = record { alike = sym (while-none bound (view t r)); in-order = o }
 within-alike zero t r bound (suc left) h o = absurd (omega arith)
@@ -161,6 +161,6 @@ within-alike (suc n) t r bound (suc left) h o =
     (while-then-alike r (view t r) bound n (suc left) (omega arith) h (λ u m. drainedWhileWithin n u r bound m) (λ u m i p. within-alike n u r bound m i p) (refreshActive t) (refresh-alike t r o)
     (refresh-searched t (turning-of t r o) .reached))
 
-pub drained-while-alike : (t r : List ℕ) (limit bound : ℕ) → StoreInOrder t r → WhileAs r (drainedWhile t r limit bound) (takeWhile bound limit (view t r))
+pub drained-while-alike : (t r : List ℕ) (limit bound : ℕ) → InOrderButHeld t r → WhileAs r (drainedWhile t r limit bound) (takeWhile bound limit (view t r))
 unfolding drainedWhile
 drained-while-alike t r limit bound o = within-alike limit t r bound limit (omega arith) o

@@ -27,7 +27,7 @@ use Rattle.queues.proofs.QueueLaws.{queue-front}
 use Rattle.turns.specs.declared.turn.Took.{Took}
 use Rattle.turns.specs.declared.turn.Took.the-variants as Took
 use Rattle.store.specs.View.{slotAt, view}
-use Rattle.store.specs.Order.{Stores, StoreInOrder}
+use Rattle.store.specs.Order.{Stores, InOrderButHeld}
 use Rattle.turns.specs.Turn.{frontLane}
 use Rattle.receive.specs.Receive.{takeFromWindow, fastTook, takeFast, takeIfPopped, takeFrontWindow}
 use Rattle.store.proofs.ViewLaws.{slot-in, view-fast-slot}
@@ -90,7 +90,7 @@ TakesAs r (Took.Item item key, u) w = TookAs r (Took.Item item key, u) w
 TakesAs r (Took.Nothing, u) w = 0 < 1
 
 -- an item of the front lane's window is the rules' next
-module _ (t r : List ℕ) (o : StoreInOrder t r) (x : ℕ) (q : List ℕ) (e : queueOf t ≡ x ∷ q) where
+module _ (t r : List ℕ) (o : InOrderButHeld t r) (x : ℕ) (q : List ℕ) (e : queueOf t ≡ x ∷ q) where
   front : FrontLane t x q
   front = front-lane t r o x q e
 
@@ -119,7 +119,7 @@ first-of : (x : ℕ) (q : List ℕ) → take 1 q ≡ x ∷ [] → q ≡ x ∷ dr
 first-of x [] e = let z : _≡_ {A = ℕ} 0 1 = ap length e in absurd (omega arith)
 first-of x (y ∷ q) e = let same : y ≡ x = cc in ap (λ (z : ℕ). z ∷ q) same
 
-module _ (t r : List ℕ) (o : StoreInOrder t r) where
+module _ (t r : List ℕ) (o : InOrderButHeld t r) where
   abbrev x : ℕ
   x = fastSlot t
 
@@ -145,7 +145,7 @@ module _ (t r : List ℕ) (o : StoreInOrder t r) where
       go h g (Popped.Nothing m) e = omega arith
 
 -- "then the front lane's window"
-module _ (t r : List ℕ) (o : StoreInOrder t r) where
+module _ (t r : List ℕ) (o : InOrderButHeld t r) where
   abbrev y : ℕ
   y = frontSlot t
 

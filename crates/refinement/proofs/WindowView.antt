@@ -24,7 +24,7 @@ use Rattle.queues.specs.Header.{budget, capacity, fastSlot, laneCount, livingCo
 use Rattle.queues.specs.Queue.{queueOf}
 use Rattle.queues.proofs.QueueLaws.{shaped-putLane}
 use Rattle.store.specs.View.{slotAt, view}
-use Rattle.store.specs.Order.{Stores, StoreInOrder}
+use Rattle.store.specs.Order.{Stores, InOrderButHeld}
 use Rattle.receive.specs.Receive.{takeFromWindow}
 use Rattle.store.proofs.ViewLaws.{slot-in, view-put-holding, view-budget}
 use Rattle.store.proofs.HeaderWords.{withWord}
@@ -49,7 +49,7 @@ pub record Pops (t r : List ℕ) (x item n : ℕ) (m : Lane) : Type 0 where
   pub within : m .window < budget t
 
 -- u is the table with `fast_slot` at the front lane
-module _ (t r : List ℕ) (o : StoreInOrder t r) (x : ℕ) (q : List ℕ) (e : queueOf t ≡ x ∷ q) (item n : ℕ) (m : Lane) (k : Pops t r x item n m)
+module _ (t r : List ℕ) (o : InOrderButHeld t r) (x : ℕ) (q : List ℕ) (e : queueOf t ≡ x ∷ q) (item n : ℕ) (m : Lane) (k : Pops t r x item n m)
     (u : List ℕ) (s : Step t u x (laneAt t x) (queueOf t) (withWord fastSlot x (head t))) (same : view u r ≡ view t r) where
   abbrev slot : Slot
   slot = view t r .slotOf x

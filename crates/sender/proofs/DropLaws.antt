@@ -8,14 +8,11 @@ use native.Mathlib.Omega.{arith}
 use Rattle.model.specs.declared.LaneKey.{LaneKey}
 use Rattle.model.specs.declared.Refusal.the-variants.{NoSuchSender}
 use Rattle.model.specs.declared.Answer.the-variants.{Done}
-use Rattle.model.specs.declared.SenderCall.the-variants.{DropSender}
-use Rattle.model.specs.declared.Call.the-variants.{Sender}
 use Rattle.model.specs.State.{State, senderLives}
 use Rattle.model.specs.Changes as rules
 use Rattle.model.specs.Changes.{put}
 use Rattle.model.specs.Outcome.{says}
 use Rattle.model.specs.Sender as rules-sender
-use Rattle.model.specs.Rules.{outcome}
 use Rattle.lane.specs.declared.lane.Lane.{Lane}
 use Rattle.lane.specs.Table.{head, laneAt, putLane}
 use Rattle.lane.proofs.TableLaws.{frames, slot-of-lane}
@@ -31,7 +28,7 @@ use Rattle.store.proofs.ViewLaws.{slot-in, view-put-flags, view-living-count}
 use Rattle.store.proofs.RefusalLaws.{seen, unless-refused-case, refused-alike, sender-verdict, Lives, sender-passes}
 use Rattle.store.proofs.HeaderWords.{withWord}
 use Rattle.store.proofs.StepLaws.{Step, step-start, step-put-lane, step-living-count}
-use Rattle.store.proofs.StoreLaws.{living-counted, store-in-order-after, stores-after, windows-kept}
+use Rattle.store.proofs.StoreLaws.{living-counted, stores-after, windows-kept}
 use Rattle.store.proofs.SignalLaws.{idle-flag, view-put-marked-if-idle, step-marked-if-idle}
 
 -- ---- of a living sender
@@ -110,7 +107,3 @@ module _ (t r : List ℕ) (k : LaneKey) (o : StoreInOrder t r) where
   drop-sender-keeps =
       unless-refused-case (λ z. Stores (z .1) (z .2)) (senderVerdict t k) t r (Done, dropLane t (laneAt t (k .slot)), r) (λ why e. o .stores)
       (λ e. dropped-stores t r k (o .stores) (sender-passes t k e))
-
-  pub drop-sender-in-order : StoreInOrder ((dropSender t r k) .1) ((dropSender t r k) .2)
-  unfolding outcome rules-sender.senderOutcome
-  drop-sender-in-order = store-in-order-after t r (Sender (DropSender k)) (dropSender t r k) o drop-sender-alike drop-sender-keeps

@@ -19,7 +19,7 @@ use Rattle.lane.specs.Lane.{pushAndFlushItem, sentBy, pushAndFlush}
 use Rattle.lane.specs.Order.{sentLane}
 use Rattle.lane.specs.Table.{laneAt, putLane}
 use Rattle.lane.proofs.FlushLaws.{flush-taken, flush-full}
-use Rattle.queues.specs.Header.{capacity}
+use Rattle.queues.specs.Header.{capacity, heldMore}
 use Rattle.sender.specs.Sender.{takeSignaled, sendSignaled, sendUnsignaled, pushed}
 
 module _ (ring : Ring) (l m : Lane) (s : Sent) (e : s ≡ pushAndFlush ring l) where
@@ -42,19 +42,19 @@ module _ (ring : Ring) (l m : Lane) (s : Sent) (e : s ≡ pushAndFlush ring l) w
     pushed-full : s ≡ Sent.Full m → pushed t r k v ≡ (Sent.Full m, r)
     pushed-full f = here ∙ flush-full ring r v l m (sym f ∙ e)
 
-    pub signaled-taken : {free : ℕ} → s ≡ Sent.Taken m free → (x : Answer) (u q : List ℕ) → (x, u) ≡ takeSignaled t m free → q ≡ put ring r (l .tail) v
-        → (x, u, q) ≡ sendSignaled t (pushed t r k v)
+    pub signaled-taken : {free : ℕ} → s ≡ Sent.Taken m free → (x : Answer) (u w q : List ℕ) → (x, u) ≡ takeSignaled t m free → w ≡ heldMore u → q ≡ put ring r (l .tail) v
+        → (x, w, q) ≡ sendSignaled t (pushed t r k v)
     unfolding sendSignaled
-    signaled-taken f x u q g h = ap₂ (λ (o : Answer × List ℕ) (y : List ℕ). (o .0, o .1, y)) g h ∙ sym (ap (sendSignaled t) (pushed-taken f))
+    signaled-taken f x u w q g i h = rw i (ap₂ (λ (o : Answer × List ℕ) (y : List ℕ). (o .0, heldMore (o .1), y)) g h) ∙ sym (ap (sendSignaled t) (pushed-taken f))
 
     pub signaled-full : s ≡ Sent.Full m → (Refused Refusal.Full, t, r) ≡ sendSignaled t (pushed t r k v)
     unfolding sendSignaled
     signaled-full f = sym (ap (sendSignaled t) (pushed-full f))
 
-    pub unsignaled-taken : {free : ℕ} → s ≡ Sent.Taken m free → (u q : List ℕ) → u ≡ putLane t m → q ≡ put ring r (l .tail) v
-        → (Taken false free, u, q) ≡ sendUnsignaled t (pushed t r k v)
+    pub unsignaled-taken : {free : ℕ} → s ≡ Sent.Taken m free → (u w q : List ℕ) → u ≡ putLane t m → w ≡ heldMore u → q ≡ put ring r (l .tail) v
+        → (Taken false free, w, q) ≡ sendUnsignaled t (pushed t r k v)
     unfolding sendUnsignaled
-    unsignaled-taken {free} f u q g h = ap₂ (λ (o y : List ℕ). (Taken false free, o, y)) g h ∙ sym (ap (sendUnsignaled t) (pushed-taken f))
+    unsignaled-taken {free} f u w q g i h = rw i (ap₂ (λ (o y : List ℕ). (Taken false free, heldMore o, y)) g h) ∙ sym (ap (sendUnsignaled t) (pushed-taken f))
 
     pub unsignaled-full : s ≡ Sent.Full m → (Refused Refusal.Full, t, r) ≡ sendUnsignaled t (pushed t r k v)
     unfolding sendUnsignaled

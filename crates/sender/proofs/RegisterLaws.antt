@@ -13,8 +13,6 @@ use Rattle.model.specs.declared.LaneKey.{LaneKey}
 use Rattle.model.specs.declared.Refusal.{Refusal}
 use Rattle.model.specs.declared.Refusal.the-variants.{ReceiverClosed, AtCapacity, NoFreeSlot, OlderSenderLives}
 use Rattle.model.specs.declared.Answer.the-variants.{Registered}
-use Rattle.model.specs.declared.SenderCall.the-variants.{RegisterSender}
-use Rattle.model.specs.declared.Call.the-variants.{Sender}
 use Rattle.model.specs.Lists.{if, both, nonEmpty, count, without}
 use Rattle.model.specs.State.{State, vacant, registeredLanes}
 use Rattle.model.specs.Changes as rules
@@ -22,7 +20,6 @@ use Rattle.model.specs.Changes.{put, withFree, withIssued}
 use Rattle.model.specs.Sender as rules-sender
 use Rattle.model.specs.Outcome.{Outcome, unless}
 use Rattle.model.specs.Sender.{clearSlots, issueSlot, allIssued}
-use Rattle.model.specs.Rules.{outcome}
 use Rattle.demands.proofs.Counting.{no as clash}
 use Rattle.lane.specs.declared.lane.Lane.{Lane}
 use Rattle.yring.specs.declared.ring.Ring.{Ring}
@@ -48,7 +45,7 @@ use Rattle.store.proofs.ViewLaws.{slot-in, slot-out, view-put-lane, view-lane-c
 use Rattle.store.proofs.RefusalLaws.{seen, firstOf, first-of-append, unless-append, unless-refused-case, refused-alike, receiver-verdict}
 use Rattle.store.proofs.HeaderWords.{withWord}
 use Rattle.store.proofs.StepLaws.{step-start, step-put-lane, step-reissued, step-lane-count, step-living-count}
-use Rattle.store.proofs.StoreLaws.{FreeSlot, freed-slot, view-reissued-without, store-in-order-after, stores-after, windows-kept}
+use Rattle.store.proofs.StoreLaws.{FreeSlot, freed-slot, view-reissued-without, stores-after, windows-kept}
 use Rattle.sender.proofs.IssueLaws.{issuedNext, shaped-issued-next, view-issued, stores-registered-next}
 use Rattle.sender.proofs.SenderBounds.{not-below, register-room}
 use Rattle.sender.proofs.PassedLaws.{PassedCase, all, some, passed-case}
@@ -275,7 +272,3 @@ module _ (t r : List ℕ) (o : StoreInOrder t r) where
     register-sender-keeps =
         unless-refused-case (λ z. Stores (z .1) (z .2)) (lanesVerdict t most) t r (registerSlot t r n) (λ why e. o .stores)
         (λ e. unless-refused-case (λ z. Stores (z .1) (z .2)) (slotVerdict t n) t r made (λ why f. o .stores) (λ f. made-stores f (passed-case t r o)))
-
-    pub register-sender-in-order : StoreInOrder ((registerSender t r most) .1) ((registerSender t r most) .2)
-    unfolding outcome rules-sender.senderOutcome
-    register-sender-in-order = store-in-order-after t r (Sender (RegisterSender most)) (registerSender t r most) o register-sender-alike register-sender-keeps

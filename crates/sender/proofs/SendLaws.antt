@@ -1,4 +1,4 @@
--- The two sends: what the rules see of the words after is the rules' step, and they leave a store in order.
+-- The two sends: what the rules see of the words after is the rules' step, and they leave `Stores`.
 -- Assumes nothing.
 use mathlib.Core.Path.{_≡_, refl, sym, ap, _∙_, subst}
 use mathlib.Core.Logic.{_≢_}
@@ -14,15 +14,12 @@ use Rattle.model.specs.declared.Refusal.{Refusal}
 use Rattle.model.specs.declared.Refusal.the-variants.{NoSuchSender, LaneClosed, Full}
 use Rattle.model.specs.declared.Answer.{Answer}
 use Rattle.model.specs.declared.Answer.the-variants.{Taken}
-use Rattle.model.specs.declared.SenderCall.the-variants.{TrySend, TrySendUnsignaled}
-use Rattle.model.specs.declared.Call.the-variants.{Sender}
 use Rattle.model.specs.Lists.{both}
 use Rattle.model.specs.State.{Slot, State, senderLives, isFull, freePlaces}
 use Rattle.model.specs.Changes as rules
 use Rattle.model.specs.Changes.{put}
 use Rattle.model.specs.Outcome.{Outcome, unless}
 use Rattle.model.specs.Sender as rules-sender
-use Rattle.model.specs.Rules.{outcome}
 use Rattle.lane.specs.declared.lane.Lane.{Lane}
 use Rattle.yring.specs.declared.ring.Ring.{Ring}
 use Rattle.lane.specs.declared.producer.Sent.{Sent}
@@ -35,7 +32,7 @@ use Rattle.lane.specs.Table.{head, laneAt, putLane}
 use Rattle.lane.proofs.TableLaws.{frames, slot-of-lane}
 use Rattle.yring.proofs.RingLaws.{length-items, free-after-is}
 use Rattle.lane.proofs.OrderLaws.{push-and-flush-keeps}
-use Rattle.queues.specs.Header.{issued, slots, budget, capacity}
+use Rattle.queues.specs.Header.{issued, slots, budget, capacity, heldMore}
 use Rattle.queues.specs.Queue.{queueOf}
 use Rattle.ready.specs.Ready.{pageBit}
 use Rattle.queues.proofs.QueueLaws.{shaped-putLane}
@@ -45,10 +42,12 @@ use Rattle.store.specs.Refusal.{sendVerdict}
 use Rattle.store.specs.Words.{Words, unlessRefused}
 use Rattle.store.specs.Signal.{markIfIdle}
 use Rattle.sender.specs.Sender.{withSender, takeSignaled, sendSignaled, sendUnsignaled, pushed, trySend, trySendUnsignaled}
-use Rattle.store.proofs.ViewLaws.{slot-in, view-sent}
+use Rattle.store.proofs.ViewLaws.{slot-in, view-sent, view-held-count}
 use Rattle.store.proofs.RefusalLaws.{seen, unless-append, unless-refused-case, refused-alike, send-verdict, Sends, send-passes}
 use Rattle.store.proofs.StepLaws.{Step, step-start, step-put-lane}
-use Rattle.store.proofs.StoreLaws.{issued-ring-in, span-is, store-in-order-after, Owes, stores-after, windows-kept}
+use Rattle.store.proofs.StoreLaws.{issued-ring-in, span-is, Owes, stores-after, windows-kept}
+use Rattle.store.proofs.HeldLaws.{stores-held-count}
+use Rattle.store.proofs.SignalFrames.{shaped-marked-if-idle}
 use Rattle.store.proofs.SignalLaws.{idle-flag, view-put-marked-if-idle, step-marked-if-idle}
 
 -- ---- what a push comes to
@@ -174,7 +173,8 @@ module _ (t r : List ℕ) (k : LaneKey) (v : ℕ) (o : Stores t r) (p : Sends t 
         let z : Slot = rules.signalled (rules.pushed v (s .slotOf x)) in
         let left : seen (sendSignaled t (Sent.Taken (grown l) free, q)) ≡ (Taken (not (s .slotOf x .pending)) free, put x z s) =
         ap (λ (u : State). (Taken (eqb (l .pending) 0) free, u))
-        (view-put-marked-if-idle (putLane t m) q (shaped-putLane t (o .shaped) m) (grown l) x at (simp frames is-issued) _ s (view-taken m at refl refl))
+        (view-held-count (markIfIdle (putLane t m) (grown l)) q (shaped-marked-if-idle (putLane t m) (grown l) (shaped-putLane t (o .shaped) m)) _
+        ∙ view-put-marked-if-idle (putLane t m) q (shaped-putLane t (o .shaped) m) (grown l) x at (simp frames is-issued) _ s (view-taken m at refl refl))
         ∙ rw (slot-in t r x is-issued, idle)
         in left ∙ ap (λ (f : ℕ). (Taken (not (s .slotOf x .pending)) f, put x z s)) (free-alike z refl refl)
 
@@ -183,23 +183,26 @@ module _ (t r : List ℕ) (k : LaneKey) (v : ℕ) (o : Stores t r) (p : Sends t 
     unsignaled-view =
         let z : Slot = rules.pushed v (s .slotOf x) in
         let left : seen (sendUnsignaled t (Sent.Taken (grown l) free, q)) ≡ (Taken false free, put x z s) =
-        ap (λ (u : State). (Taken false free, u)) (view-taken (grown l) (slot-of-lane t x) refl refl) ∙ rw (slot-in t r x is-issued)
+        ap (λ (u : State). (Taken false free, u))
+        (view-held-count (putLane t (grown l)) q (shaped-putLane t (o .shaped) (grown l)) _ ∙ view-taken (grown l) (slot-of-lane t x) refl refl) ∙ rw (slot-in t r x is-issued)
         in left ∙ ap (λ (f : ℕ). (Taken false f, put x z s)) (free-alike z refl refl)
 
     start : Step t t x l (queueOf t) (head t)
     start = step-start t r o x
 
-    signaled-stores : Stores (markIfIdle (putLane t (withSender 1 (l .living) (grown l))) (grown l)) q
+    signaled-stores : Stores (heldMore (markIfIdle (putLane t (withSender 1 (l .living) (grown l))) (grown l))) q
     signaled-stores =
         let m : Lane = withSender 1 (l .living) (grown l) in
         let at : l .key .slot ≡ x = slot-of-lane t x in
-        stores-after t r _ q o x is-issued m (queueOf t) (head t)
-        (step-marked-if-idle (step-put-lane start m at is-issued) (grown l) (rw at is-issued)) (owes-taken 1 (omega arith)) long-enough
+        stores-held-count _ q _
+        (stores-after t r _ q o x is-issued m (queueOf t) (head t)
+        (step-marked-if-idle (step-put-lane start m at is-issued) (grown l) (rw at is-issued)) (owes-taken 1 (omega arith)) long-enough)
 
-    unsignaled-stores : Stores (putLane t (grown l)) q
+    unsignaled-stores : Stores (heldMore (putLane t (grown l))) q
     unsignaled-stores =
-        stores-after t r _ q o x is-issued (grown l) (queueOf t) (head t)
-        (step-put-lane start (grown l) (slot-of-lane t x) is-issued) (owes-taken (l .pending) (o .flags x is-issued .pending-flag)) long-enough
+        stores-held-count _ q _
+        (stores-after t r _ q o x is-issued (grown l) (queueOf t) (head t)
+        (step-put-lane start (grown l) (slot-of-lane t x) is-issued) (owes-taken (l .pending) (o .flags x is-issued .pending-flag)) long-enough)
 
   -- ---- full, or taken
 
@@ -266,12 +269,3 @@ module _ (t r : List ℕ) (k : LaneKey) (v : ℕ) (o : StoreInOrder t r) where
   pub try-send-unsignaled-keeps : Stores ((trySendUnsignaled t r k v) .1) ((trySendUnsignaled t r k v) .2)
   unfolding trySendUnsignaled
   try-send-unsignaled-keeps = sends-keep (sendUnsignaled t (pushed t r k v)) (unsignaled-keeps t r k v (o .stores))
-
-  pub try-send-in-order : StoreInOrder ((trySend t r k v) .1) ((trySend t r k v) .2)
-  unfolding outcome rules-sender.senderOutcome
-  try-send-in-order = store-in-order-after t r (Sender (TrySend k v)) (trySend t r k v) o try-send-alike try-send-keeps
-
-  pub try-send-unsignaled-in-order : StoreInOrder ((trySendUnsignaled t r k v) .1) ((trySendUnsignaled t r k v) .2)
-  unfolding outcome rules-sender.senderOutcome
-  try-send-unsignaled-in-order =
-      store-in-order-after t r (Sender (TrySendUnsignaled k v)) (trySendUnsignaled t r k v) o try-send-unsignaled-alike try-send-unsignaled-keeps

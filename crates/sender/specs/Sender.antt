@@ -2,7 +2,6 @@
 -- Assumes nothing.
 use mathlib.Core.Bool.{false, cond}
 use mathlib.Core.List.{List, [], _∷_}
-use mathlib.Core.Path.{_≡_}
 use mathlib.Core.Logic.{_≢_}
 use Prim.Native.Nat.{ℕ, suc, _+_, _-_, _≤_, _<_}
 use lib.Dec.{eqb, leb, ltb}
@@ -18,7 +17,7 @@ use Rattle.lane.specs.declared.producer.Sent.the-variants as Sent
 use Rattle.lane.specs.Lane.{withFlags, newLane, pushAndFlushItem}
 use Rattle.yring.specs.Ring.{Within, newRing}
 use Rattle.lane.specs.Table.{laneAt, putLane}
-use Rattle.queues.specs.Header.{setIssued, setLaneCount, setLivingCount, Shaped, issued, freeCount, slots, capacity, firstCursor, firstGeneration, laneCount, livingCount}
+use Rattle.queues.specs.Header.{setIssued, setLaneCount, setLivingCount, Shaped, issued, freeCount, slots, capacity, firstCursor, firstGeneration, laneCount, livingCount, heldMore}
 use Rattle.queues.specs.Registry.{freeOf, freedAt, reissue}
 use Rattle.ready.specs.Ready.{openPage}
 use Rattle.store.specs.declared.refusal.Verdict.{Verdict}
@@ -36,12 +35,12 @@ unfoldable pub takeSignaled : List ℕ → Lane → ℕ → Answer × List ℕ
 takeSignaled t l free = (Taken (eqb (l .pending) 0) free, markIfIdle (putLane t (withSender 1 (l .living) l)) l)
 
 unfoldable pub sendSignaled : List ℕ → Sent × List ℕ → Words
-sendSignaled t (Sent.Taken l free, r) = let a = takeSignaled t l free in (a .0, a .1, r)
+sendSignaled t (Sent.Taken l free, r) = let a = takeSignaled t l free in (a .0, heldMore (a .1), r)
 sendSignaled t (Sent.Full l, r) = (Refused Refusal.Full, t, r)
 
 -- "unsignalled always 0"
 unfoldable pub sendUnsignaled : List ℕ → Sent × List ℕ → Words
-sendUnsignaled t (Sent.Taken l free, r) = (Taken false free, putLane t l, r)
+sendUnsignaled t (Sent.Taken l free, r) = (Taken false free, heldMore (putLane t l), r)
 sendUnsignaled t (Sent.Full l, r) = (Refused Refusal.Full, t, r)
 
 -- what the ring of a key's slot answers to an item

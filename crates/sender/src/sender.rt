@@ -4,7 +4,6 @@ ghost use Prim.Native.Nat.{_<_};
 ghost use lib.ListN.{length};
 ghost use Rattle.queues.specs.Header.{Shaped, slots, livingCount};
 ghost use Rattle.store.specs.Order.{StoreInOrder};
-ghost use Rattle.store.specs.Signal.{markIfIdle};
 ghost use Rattle.sender.specs.Sender.{withSender, takeSignaled, SendRoom, pushed, sendSignaled, sendUnsignaled, trySend, trySendUnsignaled, dropLane, dropSender, FreeIssued, SlotDue, RegisterRoom, passedOver, capacityVerdict, lanesVerdict, slotVerdict, dueKey, takeSlot, registerLane, registerSlot, registerSender};
 use lane::lane::Lane;
 use lane::producer::Sent;
@@ -56,6 +55,7 @@ fn send_signaled(t: &mut [u64], r: &mut [u64], key: LaneKey, item: u64) -> Answe
             // Known before the lane is stored, the place is one number to keep meanwhile.
             let at = ring.index(l.tail);
             let answer = take_signaled(t, lane, free);
+            Header::held_more(t);
             ring::put_at(r, at, item);
             answer
         }
@@ -72,6 +72,7 @@ fn send_unsignaled(t: &mut [u64], r: &mut [u64], key: LaneKey, item: u64) -> Ans
         Sent::Full { lane: _ } => Answer::Refused { why: Refusal::Full },
         Sent::Taken { lane, free } => {
             lane.store(t);
+            Header::held_more(t);
             ring.put(r, l.tail, item);
             Answer::Taken {
                 woken: false,

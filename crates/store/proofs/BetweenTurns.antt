@@ -18,7 +18,7 @@ use Rattle.queues.specs.Queue.{queueOf}
 use Rattle.ready.specs.Ready.{collectReady}
 use Rattle.queues.proofs.QueueLaws.{queue-frames, header-in}
 use Rattle.store.specs.View.{flag, slotAt, view}
-use Rattle.store.specs.Order.{Stores, StoreInOrder}
+use Rattle.store.specs.Order.{Stores, InOrderButHeld}
 use Rattle.store.proofs.ViewLaws.{slot-in, view-budget}
 use Rattle.store.proofs.StepLaws.{linked-by, mark-words-by}
 use Rattle.store.proofs.CollectedView.{along, collected}
@@ -34,7 +34,7 @@ pub record FrontLane (t : List ℕ) (x : ℕ) (q : List ℕ) : Type 0 where
   -- it stands in the queue only there
   pub alone : count x q ≡ 0
 
-pub front-lane : (t r : List ℕ) → StoreInOrder t r → (x : ℕ) (q : List ℕ) → queueOf t ≡ x ∷ q → FrontLane t x q
+pub front-lane : (t r : List ℕ) → InOrderButHeld t r → (x : ℕ) (q : List ℕ) → queueOf t ≡ x ∷ q → FrontLane t x q
 unfolding view slotAt
 front-lane t r o x q e =
     let named : 1 ≤ count x (queueOf t) = omega (arith, ap (count x) e, first-own x q) in
@@ -81,7 +81,7 @@ stores-budget t r o b k =
     }
 
 -- a budget of 64, which no window passes
-pub full-budget-in-order : (t r : List ℕ) → StoreInOrder t r → StoreInOrder (setBudget t 64) r
+pub full-budget-in-order : (t r : List ℕ) → InOrderButHeld t r → InOrderButHeld (setBudget t 64) r
 unfolding view
 full-budget-in-order t r o =
     record {
@@ -92,7 +92,7 @@ full-budget-in-order t r o =
 -- ---- collecting
 
 -- one group or all of them
-pub collected-in-order : (t r : List ℕ) → StoreInOrder t r → (all : Bool) → StoreInOrder (collectReady all t) r
+pub collected-in-order : (t r : List ℕ) → InOrderButHeld t r → (all : Bool) → InOrderButHeld (collectReady all t) r
 collected-in-order t r o all =
     record {
       stores = stores-collected t r (o .stores) all;

@@ -1,20 +1,26 @@
--- Numbers that are sums over the issued slots, on the words and as the rules see them: the counts of registered lanes and of living senders.
+-- Numbers that are sums over the issued slots, on the words and as the rules see them: the counts of registered lanes, of living senders and of held items.
 -- Assumes nothing.
 use mathlib.Core.Path.{_≡_, refl, sym, ap, _∙_}
 use mathlib.Core.Logic.{_≢_}
-use mathlib.Core.Bool.{Bool, true, false}
+use mathlib.Core.Bool.{Bool, true, false, cond}
 use mathlib.Core.List.{List, [], _∷_}
 use Prim.Native.Nat.{ℕ, suc, _+_, _≤_, _<_}
 use native.Mathlib.Numerals.{add-one}
 use native.Mathlib.Omega.{arith}
 use lib.ListN.{length}
 use Rattle.model.specs.Lists.{if, keep, from, total}
-use Rattle.model.specs.State.{Slot, State, registeredLanes, livingSenders}
+use Rattle.model.specs.State.{Slot, State, registeredLanes, livingSenders, itemsHeld}
 use Rattle.demands.proofs.Totals.{total-more, total-some, total-same, total-but, sumOf}
+use Rattle.demands.proofs.Held.{ringCount, items-held-sum}
 use Rattle.lane.specs.declared.lane.Lane.{Lane}
+use Rattle.yring.specs.Cursor.{distance}
+use Rattle.yring.specs.Ring.{newRing}
+use Rattle.lane.specs.Lane.{heldItems}
 use Rattle.lane.specs.Table.{laneAt}
-use Rattle.queues.specs.Header.{issued}
+use Rattle.yring.proofs.RingLaws.{length-items}
+use Rattle.queues.specs.Header.{issued, capacity}
 use Rattle.store.specs.View.{flag, slotAt, view}
+use Rattle.store.specs.Held.{heldIn}
 use Rattle.store.proofs.ViewLaws.{slot-in}
 
 -- 1 of a test that holds
@@ -105,12 +111,32 @@ living-sum =
       agree = living-agree;
     }
 
+pub held-agree : (t r : List ℕ) (x : ℕ) → ringCount (slotAt t r x) ≡ heldIn (laneAt t x)
+unfolding ringCount heldIn slotAt heldItems
+held-agree t r x =
+    let l = laneAt t x in
+    rw (length-items (newRing x (capacity t)) r (l .head) (distance (l .tail) (l .head))) (same (flag (l .registered)) _)
+  where
+    same : (b : Bool) (n : ℕ) → if b n 0 ≡ cond b n 0
+    same true n = refl
+    same false n = refl
+
+abbrev pub held-sum : SlotSum
+held-sum =
+    record {
+      number = itemsHeld;
+      by-rules = ringCount;
+      by-words = heldIn;
+      is-sum = items-held-sum;
+      agree = held-agree;
+    }
+
 module _ (c : SlotSum) where
   -- by the words
   abbrev part : List ℕ → ℕ → ℕ
   part t x = c .by-words (laneAt t x)
 
-  number-is : (t r : List ℕ) → c .number (view t r) ≡ total (part t) (from 0 (issued t))
+  pub number-is : (t r : List ℕ) → c .number (view t r) ≡ total (part t) (from 0 (issued t))
   unfolding view
   number-is t r =
       c .is-sum (view t r)

@@ -3,6 +3,7 @@ pub mod RefusalLaws
 pub mod HeaderWords
 pub mod StepLaws
 pub mod CountLaws
+pub mod HeldLaws
 pub mod StoreLaws
 pub mod CollectedView
 pub mod CollectedStore

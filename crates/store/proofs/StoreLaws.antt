@@ -8,11 +8,10 @@ use Prim.Native.Nat.{ℕ, zero, suc, _+_, _-_, _*_, _≤_, _<_}
 use native.Mathlib.Nat.{mul-le-mul-right}
 use native.Mathlib.Omega.{arith}
 use borrow.Author.Tests.{eq-eqb, ne-eqb, eqb-true, eqb-false}
-use lib.Dec.{ltb}
 use lib.ListN.{length, take, drop}
 use Rattle.model.specs.Lists as rules
 use Rattle.model.specs.Lists.{if, count}
-use Rattle.model.specs.State.{Slot, State, vacant, releaseBatch, registeredLanes, livingSenders}
+use Rattle.model.specs.State.{Slot, State, releaseBatch, registeredLanes, livingSenders}
 use Rattle.model.specs.Changes.{withFree}
 use Rattle.model.specs.Order.{Ordered, SlotOrdered, RingsFit, LaneFits}
 use Rattle.model.specs.Rules.{outcome}
@@ -38,13 +37,14 @@ use Rattle.queues.proofs.Pigeonhole.{pigeonhole-less}
 use Rattle.queues.proofs.QueueLaws.{queue-has-room}
 use Rattle.queues.proofs.RegistryLaws.{length-free, free-parts, freed-in, free-reissued}
 use Rattle.store.specs.View.{flag, slotAt, view}
-use Rattle.store.specs.Order.{Flags, Fast, Stores, StoreInOrder}
+use Rattle.store.specs.Order.{Flags, Fast, Stores, InOrderButHeld, StoreInOrder, but-held}
 use Rattle.store.specs.Words.{Words}
 use Rattle.store.proofs.ViewLaws.{slot-in, row-in, view-reissued}
 use Rattle.store.proofs.HeaderWords.{placeOf}
 use Rattle.store.proofs.CountLaws.{one, SlotSum, lanes-sum, living-sum, number-some, number-but}
 use Rattle.store.proofs.StepLaws.{Step, issued-kept, slots-kept, capacity-kept, alive-kept, cursor-kept, fast-now, budget-now, lanes-now, living-now}
 use Rattle.store.proofs.RefusalLaws.{seen}
+use Rattle.store.proofs.HeldLaws.{HeldMoved, held-counted-after}
 
 -- ---- what a call takes from a store in order
 
@@ -116,7 +116,7 @@ pub record FreeSlot (t : List ℕ) (x : ℕ) : Type 0 where
   pub unregistered : (laneAt t x .registered ≡ 1) → ⊥
   pub generation : laneAt t x .key .generation ≢ 18446744073709551615
 
-pub free-slot : (t r : List ℕ) → StoreInOrder t r → (x : ℕ) → 1 ≤ count x (freeOf t) → FreeSlot t x
+pub free-slot : (t r : List ℕ) → InOrderButHeld t r → (x : ℕ) → 1 ≤ count x (freeOf t) → FreeSlot t x
 unfolding view slotAt
 free-slot t r o x c =
     let f = o .ordered .each-slot x in
@@ -129,7 +129,7 @@ free-slot t r o x c =
 
 module _ (t r : List ℕ) (o : StoreInOrder t r) (d : ℕ) (h : d < freeCount t) where
   pub freed-slot : FreeSlot t (freedAt t d)
-  freed-slot = free-slot t r o (freedAt t d) (freed-in t d h)
+  freed-slot = free-slot t r (but-held o) (freedAt t d) (freed-in t d h)
 
   -- taken off the list, it is the slot that the rules leave out
   pub free-reissued-without : freeOf (reissue t d) ≡ rules.without (freedAt t d) (freeOf t)
@@ -188,14 +188,20 @@ rings-fit t r o p =
         let f : flag (laneAt t y .registered) ≡ true = sym (registered-view t r o y h) ∙ e in
         lane-fits (capacity t) (o .power .most) (laneAt t y) (o .lanes y h (eqb-true _ 1 f)) (newRing y (capacity t)) r (view t r .slotOf y) (rw (slot-in t r y h)) (rw (slot-in t r y h))
 
--- every call of the rules keeps their order, so a call that does what the rules say leaves a store in order if it leaves `Stores`
-pub store-in-order-after : (t r : List ℕ) (c : Call) (w : Words) → StoreInOrder t r → seen w ≡ (outcome (view t r) c) .1 → Stores (w .1) (w .2)
-    → StoreInOrder (w .1) (w .2)
-store-in-order-after t r c w o e s =
+-- every call of the rules keeps their order, so a call that does what the rules say leaves a store in order if it leaves `Stores`,
+pub but-held-after : (t r : List ℕ) (c : Call) (w : Words) → InOrderButHeld t r → seen w ≡ (outcome (view t r) c) .1 → Stores (w .1) (w .2)
+    → InOrderButHeld (w .1) (w .2)
+but-held-after t r c w o e s =
     record {
       stores = s;
       ordered = subst Ordered (sym (ap (λ (z : Answer × State). z .1) e)) (call-keeps-order (view t r) c (record { ordered = o .ordered; rings-fit = rings-fit t r (o .stores) (o .ordered) }) .ordered);
     }
+
+-- and does what it owes to the held count
+pub store-in-order-after : (t r : List ℕ) (c : Call) (w : Words) → StoreInOrder t r → seen w ≡ (outcome (view t r) c) .1 → Stores (w .1) (w .2) → HeldMoved t r c w
+    → StoreInOrder (w .1) (w .2)
+store-in-order-after t r c w o e s m =
+    record { stores = s; ordered = but-held-after t r c w (but-held o) e s .ordered; held-counted = held-counted-after t r c w o e m }
 
 -- ---- a run of stores that changes one lane
 

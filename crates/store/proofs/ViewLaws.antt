@@ -26,7 +26,7 @@ use Rattle.lane.specs.Table.{HasRow, head, setHead, headerWords, laneAt, putLan
 use Rattle.lane.proofs.TableLaws.{frames, lane-own, other-lane-kept, slot-of-lane, has-row}
 use Rattle.yring.proofs.RingLaws.{other-ring-kept}
 use Rattle.lane.proofs.HeldLaws.{held-by-ends, push-and-flush-appends}
-use Rattle.queues.specs.Header.{Shaped, issued, slots, budget, groupCursor, alive, capacity, channel, firstGeneration, freeCount, queueCount, setBudget, setGroupCursor, setAlive, setFastSlot, setLaneCount, setLivingCount}
+use Rattle.queues.specs.Header.{Shaped, issued, slots, budget, groupCursor, alive, capacity, channel, firstGeneration, freeCount, queueCount, setBudget, setGroupCursor, setAlive, setFastSlot, setLaneCount, setLivingCount, setHeldCount}
 use Rattle.queues.specs.Queue as words
 use Rattle.queues.specs.Queue.{queueOf, pushBack, popFront, rotateLeft, remove}
 use Rattle.queues.specs.Registry.{freeOf, free, reissue}
@@ -388,3 +388,6 @@ module _ (t r : List ℕ) (s : Shaped t) where
 
   pub view-living-count : (n : ℕ) → view (setLivingCount t n) r ≡ view t r
   view-living-count n = unseen 14 n refl refl refl
+
+  pub view-held-count : (n : ℕ) → view (setHeldCount t n) r ≡ view t r
+  view-held-count n = unseen 16 n refl refl refl

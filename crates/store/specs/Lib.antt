@@ -1,5 +1,6 @@
 pub mod View
 pub mod Order
+pub mod Held
 pub mod Refusal
 pub mod Words
 pub mod Signal

@@ -4,13 +4,13 @@ use mathlib.Core.Path.{_≡_}
 use mathlib.Core.List.{List, [], _∷_}
 use Prim.Native.Nat.{ℕ, _*_, _^_, _≤_, _<_}
 use lib.ListN.{length, take}
-use Rattle.model.specs.State.{registeredLanes, livingSenders}
+use Rattle.model.specs.State.{registeredLanes, livingSenders, itemsHeld}
 use Rattle.model.specs.Order.{Ordered}
 use Rattle.lane.specs.declared.lane.Lane.{Lane}
 use Rattle.yring.specs.Cursor.{Capacity}
 use Rattle.lane.specs.Order.{InOrder}
 use Rattle.lane.specs.Table.{laneAt}
-use Rattle.queues.specs.Header.{Shaped, issued, slots, budget, alive, capacity, firstCursor, fastSlot, laneCount, livingCount}
+use Rattle.queues.specs.Header.{Shaped, issued, slots, budget, alive, capacity, firstCursor, fastSlot, laneCount, livingCount, heldCount}
 use Rattle.queues.specs.Queue.{QueueNames, queueOf}
 use Rattle.ready.specs.Ready.{pageWord, groupWord, Linked}
 use Rattle.store.specs.View.{view}
@@ -62,7 +62,17 @@ pub record Stores (t r : List ℕ) : Type 0 where
   pub lanes-counted : laneCount t ≡ registeredLanes (view t r)
   pub living-counted : livingCount t ≡ livingSenders (view t r)
 
-pub record StoreInOrder (t r : List ℕ) : Type 0 where
+-- Between the parts of a call the held count is not true yet: the word is changed once, where the answer is made.
+pub record InOrderButHeld (t r : List ℕ) : Type 0 where
   pub stores : Stores t r
   -- the clauses that the rules' state shows: model, specs/Order.antt
   pub ordered : Ordered (view t r)
+
+pub record StoreInOrder (t r : List ℕ) : Type 0 where
+  pub stores : Stores t r
+  pub ordered : Ordered (view t r)
+  -- document 02, N6: "A store whose held count is untrue is not in order."
+  pub held-counted : heldCount t ≡ itemsHeld (view t r)
+
+abbrev pub but-held : {t r : List ℕ} → StoreInOrder t r → InOrderButHeld t r
+but-held o = record { stores = o .stores; ordered = o .ordered }

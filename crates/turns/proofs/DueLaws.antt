@@ -1,7 +1,7 @@
 -- A store in order is ready for turns, and a look for ready lanes that is due leaves it so.
 -- Assumes nothing.
 use mathlib.Core.Path.{_≡_, sym, _∙_}
-use mathlib.Core.Bool.{true, false}
+use mathlib.Core.Bool.{false}
 use mathlib.Core.List.{List}
 use Prim.Native.Nat.{ℕ, _<_}
 use native.Mathlib.Omega.{arith}
@@ -14,7 +14,7 @@ use Rattle.lane.proofs.TableLaws.{frames}
 use Rattle.queues.specs.Header.{issued, queueCount, budget, setBudget}
 use Rattle.ready.specs.Ready.{collectReady}
 use Rattle.store.specs.View.{flag, slotAt, view}
-use Rattle.store.specs.Order.{StoreInOrder}
+use Rattle.store.specs.Order.{InOrderButHeld}
 use Rattle.store.proofs.ViewLaws.{slot-in}
 use Rattle.store.proofs.CountLaws.{passing-same}
 use Rattle.store.proofs.StoreLaws.{free-slot}
@@ -26,7 +26,7 @@ use Rattle.turns.proofs.CollectKeeps.{collect-keeps}
 
 -- ---- a store in order is ready for turns
 
-module _ (t r : List ℕ) (o : StoreInOrder t r) where
+module _ (t r : List ℕ) (o : InOrderButHeld t r) where
   seen-registered : (x : ℕ) → x < issued t → view t r .slotOf x .registered ≡ flag (laneAt t x .registered)
   unfolding slotAt
   seen-registered x h = rw (slot-in t r x h)

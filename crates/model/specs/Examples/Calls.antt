@@ -12,7 +12,7 @@ use Rattle.model.specs.declared.Refusal.the-variants.{CapacityOutOfRange
 use Rattle.model.specs.declared.Answer.{Answer}
 use Rattle.model.specs.declared.Answer.the-variants.{Done, Refused}
 use Rattle.model.specs.Lists.{both, same, count, keep, without, from, total}
-use Rattle.model.specs.State.{vacant, mayQueue, registeredLanes, livingSenders, senderLives, hasLane, hasLaneId, isFull, freePlaces, releaseBatch, ringOf}
+use Rattle.model.specs.State.{vacant, mayQueue, registeredLanes, livingSenders, itemsHeld, senderLives, hasLane, hasLaneId, isFull, freePlaces, releaseBatch, ringOf}
 use Rattle.model.specs.Ready.{groupOf, groupsIn, marks, isReady, collectMarks, collectGroup, startGroup, groupsRound, collectFirst, collectEach, collectReadyGroup, collectReady}
 use Rattle.model.specs.Turn.{retireLane, retireLaneIf, settleEmpty, refill, beforeNextTurn, runDownFrom, runDown, unreleasedAfterOne, giveItem, giveOldest, giveFront, collectIfDue, collectIfNoneQueued, polled, takeOne, takeFair}
 use Rattle.model.specs.Outcome.{unless}
@@ -29,7 +29,7 @@ use Rattle.model.specs.Examples.Table.{creditAfter, table}
 
 -- All definitions of the rules, for computing with them.
 unfoldable pub compute : Unit {0}
-unfolding same count keep without from total vacant mayQueue registeredLanes livingSenders senderLives hasLane hasLaneId isFull freePlaces releaseBatch ringOf groupOf groupsIn marks isReady collectMarks collectGroup startGroup groupsRound collectFirst collectEach collectReadyGroup collectReady retireLane retireLaneIf settleEmpty refill beforeNextTurn runDownFrom runDown unreleasedAfterOne giveItem giveOldest giveFront collectIfDue collectIfNoneQueued polled takeOne takeFair unless retireEmptyPausedLanes emptyOrDrained nothingTaken answerOne tryRecv tryRecvFair queueLaneIf takeFrom tryRecvFrom andMore takeUpTo releaseAll answerItems tryRecvBatchInto admitted halted takeWhile answerWhile tryRecvBatchIntoWhile receiveOutcome pause resumeIf resume closeLane releaseConsumed pollAllLanes closeReceiver countHeld controlOutcome clearSlots issueSlot allIssued registerSender trySend trySendUnsignaled dropSender senderOutcome doubledUntil openedState openingOutcome outcome
+unfolding same count keep without from total vacant mayQueue registeredLanes livingSenders itemsHeld senderLives hasLane hasLaneId isFull freePlaces releaseBatch ringOf groupOf groupsIn marks isReady collectMarks collectGroup startGroup groupsRound collectFirst collectEach collectReadyGroup collectReady retireLane retireLaneIf settleEmpty refill beforeNextTurn runDownFrom runDown unreleasedAfterOne giveItem giveOldest giveFront collectIfDue collectIfNoneQueued polled takeOne takeFair unless retireEmptyPausedLanes emptyOrDrained nothingTaken answerOne tryRecv tryRecvFair queueLaneIf takeFrom tryRecvFrom andMore takeUpTo releaseAll answerItems tryRecvBatchInto admitted halted takeWhile answerWhile tryRecvBatchIntoWhile receiveOutcome pause resumeIf resume closeLane releaseConsumed pollAllLanes closeReceiver countHeld controlOutcome clearSlots issueSlot allIssued registerSender trySend trySendUnsignaled dropSender senderOutcome doubledUntil openedState openingOutcome outcome
 compute = tt
 
 -- what does come of an example: its answers, and the poll budget at the end

@@ -1,5 +1,6 @@
 -- `fanring::recv::held` meets its contract.
 -- Assumes nothing.
+use native.Mathlib.Omega.{arith}
 use borrow.Author.Tests.{not-true, not-false}
 use borrow.Author.Needs.{needs}
 use Rattle.control.specs.Calls.{controlWords}
@@ -14,7 +15,7 @@ unfolding checkedWords callWords controlWords
 returns c = refuses (c .before .in-order .ensures) (not-true _ (c .if1 .taken)) _
 
 held-requires : tie.Need-held-requires
-held-requires c κs = c .before .in-order .ensures .0 (not-false _ (c .if1 .left))
+held-requires c κs = let o = c .before .in-order .ensures .0 (not-false _ (c .if1 .left)) in omega (arith, o .stores .shaped .room)
 
 returns-2 : tie.Need-returns-2
 unfolding checkedWords callWords controlWords

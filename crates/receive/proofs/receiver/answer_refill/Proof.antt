@@ -1,5 +1,6 @@
 -- `receive::receiver::answer_refill` meets its contract.
 -- Assumes nothing.
+use Rattle.store.specs.Order.{but-held}
 use native.Mathlib.Omega.{arith}
 use mathlib.Core.Path.{sym, ap₂, _∙_, subst}
 use Rattle.turns.specs.Drained.{Rests}
@@ -14,10 +15,10 @@ channel-requires : tie.Need-channel-requires
 channel-requires c κs = omega (arith, c .before .before .before .pre .stores .shaped .room)
 
 try-recv-refill-requires : tie.Need-try-recv-refill-requires
-try-recv-refill-requires c κs = (turning-of _ _ (c .before .before .before .before .before .pre), ringed-of _ _ (c .before .before .before .before .before .pre))
+try-recv-refill-requires c κs = (turning-of _ _ (but-held (c .before .before .before .before .before .pre)), ringed-of _ _ (but-held (c .before .before .before .before .before .pre)))
 
 answer-one-requires : tie.Need-answer-one-requires
-answer-one-requires c κs = subst Rests (sym (c .before .before .before .try-recv-refill .ensures)) (refill-rest _ (c .before .before .before .before .before .before .before .before .before .args .r .now) (turning-of _ _ (c .before .before .before .before .before .before .before .before .before .pre)))
+answer-one-requires c κs = (omega (arith, c .before .before .before .before .before .before .before .before .before .pre .stores .shaped .room), subst Rests (sym (c .before .before .before .try-recv-refill .ensures)) (refill-rest _ (c .before .before .before .before .before .before .before .before .before .args .r .now) (turning-of _ _ (but-held (c .before .before .before .before .before .before .before .before .before .pre)))))
 
 returns : tie.Need-returns
 returns c = c .before .before .answer-one .ensures ∙ ap₂ answerOne (c .before .before .before .before .before .before .before .before .channel .ensures) (c .before .before .before .before .before .before .try-recv-refill .ensures)

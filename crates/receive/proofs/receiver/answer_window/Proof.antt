@@ -1,5 +1,6 @@
 -- `receive::receiver::answer_window` meets its contract.
 -- Assumes nothing.
+use native.Mathlib.Omega.{arith}
 use mathlib.Core.Path.{sym, ap₂, _∙_, subst}
 use Rattle.turns.specs.Drained.{Rests}
 use Rattle.receive.specs.Receive.{answerOne}
@@ -18,7 +19,7 @@ take-from-window-requires : tie.Need-take-from-window-requires
 take-from-window-requires c κs = open-room _ _ _ (c .before .before .before .before .before .before .pre) _ (open-ring _ _ _ (c .before .before .before .before .before .before .pre) _ (c .before .before .new .ensures)) _ (c .before .pop-window .ensures)
 
 answer-one-requires : tie.Need-answer-one-requires
-answer-one-requires c κs = subst Rests (sym (c .before .before .before .before .before .take-from-window .ensures)) (window-rests _ _ _)
+answer-one-requires c κs = (omega (arith, c .before .before .before .before .before .before .before .before .before .before .before .before .pre .in-order .stores .shaped .room), subst Rests (sym (c .before .before .before .before .before .take-from-window .ensures)) (window-rests _ _ _))
 
 returns : tie.Need-returns
 returns c =

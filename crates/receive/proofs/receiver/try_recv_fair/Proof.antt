@@ -1,5 +1,6 @@
 -- `receive::receiver::try_recv_fair` meets its contract.
 -- Assumes nothing.
+use Rattle.store.specs.Order.{but-held}
 use Rattle.model.specs.declared.Answer.{Answer}
 use Rattle.receive.proofs.ReceiveLaws.{take-fair-rest}
 use Rattle.turns.proofs.DueLaws.{turning-of, ringed-of}
@@ -27,10 +28,10 @@ channel-requires : tie.Need-channel-requires
 channel-requires c κs = omega (arith, c .before .before .before .before .before .before .before .pre .stores .shaped .room)
 
 take-fair-requires : tie.Need-take-fair-requires
-take-fair-requires c κs = (turning-of _ _ (c .before .before .before .before .before .before .before .before .before .pre), ringed-of _ _ (c .before .before .before .before .before .before .before .before .before .pre))
+take-fair-requires c κs = (turning-of _ _ (but-held (c .before .before .before .before .before .before .before .before .before .pre)), ringed-of _ _ (but-held (c .before .before .before .before .before .before .before .before .before .pre)))
 
 answer-one-requires : tie.Need-answer-one-requires
-answer-one-requires c κs = subst Rests (sym (c .before .before .before .take-fair .ensures)) (take-fair-rest _ (c .before .before .before .before .before .before .before .before .before .before .before .before .before .args .r .now) (turning-of _ _ (c .before .before .before .before .before .before .before .before .before .before .before .before .before .pre)))
+answer-one-requires c κs = (omega (arith, c .before .before .before .before .before .before .before .before .before .before .before .before .before .pre .stores .shaped .room), subst Rests (sym (c .before .before .before .take-fair .ensures)) (take-fair-rest _ (c .before .before .before .before .before .before .before .before .before .before .before .before .before .args .r .now) (turning-of _ _ (but-held (c .before .before .before .before .before .before .before .before .before .before .before .before .before .pre)))))
 
 same-length : tie.Need-same-length
 same-length c = search needs

@@ -1,5 +1,7 @@
 -- `receive_batch::batch::try_recv_batch_into` meets its contract.
 -- Assumes nothing.
+use native.Mathlib.Omega.{arith}
+use Rattle.store.specs.Order.{but-held}
 use Rattle.receive_batch.proofs.BatchLaws.{batch-room, batch-refused, batch-done, batch-refunds, batch-rests}
 use Rattle.turns.proofs.DueLaws.{turning-of, ringed-of}
 use mathlib.Core.Path.{sym, _∙_}
@@ -17,13 +19,13 @@ enum-told : tie.Need-enum-told
 enum-told c = search needs
 
 drain-into-requires : tie.Need-drain-into-requires
-drain-into-requires c κs = ((turning-of _ _ (c .before .before .before .before .before .before .before .before .before .pre)), ringed-of _ _ (c .before .before .before .before .before .before .before .before .before .pre), batch-room _ _ _ (sym (c .before .before .before .before .batch-verdict .ensures) ∙ c .before .before .enum-told .given .1))
+drain-into-requires c κs = ((turning-of _ _ (but-held (c .before .before .before .before .before .before .before .before .before .pre))), ringed-of _ _ (but-held (c .before .before .before .before .before .before .before .before .before .pre)), batch-room _ _ _ (sym (c .before .before .before .before .batch-verdict .ensures) ∙ c .before .before .enum-told .given .1))
 
 release-all-requires : tie.Need-release-all-requires
-release-all-requires c κs = batch-refunds _ (c .before .before .before .before .before .before .before .before .before .before .before .before .before .before .before .args .r .now) (c .before .before .before .before .before .before .before .before .before .before .before .before .before .before .before .args .out .now) _ _ _ _ (c .before .before .before .before .before .drain-into .ensures) (turning-of _ _ (c .before .before .before .before .before .before .before .before .before .before .before .before .before .before .before .pre))
+release-all-requires c κs = batch-refunds _ (c .before .before .before .before .before .before .before .before .before .before .before .before .before .before .before .args .r .now) (c .before .before .before .before .before .before .before .before .before .before .before .before .before .before .before .args .out .now) _ _ _ _ (c .before .before .before .before .before .drain-into .ensures) (turning-of _ _ (but-held (c .before .before .before .before .before .before .before .before .before .before .before .before .before .before .before .pre)))
 
 answer-items-requires : tie.Need-answer-items-requires
-answer-items-requires c κs = batch-rests _ (c .before .before .before .before .before .before .before .before .before .before .before .before .before .before .before .before .before .before .before .args .r .now) (c .before .before .before .before .before .before .before .before .before .before .before .before .before .before .before .before .before .before .before .args .out .now) _ _ _ _ (c .before .before .before .before .before .before .before .before .before .drain-into .ensures) (turning-of _ _ (c .before .before .before .before .before .before .before .before .before .before .before .before .before .before .before .before .before .before .before .pre)) _ (c .before .before .before .release-all .ensures)
+answer-items-requires c κs = (omega (arith, c .before .before .before .before .before .before .before .before .before .before .before .before .before .before .before .before .before .before .before .pre .stores .shaped .room), batch-rests _ (c .before .before .before .before .before .before .before .before .before .before .before .before .before .before .before .before .before .before .before .args .r .now) (c .before .before .before .before .before .before .before .before .before .before .before .before .before .before .before .before .before .before .before .args .out .now) _ _ _ _ (c .before .before .before .before .before .before .before .before .before .drain-into .ensures) (turning-of _ _ (but-held (c .before .before .before .before .before .before .before .before .before .before .before .before .before .before .before .before .before .before .before .pre))) _ (c .before .before .before .release-all .ensures))
 
 same-length : tie.Need-same-length
 same-length c = search needs

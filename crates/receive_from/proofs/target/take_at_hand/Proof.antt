@@ -17,9 +17,12 @@ store-requires : tie.Need-store-requires
 store-requires c κs =
     rw (c .before .pop-targeted .ensures, c .before .before .new .ensures, hand-slot _ _ _ (c .before .before .before .before .before .before .before .pre)) (omega (arith, hand-below _ _ _ (c .before .before .before .before .before .before .before .pre), c .before .before .before .before .before .before .before .pre .in-order .stores .shaped .room))
 
+held-less-requires : tie.Need-held-less-requires
+held-less-requires c κs = omega (arith, c .before .before .before .before .before .before .before .before .before .before .before .pre .in-order .stores .shaped .room)
+
 returns : tie.Need-returns
 returns c =
-    rw (c .channel .ensures, c .before .before .before .before .store .ensures, c .before .before .before .before .before .before .pop-targeted .ensures, c .before .before .before .before .before .before .before .new .ensures, hand-channel _ _ _ (c .before .before .before .before .before .before .before .before .before .before .before .before .pre)) (hand-taken _ _ _ (c .before .before .before .before .before .before .before .before .before .before .before .before .pre))
+    rw (c .channel .ensures, c .before .before .before .before .held-less .ensures, c .before .before .before .before .before .before .before .before .store .ensures, c .before .before .before .before .before .before .before .before .before .before .pop-targeted .ensures, c .before .before .before .before .before .before .before .before .before .before .before .new .ensures, hand-channel _ _ _ (c .before .before .before .before .before .before .before .before .before .before .before .before .before .before .before .before .pre)) (hand-taken _ _ _ (c .before .before .before .before .before .before .before .before .before .before .before .before .before .before .before .before .pre))
 
 pub take-at-hand-spec : {M : Type 1} → statement M
 take-at-hand-spec =
@@ -29,6 +32,7 @@ take-at-hand-spec =
     new-requires
     pop-targeted-requires
     store-requires
+    held-less-requires
     (λ c κs. search needs)
     (λ c. search needs)
     returns)

@@ -38,6 +38,9 @@ pop-targeted-requires c κs = rw (c .before .before .before .before .before .bef
 keep-target-requires : tie.Need-keep-target-requires
 keep-target-requires c κs = rw (c .before .pop-targeted .ensures, c .before .before .before .before .before .before .before .before .before .new .ensures) (kept-room _ (c .before .before .before .before .before .before .before .before .before .before .before .before .before .before .before .args .r .now) (c .before .before .before .before .before .before .before .before .before .before .before .before .before .before .before .pre .0) _ (c .before .before .before .before .before .before .before .before .before .before .before .before .before .before .before .pre .1) (c .before .before .before .before .before .before .before .before .before .before .before .before .before .before .before .pre .2) _ (sym (refilled-as _ _ _ _ (c .before .before .before .before .before .before .before .load .ensures) (c .before .before .before .before .before .before .refill .ensures)) ∙ c .before .before .before .before .lane .given .1))
 
+held-less-requires : tie.Need-held-less-requires
+held-less-requires c κs = omega (arith, c .before .before .before .before .before .before .before .before .before .before .before .before .before .before .before .before .before .before .before .pre .0 .stores .shaped .room)
+
 same-length : tie.Need-same-length
 same-length c = search needs
 
@@ -50,7 +53,7 @@ same-length-2 c = search needs
 
 returns-2 : tie.Need-returns-2
 unfolding targetTook
-returns-2 c = rw (c .before .before .before .before .before .before .before .before .before .before .before .before .before .before .channel .ensures, c .before .before .keep-target .ensures, c .before .before .before .before .pop-targeted .ensures, c .before .before .before .before .before .before .before .before .before .before .before .before .new .ensures) (take-from-is _ (c .before .before .before .before .before .before .before .before .before .before .before .before .before .before .before .before .before .before .args .r .now) _ _ (sym (refilled-as _ _ _ _ (c .before .before .before .before .before .before .before .before .before .before .load .ensures) (c .before .before .before .before .before .before .before .before .before .refill .ensures)) ∙ c .before .before .before .before .before .before .before .lane .given .1))
+returns-2 c = rw (c .before .before .before .before .before .before .before .before .before .before .before .before .before .before .before .before .before .before .channel .ensures, c .before .before .held-less .ensures, c .before .before .before .before .before .before .keep-target .ensures, c .before .before .before .before .before .before .before .before .pop-targeted .ensures, c .before .before .before .before .before .before .before .before .before .before .before .before .before .before .before .before .new .ensures) (take-from-is _ (c .before .before .before .before .before .before .before .before .before .before .before .before .before .before .before .before .before .before .before .before .before .before .args .r .now) _ _ (sym (refilled-as _ _ _ _ (c .before .before .before .before .before .before .before .before .before .before .before .before .before .before .load .ensures) (c .before .before .before .before .before .before .before .before .before .before .before .before .before .refill .ensures)) ∙ c .before .before .before .before .before .before .before .before .before .before .before .lane .given .1))
 
 pub take-refilled-spec : {M : Type 1} → statement M
 take-refilled-spec =
@@ -66,6 +69,7 @@ take-refilled-spec =
     enum-known-lane
     pop-targeted-requires
     keep-target-requires
+    held-less-requires
     same-length
     returns
     same-length-2
