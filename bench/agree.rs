@@ -4,7 +4,7 @@ use crate::library::Library;
 use crate::original::Original;
 use crate::plain::Plain;
 use crate::random::Random;
-use crate::side::{Batch, Key, Received, Side};
+use crate::side::{Batch, Holds, Key, Received, Side};
 
 /// Capacity, slots, calls.
 const STREAMS: [(usize, usize, usize); 7] = [
@@ -151,6 +151,13 @@ impl Stream {
         }
     }
 
+    /// All sides but the original say how many items they hold.
+    fn held(&mut self) {
+        let held = self.plain.held();
+        assert_eq!(held, self.inner.held(), "the inner calls, held");
+        assert_eq!(held, self.checked.held(), "the checked calls, held");
+    }
+
     fn step(&mut self) {
         self.crowded ^= self.random.one_in(500);
         let limit = self.random.pick(if self.crowded { &[0, 1, 3, 20] } else { &[0, 3, 64, 4096] });
@@ -183,6 +190,7 @@ pub fn agree() -> usize {
         }
         for _ in 0..steps {
             stream.step();
+            stream.held();
         }
     }
     STREAMS.iter().map(|stream| stream.2).sum()

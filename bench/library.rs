@@ -1,6 +1,6 @@
 //! This library, by its inner calls or by its checked ones, as include/fanring.h declares them.
 
-use crate::side::{Batch, Key, LaneId, Received, Sent, Side};
+use crate::side::{Batch, Holds, Key, LaneId, Received, Sent, Side};
 
 type Words = [u64; 8];
 
@@ -10,6 +10,7 @@ const TAKEN: u64 = 2;
 const ITEM: u64 = 3;
 const ITEMS: u64 = 4;
 const EMPTY: u64 = 5;
+const HELD: u64 = 7;
 const STOPPED: u64 = 9;
 const FULL: u64 = 11;
 
@@ -72,6 +73,7 @@ calls! {
     close_by_id = fanring_close_lane, fanring_inner_close_lane(channel: u64, slot: u64, generation: u64, opening: u64);
     release = fanring_release_consumed, fanring_inner_release_consumed();
     poll_all = fanring_poll_all_lanes, fanring_inner_poll_all_lanes();
+    count_held = fanring_held, fanring_inner_held();
 }
 
 pub struct Library<const CHECKED: bool> {
@@ -85,6 +87,12 @@ pub struct Library<const CHECKED: bool> {
 }
 
 impl<const CHECKED: bool> Library<CHECKED> {
+    /// What inner calls have made: 8,192 checked ones would be slow.
+    fn of(inner: Library<false>) -> Self {
+        let Library { capacity, slots, table, rings, words, output, count } = inner;
+        Self { capacity, slots, table, rings, words, output, count }
+    }
+
     #[inline(always)]
     fn sent(&self, tag: u64) -> Sent {
         match (tag, self.words[0]) {
@@ -130,12 +138,10 @@ impl<const CHECKED: bool> Side for Library<CHECKED> {
         new
     }
 
-    /// By inner calls: 8,192 checked ones would be slow.
     fn with_lanes(capacity: usize, lanes: usize) -> Self {
         let mut new = Library::<false>::open(capacity, lanes);
         while new.register_sender(lanes).is_some() {}
-        let Library { capacity, slots, table, rings, words, output, count } = new;
-        Self { capacity, slots, table, rings, words, output, count }
+        Self::of(new)
     }
 
     fn channel(&self) -> u64 {
@@ -227,5 +233,19 @@ impl<const CHECKED: bool> Side for Library<CHECKED> {
 
     fn poll_all_lanes(&mut self) {
         assert_eq!(self.poll_all(), DONE);
+    }
+}
+
+impl<const CHECKED: bool> Holds for Library<CHECKED> {
+    fn filled(capacity: usize, lanes: usize, items: usize) -> Self {
+        let mut new = Library::<false>::with_lanes(capacity, lanes);
+        new.fill(lanes, items);
+        Self::of(new)
+    }
+
+    #[inline(always)]
+    fn held(&mut self) -> u64 {
+        assert_eq!(self.count_held(), HELD);
+        self.words[0]
     }
 }

@@ -33,7 +33,7 @@ mod plain;
 mod random;
 mod side;
 
-use measure::{Effort, PLACES};
+use measure::{Effort, HELD, HELD_PLACES, PLACES};
 
 fn main() {
     let mut effort = Effort { rounds: 30, seconds: 0.5 };
@@ -49,6 +49,7 @@ fn main() {
                 for place in &PLACES {
                     place.hows.iter().for_each(|how| println!("{}\t{}", how.name(), place.name));
                 }
+                HELD_PLACES.iter().for_each(|(place, ..)| println!("{HELD}\t{place}"));
                 return;
             }
             _ => panic!("options: --rounds N, --seconds N, --only CALL PLACE, --list"),
@@ -60,11 +61,17 @@ fn main() {
         measure::openings(effort);
         measure::passed_over(effort);
     }
+    let asked = |call: &str, place: &str| only.as_ref().is_none_or(|only| only.0 == call && only.1 == place);
     for place in &PLACES {
         for &how in place.hows {
-            if only.as_ref().is_none_or(|(call, name)| call == how.name() && name == place.name) {
+            if asked(how.name(), place.name) {
                 measure::receives(place, how, effort);
             }
+        }
+    }
+    for place in HELD_PLACES {
+        if asked(HELD, place.0) {
+            measure::held(place, effort);
         }
     }
 }

@@ -6,7 +6,7 @@ use std::time::Instant;
 use crate::library::Library;
 use crate::original::Original;
 use crate::plain::Plain;
-use crate::side::{Batch, Key, LaneId, Received, Sent, Side};
+use crate::side::{Batch, Holds, Key, LaneId, Received, Sent, Side};
 
 /// A side takes part in at least so many rounds, and in more until it has used so many seconds.
 #[derive(Clone, Copy)]
@@ -308,4 +308,37 @@ pub fn passed_over(effort: Effort) {
         while inner.go(effort, |side| pass_over(side, passed)) {}
         inner.tell(place, ["register, slots passed over"]);
     }
+}
+
+pub const HELD: &str = "held";
+/// Where held is measured, with every lane registered: the lanes, and the calls of a round of a side that goes over them all.
+pub const HELD_PLACES: [(&str, usize, usize); 3] = [("1 lane", 1, 1000), ("64 lanes", 64, 1000), ("8,192 lanes", SLOTS, 16)];
+/// The items of each lane.
+const ITEMS: usize = 3;
+
+fn count_held<S: Holds>(side: &mut S, lanes: usize, calls: usize) -> [f64; 1] {
+    let start = Instant::now();
+    let mut sum = 0;
+    for _ in 0..calls {
+        sum += black_box(&mut *side).held();
+    }
+    let took = since(start, calls);
+    assert_eq!(sum, (calls * lanes * ITEMS) as u64);
+    [took]
+}
+
+/// Without the original, which has no such call.
+pub fn held((place, lanes, calls): (&str, usize, usize), effort: Effort) {
+    let mut plain = Run::new(Plain::filled(4, lanes, ITEMS));
+    let mut inner = Run::new(Library::<false>::filled(4, lanes, ITEMS));
+    let mut checked = Run::new(Library::<true>::filled(4, lanes, ITEMS));
+    let mut more = true;
+    while more {
+        more = plain.go(effort, |side| count_held(side, lanes, calls));
+        more |= inner.go(effort, |side| count_held(side, lanes, 1000));
+        more |= checked.go(effort, |side| count_held(side, lanes, calls));
+    }
+    plain.tell(place, [HELD]);
+    inner.tell(place, [HELD]);
+    checked.tell(place, [HELD]);
 }

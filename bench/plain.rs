@@ -4,7 +4,7 @@
 use std::collections::VecDeque;
 use std::mem;
 
-use crate::side::{Batch, Key, LaneId, Received, Sent, Side};
+use crate::side::{Batch, Holds, Key, LaneId, Received, Sent, Side};
 
 const BURST: usize = 64;
 const BUDGET: usize = 64;
@@ -460,5 +460,12 @@ impl Side for Plain {
                 self.enqueue(slot);
             }
         }
+    }
+}
+
+impl Holds for Plain {
+    #[inline(never)]
+    fn held(&mut self) -> u64 {
+        self.lanes.iter().filter(|lane| lane.registered).map(|lane| lane.ring.len() as u64).sum()
     }
 }

@@ -92,3 +92,22 @@ pub trait Side: Sized {
     fn release_consumed(&mut self);
     fn poll_all_lanes(&mut self);
 }
+
+/// A side that can say how many items it holds; the original cannot.
+pub trait Holds: Side {
+    /// So many lanes with so many items each.
+    fn filled(capacity: usize, lanes: usize, items: usize) -> Self {
+        let mut new = Self::with_lanes(capacity, lanes);
+        new.fill(lanes, items);
+        new
+    }
+    fn fill(&mut self, lanes: usize, items: usize) {
+        for slot in 0..lanes as u64 {
+            for item in 0..items as u64 {
+                assert!(matches!(self.try_send(Key { slot, generation: 0 }, item), Sent::Taken(_)));
+            }
+        }
+    }
+    /// The items in the rings of registered lanes.
+    fn held(&mut self) -> u64;
+}
