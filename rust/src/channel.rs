@@ -18,8 +18,9 @@ use crate::{LaneId, LaneKey, Opening, Stores};
 /// # Why the calls' premise holds
 ///
 /// The library has each call twice. A checked call tests first whether its stores are *in order*, document 01's list of
-/// what must hold of their words, which goes over every issued slot. An inner call has this as its only premise, and no
-/// test. After the opening, which has no premise, a `Channel` makes inner calls only. Their premise holds, since:
+/// what must hold of their words, with document 02's clause on the items held; the test goes over every issued slot.
+/// An inner call has this as its only premise, and no test. After the opening, which has no premise, a `Channel` makes
+/// inner calls only. Their premise holds, since:
 ///
 /// - A `Channel` comes from an accepted opening and from nowhere else, and an accepted opening leaves stores in order,
 ///   whatever the words held (`open-in-order` in crates/opening/proofs/OpeningLaws.antt; `opens-in-order` in

@@ -94,13 +94,14 @@
 //!
 //! Every call of a [`Channel`] is one call of the library, with the numbers that it was given; but
 //! [`try_recv_batch_into`](Channel::try_recv_batch_into) and
-//! [`try_recv_batch_into_while`](Channel::try_recv_batch_into_while) may count the items first, and lower their limit to
+//! [`try_recv_batch_into_while`](Channel::try_recv_batch_into_while) may read the held count first, and lower their limit to
 //! one with which the library does and answers the same. Of the library's calls the repository proves, among other things, by
 //! the names in its docs/CLAIMS.md:
 //!
 //! - each call does what the rules of document 01, the customer's scope paper, and of the changes asked for since say
 //!   (`call-alike`, `calls-as-rules`);
 //! - a refusal changes nothing (`refusals-change-nothing`);
+//! - the held count is the number of items in rings of registered lanes, after every call (`held-word-true`);
 //! - the items handed out of a lane that was never closed, and then those in its ring, are its accepted sends, in
 //!   order (`items-in-order`);
 //! - a lane that has an item, sent by [`Channel::try_send`], and is neither paused nor closed waits for a bounded

@@ -241,6 +241,12 @@ fn stops() {
     assert!(replay(&data("stops.txt"), &REPLAY) >= 100, "stops.txt is shorter than it was");
 }
 
+/// Held after each kind of call.
+#[test]
+fn held() {
+    assert!(replay(&data("held.txt"), &REPLAY) >= 190, "held.txt is shorter than it was");
+}
+
 #[test]
 fn refused_openings() {
     replay(&data("openings.txt"), &REPLAY);

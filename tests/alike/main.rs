@@ -1,14 +1,21 @@
-//! Whether two files of answers agree, line by line.
+//! Whether two files of answers to the same records agree, line by line.
 //!
-//!     alike [--original] LEFT RIGHT
+//!     alike [--original] RECORDS LEFT RIGHT
 //!
-//! A line `outside` of LEFT, where the original has no answer, agrees with every line and is not counted. With --original LEFT is the original's, which
-//! does not say how many places are free: its `taken W` agrees with `taken W F` for every number F, and with nothing else. Prints `difference N`, with
-//! the number of the first line that differs; or counts, one to a line: of lines compared, of lines outside, of lines that answer a call made with more
-//! than 4,096 slots issued, and of each answer, the refusals by their numbers and the batches that stopped apart from the others.
+//! Each record has a line in both, up to a malformed one. A line `outside` of LEFT, where the original has no answer, agrees with every line and is not
+//! counted. With --original LEFT is the original's, which does not say how many places are free: its `taken W` agrees with `taken W F` for every number
+//! F, and with nothing else. Prints `difference N`, with the number of the first line that differs, is missing or answers no record; or counts, one to a
+//! line: of lines compared, of lines outside, of lines that answer a call made with more than 4,096 slots issued, of each answer, the refusals by their
+//! numbers and the batches that stopped apart from the others, and behind the word `kind` of the lines compared that answer a call of each kind.
+
+#[allow(dead_code)]
+#[path = "../streams/records.rs"]
+mod records;
 
 use std::collections::BTreeMap;
 use std::io;
+
+use records::{KINDS, Next};
 
 const OUTSIDE: &[u8] = b"outside";
 /// What batches that stopped are counted as, but for those without an item, which have their whole line.
@@ -39,6 +46,7 @@ struct Counts<'a> {
     outside: u64,
     two_groups: u64,
     answers: BTreeMap<&'a [u8], u64>,
+    kinds: BTreeMap<&'static str, u64>,
     /// More than 4,096 slots are issued.
     wide: bool,
 }
@@ -49,8 +57,9 @@ fn slot(line: &[u8]) -> u64 {
 }
 
 impl<'a> Counts<'a> {
-    fn count(&mut self, line: &'a [u8]) {
+    fn count(&mut self, kind: &'static str, line: &'a [u8]) {
         self.compared += 1;
+        *self.kinds.entry(kind).or_default() += 1;
         self.two_groups += u64::from(self.wide);
         if line.starts_with(b"lane ") {
             // An opening's first lane is 0 0.
@@ -69,15 +78,23 @@ fn main() -> io::Result<()> {
     let mut words: Vec<String> = std::env::args().skip(1).collect();
     let original = words.first().is_some_and(|word| word == "--original");
     words.drain(..usize::from(original));
-    let [left, right] = &words[..] else { panic!("alike [--original] LEFT RIGHT") };
-    let (left, right) = (std::fs::read(left)?, std::fs::read(right)?);
-    let (mut left, mut right) = (lines(&left), lines(&right));
+    let [calls, left, right] = &words[..] else { panic!("alike [--original] RECORDS LEFT RIGHT") };
+    let (calls, left, right) = (std::fs::read(calls)?, std::fs::read(left)?, std::fs::read(right)?);
+    let (mut calls, mut left, mut right) = (&calls[..], lines(&left), lines(&right));
     let mut counts = Counts::default();
     for number in 1.. {
-        match (left.next(), right.next()) {
-            (None, None) => break,
-            (Some(a), Some(_)) if a == OUTSIDE => counts.outside += 1,
-            (Some(a), Some(b)) if agree(a, b, original) => counts.count(a),
+        let kind = match records::next(&mut calls)? {
+            Next::Record(record) => Some(KINDS[record.kind as usize].0),
+            Next::Malformed => {
+                calls = &[];
+                Some("malformed")
+            }
+            Next::End => None,
+        };
+        match (kind, left.next(), right.next()) {
+            (None, None, None) => break,
+            (Some(_), Some(a), Some(_)) if a == OUTSIDE => counts.outside += 1,
+            (Some(kind), Some(a), Some(b)) if agree(a, b, original) => counts.count(kind, a),
             _ => {
                 println!("difference {number}");
                 return Ok(());
@@ -87,6 +104,9 @@ fn main() -> io::Result<()> {
     println!("compared {}\noutside {}\ntwo-groups {}", counts.compared, counts.outside, counts.two_groups);
     for (word, count) in &counts.answers {
         println!("{} {count}", String::from_utf8_lossy(word));
+    }
+    for (kind, count) in &counts.kinds {
+        println!("kind {kind} {count}");
     }
     Ok(())
 }

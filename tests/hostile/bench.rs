@@ -1,10 +1,11 @@
 //! Stores between guard pages, and what every checked call on them is held to.
 
+use std::collections::BTreeMap;
 use std::time::Duration;
 
 use crate::calls::{self, CHECKED, INNER, Stores, WORDS, Words};
 use crate::memory::Guarded;
-use crate::order::{free_places, free_slots, in_order, registration};
+use crate::order::{free_places, free_slots, held, in_order, in_order_but_held, registration};
 use crate::records::{self, Answer, Record};
 use crate::watch;
 
@@ -18,14 +19,15 @@ const UNSET: u64 = 0xabad_0000_1dea_0000;
 #[derive(Default)]
 pub struct Counts {
     pub calls: u64,
-    pub out_of_order: u64,
-    pub refused: u64,
+    /// Refusals by their numbers.
+    pub refused: BTreeMap<u64, u64>,
     pub accepted: u64,
     /// Of these batches that stopped.
     pub stopped: u64,
-    /// Stores that nobody vouched for, and how many of them were in order.
+    /// Stores that nobody vouched for, how many of them were in order, and how many but for their held count.
     pub stores: u64,
     pub in_order: u64,
+    pub but_held: u64,
     /// The slowest call, on stores with more than 4,096 slots issued and on others.
     pub slowest_wide: Duration,
     pub slowest: Duration,
@@ -110,6 +112,7 @@ impl Bench {
         self.look_at_words(record, &answer);
         self.look_at_order(record, &answer);
         self.look_at_registration(record, &answer);
+        self.look_at_held(&answer);
         self.look_at_stores(record, &answer);
         answer
     }
@@ -118,8 +121,7 @@ impl Bench {
         let counts = &mut self.counts;
         counts.calls += 1;
         match answer {
-            Answer::Refused(5) => counts.out_of_order += 1,
-            Answer::Refused(_) => counts.refused += 1,
+            Answer::Refused(number) => *counts.refused.entry(*number).or_default() += 1,
             _ => counts.accepted += 1,
         }
         counts.stopped += u64::from(matches!(answer, Answer::Stopped(_)));
@@ -158,10 +160,11 @@ impl Bench {
         match self.ordered {
             Some(known) => assert_eq!(known, ordered, "{record:?}: {answer}, but the call before found the stores otherwise"),
             None => {
-                assert_eq!(self.in_order(), ordered, "{record:?}: {answer}, but document 01's list read in Rust says otherwise");
+                assert_eq!(self.in_order(), ordered, "{record:?}: {answer}, but the list of documents 01 and 02 read in Rust says otherwise");
                 self.ordered = Some(ordered);
                 self.counts.stores += 1;
                 self.counts.in_order += u64::from(ordered);
+                self.counts.but_held += u64::from(!ordered && in_order_but_held(&self.table_before, &self.rings_before));
             }
         }
     }
@@ -175,6 +178,14 @@ impl Bench {
         let due = due.map_or_else(Answer::Refused, |[slot, generation]| Answer::Lane(slot, generation));
         assert_eq!(*answer, due, "{record:?}: what document 02's sentences say of the words");
         assert!(free_slots(self.table.words()) == free, "{record:?}: {answer} leaves another free list");
+    }
+
+    /// On stores in order held answers the items that their words say, and so does the inner call.
+    fn look_at_held(&mut self, answer: &Answer) {
+        if let Answer::Held(count) = *answer {
+            assert_eq!(u128::from(count), held(&self.table_before), "held, and the items that the words say");
+            assert_eq!(self.inner(&Record::new(records::HELD, &[])), *answer, "the inner held call");
+        }
     }
 
     /// A refusal changes nothing; a send writes one item and says the free places that it leaves, a batch writes its items, and no other call writes to
@@ -207,7 +218,7 @@ impl Bench {
         self.output_before[..written].copy_from_slice(&output[..written]);
     }
 
-    /// Whether the stores are in order as the last call left them, by document 01's list read in Rust.
+    /// Whether the stores are in order as the last call left them, by document 01's list with document 02's held count, read in Rust.
     pub fn in_order(&self) -> bool {
         in_order(&self.table_before, &self.rings_before)
     }

@@ -57,11 +57,11 @@ impl Episode<'_> {
     fn any_words(&mut self) {
         let (length, rings) = (self.length(MOST_TABLE), self.length(MOST_RINGS));
         let mut table = self.words(length);
-        if table.len() > 15 && self.random.one_in(2) {
+        if table.len() > 16 && self.random.one_in(2) {
             let (slots, capacity) = (1 + self.random.below(4), self.random.pick(&[1, 2, 4, 64]));
             let issued = self.random.below(slots + 1);
-            table[..16].copy_from_slice(&[issued, 0, 0, 0, slots, 64, 0, 1, capacity, 7, 0, 0, 0, 0, 0, 3]);
-            for word in &mut table[..16] {
+            table[..17].copy_from_slice(&[issued, 0, 0, 0, slots, 64, 0, 1, capacity, 7, 0, 0, 0, 0, 0, 3, 0]);
+            for word in &mut table[..17] {
                 if self.random.one_in(12) {
                     *word = self.random.below(4);
                 }

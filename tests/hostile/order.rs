@@ -1,12 +1,14 @@
-//! Document 01's "A store in order", in Rust, of any words: another reading beside crate `order`, and one that shares no code with it. And what free places
-//! and a registration's slot are, of the words of stores in order. Quoted sentences are document 01's, or document 02's where it is named; the places of the
-//! words are those of the specifications Table, Header, Queue, Registry and Ready.
+//! Document 01's "A store in order", with document 02's (N6) clause of the held count, in Rust, of any words: another reading beside crate `order`, and one
+//! that shares no code with it. And what free places and a registration's slot are, of the words of stores in order. Quoted sentences are document 01's, or
+//! document 02's where it is named; the places of the words are those of the specifications Table, Header, Queue, Registry and Ready.
 
 /// A table store read by names.
 struct Table<'a>(&'a [u64]);
 
 pub const HEADER: usize = 512;
 pub const ROW: usize = 24;
+/// The place of the held count.
+pub const HELD: usize = 16;
 
 impl Table<'_> {
     fn cell(&self, column: usize, row: u64) -> u64 {
@@ -178,7 +180,22 @@ pub fn free_slots(table: &[u64]) -> Vec<u64> {
     Table(table).free()
 }
 
+/// "the number of items in rings of registered lanes, paused ones too", of the issued slots that the table has rows for. In 128 bits, which as many distances
+/// as there are slots never fill; in a store in order each is within C, and the sum at most 2^29.
+pub fn held(table: &[u64]) -> u128 {
+    let t = Table(table);
+    let rows = (table.len() - HEADER) / ROW;
+    let items = |x| if t.cell(12, x) == 1 { t.cell(1, x).wrapping_sub(t.cell(3, x)) } else { 0 };
+    (0..t.issued().min(rows as u64)).map(|x| u128::from(items(x))).sum()
+}
+
+/// "A store whose held count is untrue is not in order." (document 02, N6)
 pub fn in_order(table: &[u64], rings: &[u64]) -> bool {
+    in_order_but_held(table, rings) && u128::from(table[HELD]) == held(table)
+}
+
+/// Document 01's list alone.
+pub fn in_order_but_held(table: &[u64], rings: &[u64]) -> bool {
     let t = Table(table);
     if !lengths(table, rings) || !header(&t) {
         return false;

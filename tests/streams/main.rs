@@ -1,13 +1,13 @@
 //! Record streams from a seed, and the text form of stored ones.
 //!
-//!     streams SEED RECORDS [--slots N] [--deep] [--style NAME] [--shifted] [--numbered] [--rings N] [--table N] [--output N]
+//!     streams SEED RECORDS [--slots N] [--deep] [--style NAME] [--shifted] [--numbered] [--held] [--rings N] [--table N] [--output N]
 //!     streams text < FILE        the records of a stored stream
 //!     streams expected < FILE    the lines that it expects
 //!
 //! A stream is a row of openings, each in a style of its own; the first has style SEED modulo the number of those that take turns. The rules run
 //! along, so that a style can aim at a state; on the way their free places are held to the sends that follow, their answers to
-//! ids to the opening's record, their registrations to the free list before and after, and their batches with a bound to plain ones. About half of all
-//! batches have a bound; of those of them that find an item, two in five stop.
+//! ids to the opening's record, their registrations to the free list before and after, their batches with a bound to plain ones, and their held counts to
+//! what went in and out. About half of all batches have a bound; of those of them that find an item, two in five stop.
 //! --slots N makes every opening wide: up to N lanes, for stores that hold them. --deep gives every opening a
 //! large capacity, up to 65,536, as far as the stores hold it, and so many records that its rings fill.
 //! --shifted gives every opening a first cursor and generation near 2^64, which the original does not have.
@@ -15,6 +15,7 @@
 //! many by ids and keys of other openings.
 //! With these two registrations pass slots over now and then, in style unplugged all the time. In other streams they do so seldom, as the original is
 //! followed up to there alone, and the opening then soon ends.
+//! --held calls held after seven of eight calls.
 
 mod random;
 #[allow(dead_code)]
@@ -262,6 +263,10 @@ struct Stream<W: Write> {
     shifted: bool,
     /// If the last call was a send that was taken, or one refused 11 after it: its lane's key, and the free places then.
     free: Option<([u64; 2], u64)>,
+    /// Held is called after nearly every call.
+    with_held: bool,
+    /// The items held, by what went in and out since the opening.
+    held: u64,
     /// Openings have numbers, and calls by ids and keys of other openings.
     numbered: bool,
     /// The number of the next opening; 0 if they have none.
@@ -281,6 +286,14 @@ impl<W: Write> Stream<W> {
     }
 
     fn emit(&mut self, kind: u16, fields: &[u64]) -> Answer {
+        let answer = self.emit_one(kind, fields);
+        if self.with_held && kind != HELD && !self.random.one_in(8) {
+            self.emit_one(HELD, &[]);
+        }
+        answer
+    }
+
+    fn emit_one(&mut self, kind: u16, fields: &[u64]) -> Answer {
         let record = Record::new(kind, fields);
         record.write(&mut self.output).expect("output is open");
         self.left = self.left.saturating_sub(1);
@@ -288,8 +301,10 @@ impl<W: Write> Stream<W> {
         let due = matches!(kind, TARGETED | PAUSE | RESUME | CLOSE).then(|| self.due_to_id(&record));
         let found = if kind == REGISTER { self.rules.state.as_ref().map(free_list) } else { None };
         let unbounded = if kind == BATCH_WHILE { self.unbounded(fields[0]) } else { None };
+        let in_lane = if kind == CLOSE { self.items_in(fields[1]) } else { 0 };
         let answer = self.rules.answer(&record);
         self.hold_to_free(&record, &answer);
+        self.hold_to_held(&record, in_lane, &answer);
         if let Some(unbounded) = unbounded {
             self.hold_to_bound(&record, &unbounded, &answer);
         }
@@ -349,6 +364,26 @@ impl<W: Write> Stream<W> {
             (Some((_, before)), _) => panic!("{before} free places, and then {record:?} answers {answer}"),
         };
         self.free = free.map(|free| (key, free));
+    }
+
+    /// The items in the ring of a slot.
+    fn items_in(&self, slot: u64) -> u64 {
+        let slot = self.rules.state.as_ref().and_then(|state| state.slots.get(slot as usize));
+        slot.map_or(0, |slot| slot.ring.len() as u64)
+    }
+
+    /// What each call does to the held count, by its answer and not by a sum over the lanes, as the rules have it: an accepted send adds one, what is handed
+    /// out goes, and so do the items of a lane that is closed; nothing else changes it (document 02, N6: "every call keeps it true").
+    fn hold_to_held(&mut self, record: &Record, in_lane: u64, answer: &Answer) {
+        match answer {
+            Answer::Done if record.kind == OPEN => self.held = 0,
+            Answer::Done if record.kind == CLOSE => self.held -= in_lane,
+            Answer::Taken(..) => self.held += 1,
+            Answer::Item(..) => self.held -= 1,
+            Answer::Items(items) | Answer::Stopped(items) => self.held -= items.len() as u64,
+            Answer::Held(count) => assert_eq!(*count, self.held, "held, and what went in and out"),
+            _ => {}
+        }
     }
 
     /// What a registration does, by document 02's sentences (N4) in other words than the rules': a free slot that it takes is clear, and those freed later are
@@ -1205,11 +1240,11 @@ fn main() -> io::Result<()> {
         ["text"] => return text::records(io::stdin().lock(), output),
         ["expected"] => return text::expected(io::stdin().lock(), output),
         [seed, left, ref options @ ..] => (number(seed), number(left), options),
-        _ => panic!("streams SEED RECORDS [--slots N] [--deep] [--style NAME] [--shifted] [--numbered], or streams text, or streams expected"),
+        _ => panic!("streams SEED RECORDS [--slots N] [--deep] [--style NAME] [--shifted] [--numbered] [--held], or streams text, or streams expected"),
     };
     let mut most_slots = None;
     let mut only = None;
-    let (mut deep, mut shifted, mut numbered) = (false, false, false);
+    let (mut deep, mut shifted, mut numbered, mut with_held) = (false, false, false, false);
     let mut options = options.iter();
     while let Some(&option) = options.next() {
         let mut value = || options.next().unwrap_or_else(|| panic!("{option} needs a value"));
@@ -1222,6 +1257,7 @@ fn main() -> io::Result<()> {
             "--deep" => deep = true,
             "--shifted" => shifted = true,
             "--numbered" => numbered = true,
+            "--held" => with_held = true,
             _ => panic!("no such option: {option}"),
         }
     }
@@ -1236,6 +1272,8 @@ fn main() -> io::Result<()> {
         deep,
         shifted,
         free: None,
+        with_held,
+        held: 0,
         numbered,
         next_number: 0,
         opened: [0; 2],
@@ -1255,6 +1293,11 @@ fn main() -> io::Result<()> {
     while stream.left > 0 {
         stream.opening(&STYLES[style]);
         style = only.unwrap_or(stream.random.below(IN_TURN as u64) as usize);
+    }
+    if most_slots.is_some() || deep {
+        // Such streams have few openings, which may all have ended with the receiver open.
+        stream.emit(CLOSE_RECEIVER, &[]);
+        stream.emit(HELD, &[]);
     }
     if stream.random.one_in(8) {
         stream.malformed();

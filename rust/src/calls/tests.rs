@@ -233,7 +233,9 @@ fn a_checked_call_refuses_words_not_in_order() {
         panic!("the opening is refused")
     };
     assert_eq!(stores.checked_held(), Answer::Held(0));
-    // What no user of the crate can do, since the words are private.
+    // What no user of the crate can do, since the words are private: an untrue held count, and all words of no meaning.
+    stores.stores.table[16] = 1;
+    assert_eq!(stores.checked_held(), Answer::Refused(5));
     stores.stores.table.fill(u64::MAX);
     assert_eq!(stores.checked_held(), Answer::Refused(5));
 }

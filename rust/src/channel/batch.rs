@@ -17,8 +17,7 @@ impl Channel {
     /// senders are dropped: that is told by the next call.
     ///
     /// The vector grows as needed, and any limit may be given: `usize::MAX` takes all that is there. For the call it is
-    /// made longer by the limit, but where that is more than 16 for each slot, by no more than the items held and one;
-    /// afterwards it is cut to what was appended. [`try_recv_batch_into_slice`](Self::try_recv_batch_into_slice) needs
+    /// made longer by the limit, but by no more than the items held and one; afterwards it is cut to what was appended. [`try_recv_batch_into_slice`](Self::try_recv_batch_into_slice) needs
     /// no vector.
     ///
     /// # Errors
@@ -63,13 +62,7 @@ impl Channel {
     /// that does not finds its lanes empty.)
     fn limit_that_counts(&self, limit: usize) -> usize {
         // At most 2^29 + 1.
-        let limit = limit.min(self.slots * self.capacity_per_sender + 1);
-        // To count the items goes over all slots, up to 2 ns for each; to fill a word with zero takes about 0.1 ns.
-        if limit > 16 * self.slots {
-            limit.min(self.held() as usize + 1)
-        } else {
-            limit
-        }
+        limit.min(self.held() as usize + 1)
     }
 
     /// Receive up to `limit` immediately available items into the front of `output`, returning the number received.

@@ -129,6 +129,8 @@ impl Channel {
 
     /// The number of items in rings of registered lanes, paused ones too.
     ///
+    /// It is kept, and not counted: one word is read, however many lanes there are.
+    ///
     /// ```
     /// let mut channel = proved_fanring::channel(4, 2);
     /// let one = channel.register_sender(2).unwrap();
