@@ -4,7 +4,9 @@
    at least FANRING_RING_WORDS(S, C), with C the capacity rounded up to a power of two; table_len and rings_len are their lengths in words. Their words
    belong to the library from the opening on. There is no heap and no other state. The words are numbers and no pointers: between calls both stores may be
    copied whole, saved and read back, mapped at another place or by another process, and shared behind a lock; calls on them then do and answer the same.
-   Another version of the library may read the words otherwise: it is to open the stores anew.
+   Another version of the library may read the words otherwise: it is to open the stores anew. Stores that a version without the held count has opened are
+   refused 5 by checked calls, unless the word of that count happens to be true, and no inner call may be made on them: take their items with that version
+   first, as opening anew drops them.
 
    ANSWERS. Each call returns a tag (enum fanring_tag) and puts the answer's numbers into words[0] and on; `words` has room for FANRING_WORDS. Words that
    the answer does not use are as they were. A refusal leaves every word of both stores and of the output as it was.
@@ -80,7 +82,7 @@
 
    INNER CALLS (fanring_inner_..) make no such test, and have a premise: the stores are in order. They are if fanring_open has opened them and answered
    FANRING_DONE, with these lengths, and since then nothing but these calls, checked and inner ones in any mixture, has changed them. With the premise
-   broken, nothing is promised: not even that a call stays within the stores.
+   broken, nothing is promised, but of fanring_inner_held as said there: not even that a call stays within the stores.
 
    The contracts are in src/ of crates c_checked, c_inner, c_while and c_inner_while, and are proved. For x86-64 Linux. */
 #ifndef FANRING_H
@@ -233,8 +235,9 @@ uint64_t fanring_poll_all_lanes(uint64_t *table, size_t table_len, const uint64_
 /* Closes the receiver: its lanes stay as they are, and their senders find it closed. Answers FANRING_DONE; or refused 5, 6. */
 uint64_t fanring_close_receiver(uint64_t *table, size_t table_len, const uint64_t *rings, size_t rings_len, uint64_t words[FANRING_WORDS]);
 
-/* Counts the items in rings of registered lanes, paused ones too, also where the receiver is closed. Answers FANRING_HELD with words[0] the count; or
-   refused 5. */
+/* How many items are in rings of registered lanes, paused ones too, also where the receiver is closed. The number is kept in a word of the table store, and
+   read there; but as every checked call but the opening this one tests both stores first, which goes over every issued slot. Answers FANRING_HELD with
+   words[0] the count; or refused 5. */
 uint64_t fanring_held(const uint64_t *table, size_t table_len, const uint64_t *rings, size_t rings_len, uint64_t words[FANRING_WORDS]);
 
 /* ---- Inner calls: each does and answers what the checked call of its name does, without the test of the stores. Premise of each: the stores are in order,
@@ -314,7 +317,8 @@ uint64_t fanring_inner_poll_all_lanes(uint64_t *table, size_t table_len, const u
 /* Premise: the stores are in order. As fanring_close_receiver: closes the receiver. Answers FANRING_DONE; or refused 6. */
 uint64_t fanring_inner_close_receiver(uint64_t *table, size_t table_len, const uint64_t *rings, size_t rings_len, uint64_t words[FANRING_WORDS]);
 
-/* Premise: the stores are in order. As fanring_held: counts the items in rings of registered lanes. Answers FANRING_HELD. */
+/* Premise: the stores are in order. As fanring_held: how many items are in rings of registered lanes. Reads one word, however many lanes there are. Answers
+   FANRING_HELD. (Of stores that are not in order it answers that word all the same, if the table has 512 words or more.) */
 uint64_t fanring_inner_held(const uint64_t *table, size_t table_len, const uint64_t *rings, size_t rings_len, uint64_t words[FANRING_WORDS]);
 
 #ifdef __cplusplus
