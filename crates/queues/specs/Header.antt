@@ -103,7 +103,8 @@ setLivingCount t v = setHead t 14 v
 abbrev pub setHeldCount : List ℕ → ℕ → List ℕ
 setHeldCount t v = setHead t 16 v
 
--- One item more is held, and n fewer. Both wrap, as cursors do, and no call on stores in order comes to that: store, proofs/HeldLaws.antt (`held-counted-after`).
+-- document 02, N6: "every call keeps it true": one item more is held, and n fewer. Both wrap, as cursors do, and no call on stores in order comes to that:
+-- store, proofs/HeldLaws.antt (`held-counted-after`).
 abbrev pub heldMore : List ℕ → List ℕ
 heldMore t = setHeldCount t (after (heldCount t) 1)
 

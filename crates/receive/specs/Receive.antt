@@ -93,7 +93,7 @@ takeLone t r =
 unfoldable pub takeFair : List ℕ → List ℕ → Took × List ℕ
 takeFair t r = elseTake (takeLone (setBudget (collectReady true t) 64) r) (λ u. turns u r true)
 
--- "Single receives answer item and lane id (channel id, key)." The id carries the opening number too.
+-- "Single receives answer item and lane id (channel id, key)." The id carries the opening number too. The item is held no more.
 unfoldable pub answerOne : OpenedChannel → Took × List ℕ → Answer × List ℕ
 answerOne channel (Took.Item item k, t) = (Item item (record { channel = channel; key = k }), heldLess t 1)
 answerOne channel (Took.Nothing, t) = nothingTaken t

@@ -138,7 +138,7 @@ roomVerdict limit room = cond (ltb room limit) (Refuse OutputShort) Pass
 unfoldable pub batchVerdict : List ℕ → ℕ → ℕ → Verdict
 batchVerdict t limit room = andThen (receiverVerdict t) (roomVerdict limit room)
 
--- "Limit 0 answers 0 items, even with no senders, and still gives back."
+-- "Limit 0 answers 0 items, even with no senders, and still gives back." Items handed out are held no more.
 unfoldable pub answerItems : ℕ → ℕ → List ℕ → Answer × List ℕ
 answerItems limit n t = cond (eqb n 0) (cond (eqb limit 0) (Items 0, t) (nothingTaken t)) (Items n, heldLess t n)
 

@@ -49,7 +49,7 @@ queueTarget t l = pushBack (markIfIdle (putLane t (withTurn 1 1 0 l)) l) (l .key
 unfoldable pub keepTarget : List ℕ → Lane → List ℕ
 keepTarget t l = cond (eqb (l .paused) 0) (cond (eqb (l .queued) 0) (queueTarget t l) (putLane t l)) (putLane t l)
 
--- "Targeted: counts in neither burst nor budget"
+-- "Targeted: counts in neither burst nor budget". An item handed out is held no more.
 unfoldable pub targetTook : List ℕ → List ℕ → ℕ → Refill → Answer × List ℕ
 targetTook t r x (Refill.Idle found) = settleTarget t found
 targetTook t r x (Refill.Ready l) = (

@@ -62,7 +62,7 @@ drainWhile t r out limit bound =
     let d = drainedWhile t r limit bound in
     (record { received = length (d .1 .0); rejected = d .0 }, d .1 .1, rules.writtenTo (d .1 .0) out)
 
--- "it answers the count and whether it stopped so. A stop at count 0 is never Empty."
+-- "it answers the count and whether it stopped so. A stop at count 0 is never Empty." The items counted are held no more.
 unfoldable pub answerWhile : ℕ → Drained → List ℕ → Answer × List ℕ
 answerWhile limit m t = cond (m .rejected) (Stopped (m .received), heldLess t (m .received)) (answerItems limit (m .received) t)
 

@@ -34,11 +34,12 @@ withSender pending living l = withFlags pending (l .queued) (l .paused) (l .regi
 unfoldable pub takeSignaled : List ℕ → Lane → ℕ → Answer × List ℕ
 takeSignaled t l free = (Taken (eqb (l .pending) 0) free, markIfIdle (putLane t (withSender 1 (l .living) l)) l)
 
+-- a send that is taken: one item more is held
 unfoldable pub sendSignaled : List ℕ → Sent × List ℕ → Words
 sendSignaled t (Sent.Taken l free, r) = let a = takeSignaled t l free in (a .0, heldMore (a .1), r)
 sendSignaled t (Sent.Full l, r) = (Refused Refusal.Full, t, r)
 
--- "unsignalled always 0"
+-- "unsignalled always 0"; one item more is held
 unfoldable pub sendUnsignaled : List ℕ → Sent × List ℕ → Words
 sendUnsignaled t (Sent.Taken l free, r) = (Taken false free, heldMore (putLane t l), r)
 sendUnsignaled t (Sent.Full l, r) = (Refused Refusal.Full, t, r)

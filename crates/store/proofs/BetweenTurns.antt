@@ -1,6 +1,6 @@
 -- The front lane of a store in order; and the budget set, and lanes collected, leave one.
 -- Assumes nothing.
-use mathlib.Core.Path.{_≡_, sym, ap, _∙_, subst}
+use mathlib.Core.Path.{_≡_, refl, sym, ap, _∙_, subst}
 use mathlib.Core.Bool.{Bool, true, false}
 use mathlib.Core.List.{List, _∷_}
 use Prim.Native.Nat.{ℕ, _≤_, _<_}
@@ -13,14 +13,14 @@ use Rattle.model.specs.Ready.{groupsRound}
 use Rattle.demands.proofs.OrderKept.{first-own, front-registered, front-alone, budget-ordered, groups-round-exist, collect-each-ordered, collect-first-ordered}
 use Rattle.lane.specs.Table.{laneAt}
 use Rattle.lane.proofs.TableLaws.{frames}
-use Rattle.queues.specs.Header.{issued, setBudget}
+use Rattle.queues.specs.Header.{issued, budget, setBudget}
 use Rattle.queues.specs.Queue.{queueOf}
 use Rattle.ready.specs.Ready.{collectReady}
-use Rattle.queues.proofs.QueueLaws.{queue-frames, header-in}
+use Rattle.queues.proofs.QueueLaws.{header-in}
 use Rattle.store.specs.View.{flag, slotAt, view}
 use Rattle.store.specs.Order.{Stores, InOrderButHeld}
 use Rattle.store.proofs.ViewLaws.{slot-in, view-budget}
-use Rattle.store.proofs.StepLaws.{linked-by, mark-words-by}
+use Rattle.store.proofs.HeaderStore.{stores-word}
 use Rattle.store.proofs.CollectedView.{along, collected}
 use Rattle.store.proofs.CollectedStore.{stores-collected}
 
@@ -57,28 +57,8 @@ pub stores-budget : (t r : List ℕ) → Stores t r → (b : ℕ)
     → ((x : ℕ) → x < issued t → laneAt t x .registered ≡ 1 → 0 < laneAt t x .window → laneAt t x .window ≤ b) → Stores (setBudget t b) r
 unfolding registeredLanes livingSenders
 stores-budget t r o b k =
-    record {
-      shaped = simp frames (o .shaped);
-      fast-below = simp frames (o .fast-below);
-      power = simp frames (o .power);
-      rings-room = simp frames (o .rings-room);
-      alive-flag = simp frames (o .alive-flag);
-      first-cursor = simp frames (o .first-cursor);
-      flags = simp frames (o .flags);
-      lanes = simp frames (o .lanes);
-      named =
-          record {
-            once = simp queue-frames (o .named .once);
-            issued-only = simp (frames, queue-frames) (o .named .issued-only);
-            flagged = simp (frames, queue-frames) (o .named .flagged);
-          };
-      linked = linked-by t (setBudget t b) (simp frames) (λ p. simp frames) (λ g. simp frames) (o .linked);
-      mark-words = mark-words-by t (setBudget t b) (simp frames) (λ p. simp frames) (λ g. simp frames) (o .mark-words);
-      windows = simp (frames, queue-frames, header-in t (o .shaped))
-          (λ x h e w. let f = o .windows x h e w in record { at-fast = f .at-fast; in-front = f .in-front; within = k x h e w });
-      lanes-counted = simp frames (o .lanes-counted ∙ sym (ap registeredLanes (view-budget t r (o .shaped) b)));
-      living-counted = simp frames (o .living-counted ∙ sym (ap livingSenders (view-budget t r (o .shaped) b)));
-    }
+    let now = view-budget t r (o .shaped) b in
+    stores-word t r budget b refl refl o (simp frames (o .alive-flag)) (simp (frames, header-in t (o .shaped)) k) (ap registeredLanes now) (ap livingSenders now)
 
 -- a budget of 64, which no window passes
 pub full-budget-in-order : (t r : List ℕ) → InOrderButHeld t r → InOrderButHeld (setBudget t 64) r

@@ -27,13 +27,12 @@ use Rattle.lane.proofs.CursorOrder.{span-adds, held-adds}
 use Rattle.lane.proofs.OrderLaws.{cond-holds}
 use Rattle.lane.proofs.TableLaws.{frames, head-stored}
 use Rattle.queues.specs.Header.{Shaped, issued, capacity, heldCount, setHeldCount}
-use Rattle.queues.proofs.QueueLaws.{queue-frames}
 use Rattle.store.specs.View.{view}
 use Rattle.store.specs.Order.{Stores, InOrderButHeld, StoreInOrder}
 use Rattle.store.specs.Held.{heldIn, heldFrom, walkedHeld}
 use Rattle.store.specs.Words.{Words}
 use Rattle.store.proofs.ViewLaws.{view-held-count}
-use Rattle.store.proofs.StepLaws.{linked-by, mark-words-by}
+use Rattle.store.proofs.HeaderStore.{stores-word}
 use Rattle.store.proofs.CountLaws.{held-sum, number-is}
 use Rattle.store.proofs.RefusalLaws.{seen}
 
@@ -41,29 +40,9 @@ use Rattle.store.proofs.RefusalLaws.{seen}
 
 module _ (t r : List ℕ) (n : ℕ) where
   pub stores-held-count : Stores t r → Stores (setHeldCount t n) r
-  unfolding registeredLanes livingSenders
   stores-held-count o =
-      record {
-        shaped = simp frames (o .shaped);
-        fast-below = simp frames (o .fast-below);
-        power = simp frames (o .power);
-        rings-room = simp frames (o .rings-room);
-        alive-flag = simp frames (o .alive-flag);
-        first-cursor = simp frames (o .first-cursor);
-        flags = simp frames (o .flags);
-        lanes = simp frames (o .lanes);
-        named =
-            record {
-              once = simp queue-frames (o .named .once);
-              issued-only = simp (frames, queue-frames) (o .named .issued-only);
-              flagged = simp (frames, queue-frames) (o .named .flagged);
-            };
-        linked = linked-by t (setHeldCount t n) (simp frames) (λ p. simp frames) (λ g. simp frames) (o .linked);
-        mark-words = mark-words-by t (setHeldCount t n) (simp frames) (λ p. simp frames) (λ g. simp frames) (o .mark-words);
-        windows = simp (frames, queue-frames) (o .windows);
-        lanes-counted = simp frames (o .lanes-counted ∙ sym (ap registeredLanes (view-held-count t r (o .shaped) n)));
-        living-counted = simp frames (o .living-counted ∙ sym (ap livingSenders (view-held-count t r (o .shaped) n)));
-      }
+      let same = view-held-count t r (o .shaped) n in
+      stores-word t r heldCount n refl refl o (simp frames (o .alive-flag)) (λ x h g w. simp frames (o .windows x h g w .within)) (ap registeredLanes same) (ap livingSenders same)
 
   pub but-held-count : InOrderButHeld t r → InOrderButHeld (setHeldCount t n) r
   but-held-count o =

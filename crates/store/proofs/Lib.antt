@@ -2,6 +2,7 @@ pub mod ViewLaws
 pub mod RefusalLaws
 pub mod HeaderWords
 pub mod StepLaws
+pub mod HeaderStore
 pub mod CountLaws
 pub mod HeldLaws
 pub mod StoreLaws
