@@ -1,8 +1,9 @@
-/* For LD_PRELOAD: the thread that a program starts as number LATE, from 0, comes to run 0.3 s late. So on a busy machine any may.
+/* For LD_PRELOAD: the thread that a program starts as number LATE, from 0, comes to run 0.3 s late, and says so. On a busy machine any may.
    cc -shared -fPIC -o late.so tests/late.c -ldl */
 #define _GNU_SOURCE
 #include <dlfcn.h>
 #include <pthread.h>
+#include <stdio.h>
 #include <stdlib.h>
 #include <time.h>
 
@@ -14,6 +15,7 @@ struct thread {
 static void *run_late(void *made) {
     struct thread thread = *(struct thread *)made;
     free(made);
+    fputs("late\n", stderr);
     nanosleep(&(struct timespec){.tv_nsec = 300000000}, NULL);
     return thread.run(thread.argument);
 }

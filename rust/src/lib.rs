@@ -94,9 +94,9 @@
 //!
 //! Every call of a [`Channel`] is one call of the library, with the numbers that it was given; but
 //! [`try_recv_batch_into`](Channel::try_recv_batch_into) and
-//! [`try_recv_batch_into_while`](Channel::try_recv_batch_into_while) may read the held count first, and lower their limit to
-//! one with which the library does and answers the same. Of the library's calls the repository proves, among other things, by
-//! the names in its docs/CLAIMS.md:
+//! [`try_recv_batch_into_while`](Channel::try_recv_batch_into_while) may read the held count first, and lower their limit
+//! to one with which the library does and answers the same. Of the library's calls the repository proves, among other
+//! things, by the names in its docs/CLAIMS.md:
 //!
 //! - each call does what the rules of document 01, the customer's scope paper, and of the changes asked for since say
 //!   (`call-alike`, `calls-as-rules`);

@@ -17,8 +17,8 @@ impl Channel {
     /// senders are dropped: that is told by the next call.
     ///
     /// The vector grows as needed, and any limit may be given: `usize::MAX` takes all that is there. For the call it is
-    /// made longer by the limit, but by no more than the items held and one; afterwards it is cut to what was appended. [`try_recv_batch_into_slice`](Self::try_recv_batch_into_slice) needs
-    /// no vector.
+    /// made longer by the limit, but by no more than the items held and one; afterwards it is cut to what was appended.
+    /// [`try_recv_batch_into_slice`](Self::try_recv_batch_into_slice) needs no vector.
     ///
     /// # Errors
     ///
