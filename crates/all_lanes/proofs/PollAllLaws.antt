@@ -16,7 +16,7 @@ use Rattle.model.specs.Outcome.{says}
 use Rattle.model.specs.Control as rules
 use Rattle.lane.specs.declared.lane.Lane.{Lane}
 use Rattle.lane.specs.Table.{head, laneAt}
-use Rattle.lane.proofs.TableLaws.{slot-of-lane}
+use Rattle.lane.proofs.TableLaws.{slot-of-lane, loaded-narrow}
 use Rattle.queues.specs.Header.{issued, slots, queueCount}
 use Rattle.queues.specs.Queue.{queueOf}
 use Rattle.ready.specs.Ready.{queuedLane, enqueue}
@@ -49,7 +49,7 @@ module _ (t r : List ℕ) (o : Stores t r) (x : ℕ) (w : Wants t x) where
 
   step-enqueued : Step t (enqueue t x) x (queuedLane old) (queueOf t ++ (x ∷ [])) (head t)
   unfolding enqueue
-  step-enqueued = step-pushed-back (step-put-lane (step-start t r o x) (queuedLane old) (slot-of-lane t x) (w .is-issued)) x (rw (length-queue t) room)
+  step-enqueued = step-pushed-back (step-put-lane (step-start t r o x) (queuedLane old) (slot-of-lane t x) (loaded-narrow t x) (w .is-issued)) x (rw (length-queue t) room)
 
   owes-enqueued : Owes t x (queuedLane old) (queueOf t ++ (x ∷ [])) (head t)
   owes-enqueued =

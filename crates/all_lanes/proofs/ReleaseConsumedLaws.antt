@@ -18,8 +18,8 @@ use Rattle.demands.proofs.Counting.{equal, other, same?}
 use Rattle.demands.proofs.Simulation.{state-path}
 use Rattle.lane.specs.declared.lane.Lane.{Lane}
 use Rattle.lane.specs.Lane.{releasePending}
-use Rattle.lane.specs.Table.{head, laneAt, putLane}
-use Rattle.lane.proofs.OrderLaws.{release-pending-keeps}
+use Rattle.lane.specs.Table.{head, NarrowLane, laneAt, putLane}
+use Rattle.lane.proofs.OrderLaws.{order-narrow, release-pending-keeps}
 use Rattle.queues.specs.Header.{issued, capacity, budget}
 use Rattle.queues.specs.Queue.{queueOf}
 use Rattle.store.specs.View.{flag, slotAt, view}
@@ -53,10 +53,13 @@ module _ (t r : List ℕ) (o : Stores t r) (x : ℕ) (h : x < issued t) where
   sees-flag = ap (λ (m : Slot). m .registered) (slot-in t r x h)
 
   module _ (g : old .registered ≡ 1) where
+    narrow : NarrowLane new
+    narrow = order-narrow (capacity t) (o .power .most) new (release-pending-keeps (capacity t) (o .power .most) old (o .lanes x h g))
+
     view-given : view (putLane t new) r ≡ put x (credited slot) (view t r)
     unfolding slotAt
     view-given =
-        view-put-counts t r (o .shaped) x h new (back .same-key) (back .same-head) (back .same-tail) (back .same-registered) (back .same-living) (back .same-paused) (back .same-pending)
+        view-put-counts t r (o .shaped) x h new (back .same-key) narrow (back .same-head) (back .same-tail) (back .same-registered) (back .same-living) (back .same-paused) (back .same-pending)
         ∙ ap (λ (m : Slot). put x m (view t r))
         (given-back slot _ _ (sees-flag ∙ rw g) (omega (arith, back .unreleased))
         (omega (arith, back .window, back .burst) ∙ sym (ap (λ (m : Slot). m .burst) (slot-in t r x h))))
@@ -66,7 +69,7 @@ module _ (t r : List ℕ) (o : Stores t r) (x : ℕ) (h : x < issued t) where
         let k = release-pending-keeps (capacity t) (o .power .most) old (o .lanes x h g) in
         let f = o .flags x h in
         stores-after t r (putLane t new) r o x h new (queueOf t) (head t)
-        (step-put-lane (step-start t r o x) new (slot-released t x) h)
+        (step-put-lane (step-start t r o x) new (slot-released t x) narrow h)
         (record {
           flags = record {
             pending-flag = rw (back .same-pending) (f .pending-flag);

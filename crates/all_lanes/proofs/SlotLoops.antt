@@ -12,7 +12,7 @@ use Rattle.lane.specs.declared.lane.Lane.{Lane}
 use Rattle.lane.specs.declared.lane.Released.{Released}
 use Rattle.lane.specs.Lane.{closeFast, release, releaseAny, releasePending}
 use Rattle.lane.specs.Order.{Refundable}
-use Rattle.lane.specs.Table.{headerWords, head, laneAt, putLane}
+use Rattle.lane.specs.Table.{headerWords, head, cell, laneAt, putLane}
 use Rattle.lane.proofs.AtHandLaws.{close-closed}
 use Rattle.lane.proofs.OrderLaws.{cond-holds}
 use Rattle.lane.proofs.TableLaws.{frames, load-store-same, slot-of-lane, other-lane-kept}
@@ -66,11 +66,12 @@ unfolding releasePending releaseAny
 none-to-release l h e =
     ap (λ m. releaseAny m .lane) (close-closed l (omega arith)) ∙ simp (eq-eqb (l .unreleased) 0 e)
 
-pub none-released : (t : List ℕ) (x : ℕ) → (laneAt t x .registered ≡ 1 → Refundable (laneAt t x)) → laneAt t x .unreleased ≡ 0 → releaseSlot t x ≡ t
+pub none-released : (t : List ℕ) (x : ℕ) → (laneAt t x .registered ≡ 1 → Refundable (laneAt t x)) → laneAt t x .unreleased ≡ 0
+    → cell t 5 x < 2 ^ 64 → cell t 6 x < 2 ^ 64 → releaseSlot t x ≡ t
 unfolding releaseSlot
-none-released t x h e =
+none-released t x h e a c =
     cond-holds (λ u. u ≡ t) (eqb (laneAt t x .registered) 1) (putLane t (releasePending (laneAt t x) .lane)) t
-    (λ b. ap (putLane t) (none-to-release (laneAt t x) (h (eqb-true _ 1 b)) e) ∙ load-store-same t x) (λ b. refl)
+    (λ b. ap (putLane t) (none-to-release (laneAt t x) (h (eqb-true _ 1 b)) e) ∙ load-store-same t x a c) (λ b. refl)
 
 -- a slot's turn does one of two things
 pub release-slot-is : (P : List ℕ → Type 0) (t : List ℕ) (x : ℕ) → (laneAt t x .registered ≡ 1 → P (putLane t (releasePending (laneAt t x) .lane)))

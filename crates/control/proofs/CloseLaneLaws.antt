@@ -15,7 +15,7 @@ use Rattle.model.specs.Turn as turns
 use Rattle.demands.proofs.Counting.{without-own, without-other}
 use Rattle.lane.specs.declared.lane.Lane.{Lane}
 use Rattle.lane.specs.Table.{head, laneAt}
-use Rattle.lane.proofs.TableLaws.{slot-of-lane}
+use Rattle.lane.proofs.TableLaws.{slot-of-lane, loaded-narrow}
 use Rattle.queues.specs.Header.{issued, slots, freeCount, laneCount}
 use Rattle.queues.specs.Queue.{queueOf, remove}
 use Rattle.queues.proofs.QueueLaws.{queue-frames, shaped-removed, head-removed, lane-removed}
@@ -59,7 +59,7 @@ module _ (t r : List ℕ) (o : StoreInOrder t r) (x : ℕ) (h : x < issued t) (g
   step-gone =
       subst (λ (u : List ℕ). Step t u x (retired old) (lists.without x (queueOf t)) (withWord laneCount (laneCount out - 1) (head t)))
       (sym (gone-is ∙ ap (retireLane out) (lane-removed t x x)))
-      (step-retire-lane (step-removed (step-start t r (o .stores) x) x) old (slot-of-lane t x) h out-room)
+      (step-retire-lane (step-removed (step-start t r (o .stores) x) x) old (slot-of-lane t x) (loaded-narrow t x) h out-room)
 
   owes-gone : Owes t x (retired old) (lists.without x (queueOf t)) (withWord laneCount (laneCount out - 1) (head t))
   owes-gone =

@@ -15,8 +15,8 @@ use Rattle.model.specs.Control as rules
 use Rattle.demands.proofs.Counting.{without-own, without-other}
 use Rattle.lane.specs.declared.lane.Lane.{Lane}
 use Rattle.lane.specs.Order.{InOrder}
-use Rattle.lane.specs.Table.{head, laneAt, putLane}
-use Rattle.lane.proofs.OrderLaws.{release-pending-keeps}
+use Rattle.lane.specs.Table.{head, NarrowLane, laneAt, putLane}
+use Rattle.lane.proofs.OrderLaws.{order-narrow, release-pending-keeps}
 use Rattle.lane.proofs.TableLaws.{slot-of-lane}
 use Rattle.lane.specs.Lane.{releasePending}
 use Rattle.queues.specs.Header.{issued, capacity}
@@ -70,19 +70,28 @@ module _ (t r : List ℕ) (o : StoreInOrder t r) (x : ℕ) (h : x < issued t) (g
   unfolding pauseLane
   paused-is = ap (remove (putLane t new)) (slot-of-lane t x)
 
+  order-paused : InOrder (capacity t) new
+  unfolding pausedLane
+  order-paused =
+      let k = release-pending-keeps (capacity t) (o .stores .power .most) old (o .stores .lanes x h g) in
+      record { cursors = k .cursors; counts = k .counts }
+
+  narrow-paused : NarrowLane new
+  narrow-paused = order-narrow (capacity t) (o .stores .power .most) new order-paused
+
   view-paused : view (pauseLane t old) r ≡ withQueue (lists.without x (view t r .queue)) (put x (withPaused true (credited slot)) (view t r))
   unfolding pausedLane
   view-paused =
       ap (λ (u : List ℕ). view u r) paused-is
       ∙ view-removed (putLane t new) r (shaped-putLane t (o .stores .shaped) new) x
       ∙ ap (λ (s : State). withQueue (lists.without x (s .queue)) s)
-      (view-put-same-ends t r (o .stores .shaped) x h new (back .same-key) (back .same-head) (back .same-tail)
+      (view-put-same-ends t r (o .stores .shaped) x h new (back .same-key) narrow-paused (back .same-head) (back .same-tail)
       ∙ ap (λ (m : Slot). put x m (view t r)) slot-paused)
 
   step-paused : Step t (pauseLane t old) x new (lists.without x (queueOf t)) (head t)
   step-paused =
       subst (λ (u : List ℕ). Step t u x new (lists.without x (queueOf t)) (head t)) (sym paused-is)
-      (step-removed (step-put-lane (step-start t r (o .stores) x) new own-slot h) x)
+      (step-removed (step-put-lane (step-start t r (o .stores) x) new own-slot narrow-paused h) x)
 
   flags-paused : Flags new
   unfolding pausedLane
@@ -95,12 +104,6 @@ module _ (t r : List ℕ) (o : StoreInOrder t r) (x : ℕ) (h : x < issued t) (g
         registered-flag = rw (back .same-registered) (f .registered-flag);
         living-flag = rw (back .same-living) (f .living-flag);
       }
-
-  order-paused : InOrder (capacity t) new
-  unfolding pausedLane
-  order-paused =
-      let k = release-pending-keeps (capacity t) (o .stores .power .most) old (o .stores .lanes x h g) in
-      record { cursors = k .cursors; counts = k .counts }
 
   owes-paused : Owes t x new (lists.without x (queueOf t)) (head t)
   unfolding pausedLane

@@ -14,7 +14,7 @@ use Rattle.model.specs.Outcome.{says}
 use Rattle.model.specs.Control as rules
 use Rattle.lane.specs.declared.lane.Lane.{Lane}
 use Rattle.lane.specs.Table.{head, laneAt, putLane}
-use Rattle.lane.proofs.TableLaws.{frames, slot-of-lane}
+use Rattle.lane.proofs.TableLaws.{frames, slot-of-lane, loaded-narrow}
 use Rattle.queues.specs.Header.{Shaped, issued, slots, queueCount}
 use Rattle.queues.specs.Queue.{queueOf, pushBack}
 use Rattle.queues.proofs.QueueLaws.{shaped-putLane, length-queue}
@@ -61,7 +61,7 @@ module _ (t r : List ℕ) (o : StoreInOrder t r) (x : ℕ) (h : x < issued t) (g
   unfolding slotAt
   view-stored =
       view-put-marked-if-idle (putLane t new) r shaped-new old x (slot-of-lane t x) (simp frames h) _ (view t r)
-      (view-put-flags t r (o .stores .shaped) x h new refl refl refl refl refl)
+      (view-put-flags t r (o .stores .shaped) x h new refl (loaded-narrow t x) refl refl refl refl)
       ∙ ap (λ (m : Slot). put x m (view t r))
       (signalled-by slot _ _ _ (sym (ap (λ (m : Slot). m .registered) sees)) (sym (ap (λ (m : Slot). m .living) sees))
       (idle-flag (old .pending) (o .stores .flags x h .pending-flag) ∙ ap not (sym (ap (λ (m : Slot). m .pending) sees))))
@@ -83,7 +83,7 @@ module _ (t r : List ℕ) (o : StoreInOrder t r) (x : ℕ) (h : x < issued t) (g
     step-resumed =
         let start = step-start t r (o .stores) x in
         subst (λ (u : List ℕ). Step t u x new (queueOf t ++ (x ∷ [])) (head t)) (sym resumed-is)
-        (step-pushed-back (step-marked-if-idle (step-put-lane start new (slot-of-lane t x) h) old (rw (slot-of-lane t x) h)) x (rw (length-queue t) room))
+        (step-pushed-back (step-marked-if-idle (step-put-lane start new (slot-of-lane t x) (loaded-narrow t x) h) old (rw (slot-of-lane t x) h)) x (rw (length-queue t) room))
 
     owes-resumed : Owes t x new (queueOf t ++ (x ∷ [])) (head t)
     owes-resumed =

@@ -66,3 +66,4 @@ pub mod NotFull
 pub mod ChannelKept
 pub mod LaneIds
 pub mod Renumbered
+pub mod RowWords

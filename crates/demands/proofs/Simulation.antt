@@ -31,6 +31,7 @@ use Rattle.model.specs.Keys.{KeysNeverAgainIn, KeysNeverAgain, IssuedAsAnswered
 use Rattle.model.specs.FreePlaces.{NotFullBeforeIn, NotFullBefore}
 use Rattle.model.specs.LaneIds.{OpeningsToldApartIn, OpeningsToldApart, SavedIdsRefusedIn}
 use Rattle.model.specs.Renumbered.{renumberedOpening, renumberedReceive, renumberedCall, renumberedTick, NumberOnlyTellsIdsIn, NumberOnlyTellsIds}
+use Rattle.model.specs.RowWords.{AnswersAsBeforeIn, AnswersAsBefore}
 use Rattle.model.specs.Simulation.{runsThatFit, Simulation, numbersOfCall, Fits, CallFits}
 use Rattle.demands.proofs.Demand2.{demand2}
 use Rattle.demands.proofs.Demand3.{demand3}
@@ -46,6 +47,7 @@ use Rattle.demands.proofs.Keys.{keys-never-again, issued-as-answered}
 use Rattle.demands.proofs.NotFull.{not-full-before}
 use Rattle.demands.proofs.LaneIds.{openings-told-apart, saved-ids-refused}
 use Rattle.demands.proofs.Renumbered.{number-only-tells-ids}
+use Rattle.demands.proofs.RowWords.{answers-as-before}
 
 -- two states are equal if their parts are, the slots one by one
 pub state-path : (s u : State) → ((y : ℕ) → s .slotOf y ≡ u .slotOf y) → s .queue ≡ u .queue → s .free ≡ u .free → s .issued ≡ u .issued → s .budget ≡ u .budget → s .cursor ≡ u .cursor
@@ -275,6 +277,19 @@ module _ (W : Viewed) (sim : Simulation W) where
   transfer-told-apart h o lent d calls f before rest c a e =
       h o (W .rules .lengths lent) (accepted-too W sim o lent d) calls tt before rest c a (sym (opened-trace W sim o lent d calls f) ∙ e)
 
+  transfer-before : AnswersAsBefore theRules → AnswersAsBeforeIn (W .rules) (W .runs)
+  unfolding AnswersAsBefore AnswersAsBeforeIn
+  transfer-before h o lent =
+      let R = W .rules in
+      let g = h o (R .lengths lent) in
+      record {
+        still-accepted = λ e. sim .opens-alike o lent ∙ g .still-accepted e;
+        same-run = λ d e calls t. opened-trace W sim o lent d calls t ∙ g .same-run (accepted-too W sim o lent d) e calls tt;
+        same-output = λ d e calls t r out room.
+            sim .output-alike (afterList R ((R .opens o lent) .1) calls) r out room (stays-ok W sim o lent d calls t)
+            ∙ ap (λ (s : State). theRules .output s r out) (opened-after W sim o lent d calls t) ∙ g .same-output (accepted-too W sim o lent d) e calls tt r out room;
+      }
+
   transfer-renumbered : NumberOnlyTellsIds theRules → NumberOnlyTellsIdsIn (W .rules) (W .runs)
   unfolding NumberOnlyTellsIds NumberOnlyTellsIdsIn
   transfer-renumbered h f apart o lent =
@@ -339,3 +354,6 @@ words-saved-ids-refused W sim = saved-ids-refused (W .rules) (W .runs) (words-op
 
 pub words-number-only-tells-ids : (W : Viewed) → Simulation W → NumberOnlyTellsIdsIn (W .rules) (W .runs)
 words-number-only-tells-ids W sim = transfer-renumbered W sim number-only-tells-ids
+
+pub words-answers-as-before : (W : Viewed) → Simulation W → AnswersAsBeforeIn (W .rules) (W .runs)
+words-answers-as-before W sim = transfer-before W sim answers-as-before

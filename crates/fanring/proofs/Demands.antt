@@ -9,7 +9,7 @@ use Rattle.model.specs.declared.Answer.the-variants.{Refused}
 use Rattle.model.specs.Simulation.{Simulation}
 use Rattle.model.specs.Demand2.{Demand2In}
 use Rattle.demands.proofs.Demand3.{unstopped}
-use Rattle.demands.proofs.Simulation.{words-demand2, words-demand3, words-stops-only-at-items, words-next-is-above, words-hands-only-admitted, words-equal-turns, words-free-places, words-not-full-before, words-openings-told-apart, words-saved-ids-refused, words-number-only-tells-ids, words-none-after-close, words-held-as-counted, words-hands-as-answered, words-no-lost-wake, words-nothing-waits, words-keys-never-again, words-issued-as-answered}
+use Rattle.demands.proofs.Simulation.{words-demand2, words-demand3, words-stops-only-at-items, words-next-is-above, words-hands-only-admitted, words-equal-turns, words-free-places, words-not-full-before, words-openings-told-apart, words-saved-ids-refused, words-number-only-tells-ids, words-answers-as-before, words-none-after-close, words-held-as-counted, words-hands-as-answered, words-no-lost-wake, words-nothing-waits, words-keys-never-again, words-issued-as-answered}
 use Rattle.store.specs.View.{view}
 use Rattle.store.specs.Order.{StoreInOrder}
 use Rattle.store.specs.Words.{Words}
@@ -26,7 +26,7 @@ use Rattle.refinement.proofs.RulesKept.{keeps-rules}
 use Rattle.refinement.proofs.Simulation.{simulates}
 use Rattle.refinement.proofs.AsRules.{each-call-as-rules, lists-as-rules, examples-of, credit-of}
 use Rattle.fanring.specs.Runs.{checkedWords, checkedCalls, theCalls}
-use Rattle.fanring.specs.Demands.{RefusalsChangeNothing, FiveExactly, CallsSimulate, CallsKeepOrder, OpensAsRules, OpensInOrder, runs, NeverFive, ItemsInOrder, AnswersTell, LanesWaitBounded, LanesWaitUnstopped, StopsOnlyAtItems, NextIsAbove, HandsOnlyAdmitted, LanesShareEqually, FreePlacesSaid, NotFullBefore, OpeningsToldApart, SavedIdsRefused, NumberOnlyTellsIds, NoneAfterClose, HeldIsCounted, UntrueHeldRefused, RulesKept, TraceAsRules, MixedAsChecked, ExamplesHold, CreditByTable, NoLostWake, NothingWaits, KeysNeverAgain, IssuedAsAnswered}
+use Rattle.fanring.specs.Demands.{RefusalsChangeNothing, FiveExactly, CallsSimulate, CallsKeepOrder, OpensAsRules, OpensInOrder, runs, NeverFive, ItemsInOrder, AnswersTell, LanesWaitBounded, LanesWaitUnstopped, StopsOnlyAtItems, NextIsAbove, HandsOnlyAdmitted, LanesShareEqually, FreePlacesSaid, NotFullBefore, OpeningsToldApart, SavedIdsRefused, NumberOnlyTellsIds, AnswersAsBefore, NoneAfterClose, HeldIsCounted, UntrueHeldRefused, RulesKept, TraceAsRules, MixedAsChecked, ExamplesHold, CreditByTable, NoLostWake, NothingWaits, KeysNeverAgain, IssuedAsAnswered}
 use Rattle.store.proofs.HeldLaws.{held-walked}
 use Rattle.fanring.proofs.CheckedLaws.{checked-five}
 use Rattle.fanring.proofs.CheckedCalls.{checked-as-inner, words-unmoved, output-left}
@@ -121,6 +121,9 @@ saved-ids-refused = words-saved-ids-refused (viewedOf checkedCalls) checked-simu
 
 pub number-only-tells-ids : NumberOnlyTellsIds
 number-only-tells-ids = words-number-only-tells-ids (viewedOf checkedCalls) checked-simulate
+
+pub answers-as-before : AnswersAsBefore
+answers-as-before = words-answers-as-before (viewedOf checkedCalls) checked-simulate
 
 pub none-after-close : NoneAfterClose
 none-after-close = words-none-after-close (viewedOf checkedCalls) checked-simulate

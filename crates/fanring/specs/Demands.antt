@@ -1,5 +1,5 @@
 -- What is claimed of the checked calls: of each on any two stores, and of lists of them from an accepted opening on.
--- Most claims are crate `model`'s (its specs/Demand2.antt, Demand3.antt, Stops.antt, EqualTurns.antt, FreePlaces.antt, LaneIds.antt, Renumbered.antt,
+-- Most claims are crate `model`'s (its specs/Demand2.antt, Demand3.antt, Stops.antt, EqualTurns.antt, FreePlaces.antt, LaneIds.antt, Renumbered.antt, RowWords.antt,
 -- Closed.antt, Held.antt, Wake.antt, Keys.antt), here of the words that the calls' contracts name; others are crate `refinement`'s (its specs/RulesOnWords.antt, AsRules.antt).
 -- Assumes nothing.
 use mathlib.Core.Path.{_≡_}
@@ -19,6 +19,7 @@ use Rattle.model.specs.EqualTurns.{EqualTurnsIn}
 use Rattle.model.specs.FreePlaces.{FreePlacesIn, NotFullBeforeIn}
 use Rattle.model.specs.LaneIds.{OpeningsToldApartIn, SavedIdsRefusedIn}
 use Rattle.model.specs.Renumbered.{NumberOnlyTellsIdsIn}
+use Rattle.model.specs.RowWords.{AnswersAsBeforeIn}
 use Rattle.model.specs.Closed.{NoneAfterCloseIn}
 use Rattle.model.specs.Held.{HeldAsCountedIn}
 use Rattle.model.specs.Wake.{NoLostWakeIn, NothingWaitsIn}
@@ -127,6 +128,10 @@ SavedIdsRefused = SavedIdsRefusedIn theCalls runs
 -- and the number does nothing else: with another one, in the opening and in the calls' ids, a run is the same but for the number in the items' ids, outputs too
 abbrev pub NumberOnlyTellsIds : Type 0
 NumberOnlyTellsIds = NumberOnlyTellsIdsIn theCalls runs
+
+-- document 02, N9: "Answers of every run, the stores otherwise untouched, are those of before where the opening was accepted under both lengths."
+abbrev pub AnswersAsBefore : Type 0
+AnswersAsBefore = AnswersAsBeforeIn theCalls runs
 
 -- "closed by an accepted `close_lane`, after which none of its items is handed out"
 abbrev pub NoneAfterClose : Type 0

@@ -4,11 +4,16 @@ use mathlib.Core.Path.{_≡_}
 use Prim.Native.Nat.{ℕ, _+_, _-_, _≤_, _<_}
 use native.Mathlib.Omega.{arith}
 use Rattle.lane.specs.Order.{Counts}
+use Rattle.lane.specs.Table.{Narrow}
 
 module _ {B d m c u b w : ℕ} (o : Counts B d m c u b w) where
   -- the window goes back to the counts
   pub counts-close : Counts B d m (c + w) (u - w) (b - w) 0
   counts-close = record { cached-is = omega arith; unreleased-is = omega arith; unreleased-below = omega arith; window-most = omega arith; burst-most = omega arith }
+
+  -- "never exceed 65,536": 32 bits hold them
+  pub counts-narrow : d ≤ 65536 → m ≤ 65536 → Narrow c u b w
+  counts-narrow e f = record { cached-fits = omega arith; unreleased-fits = omega arith; burst-fits = omega arith; window-fits = omega arith }
 
   -- n more items are known of, where none was cached
   pub counts-look : (n a : ℕ) → c ≡ 0 → a ≡ n + m → Counts B d a n u b w

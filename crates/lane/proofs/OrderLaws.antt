@@ -11,6 +11,7 @@ use Rattle.model.specs.State.{releaseBatch}
 use Rattle.yring.proofs.ReleaseLaws.{batch-some}
 use Rattle.yring.specs.Cursor.{after, distance, Capacity}
 use Rattle.lane.specs.Lane.{withCursors, withCounts, prefetch, reload, release, advance, closeFast, windowFor, openWindow, openFor, grantFast, windowPop, popFast, releaseAtBatch, releaseAny, releasePending, settled, emptied, settleEmpty, readyOrIdle, refill, reloadIsEmpty, charge, addBurst, endBurst, targeted, popTargeted, polled, pollItem, pollRefilled, poll, fairWindow, burstOfWindow, fairly, popLone, endFullBurst, chunkLimit, moveChunk, sent, pushAndFlushItem, newLane}
+use Rattle.lane.specs.Table.{NarrowLane}
 use Rattle.lane.specs.Order.{Cursors, Counts, InOrder, Filled, FoundEmpty, Refundable, sentLane, poppedLane, refilledLane, polledLane}
 use Rattle.yring.specs.Ring.{pushItem, itemAt}
 use Rattle.model.specs.declared.LaneKey.{LaneKey}
@@ -25,7 +26,7 @@ use Rattle.lane.specs.declared.lane.Refill.{Refill}
 use Rattle.lane.specs.declared.lane.Refill.the-variants as Refill
 use Rattle.yring.proofs.CursorLaws.{some, behind-after, ahead-after, distance-self, distance-none}
 use Rattle.lane.proofs.CursorOrder.{held-adds, head-goes-on, tail-goes-on, known-is-tail, released-is-head}
-use Rattle.lane.proofs.CountOrder.{counts-close, counts-look, counts-open, counts-pop, counts-charge, counts-credit, counts-release, counts-burst}
+use Rattle.lane.proofs.CountOrder.{counts-close, counts-narrow, counts-look, counts-open, counts-pop, counts-charge, counts-credit, counts-release, counts-burst}
 
 -- what holds of both sides of a test holds
 pub cond-holds : {A : Type 0} (P : A → Type 0) (t : Bool) (x y : A) → (t ≡ true → P x) → (t ≡ false → P y) → P (cond t x y)
@@ -44,6 +45,10 @@ module _ (C : ℕ) (small : C ≤ 65536) (l : Lane) (o : InOrder C l) where
 
   pub refundable : Refundable l
   refundable = record { fits = fits (o .counts) (o .cursors .known-on); credit = credit (o .counts); turn = o .counts .window-most }
+
+  -- 32 bits hold its counts
+  pub order-narrow : NarrowLane l
+  order-narrow = counts-narrow (o .counts) (omega (arith, o .cursors .head-on)) (omega (arith, o .cursors .known-on))
 
   pub close-fast-keeps : InOrder C (closeFast l)
   close-fast-keeps = record { cursors = o .cursors; counts = counts-close (o .counts) }

@@ -1,19 +1,59 @@
 -- The table's words: what a store writes is read back, and every other word, lane and length is as it was.
 -- The conditions compute at numerals, so that `simp frames` finds them.
 -- Assumes nothing.
-use mathlib.Core.Path.{_≡_, refl, sym}
+use mathlib.Core.Path.{_≡_, refl, sym, ap, _∙_}
 use mathlib.Core.Bool.{true, false}
 use mathlib.Core.List.{List}
 use mathlib.Core.Logic.{_⊎_, inl, inr}
-use Prim.Native.Nat.{ℕ, _≤_, _<_}
+use Prim.Native.Nat.{ℕ, _+_, _*_, _/_, _%_, _^_, _≤_, _<_}
 use native.Mathlib.Omega.{arith}
 use borrow.Author.Tests.{ltb-true, leb-true, eqb-false, le-leb, ne-eqb}
 use lib.Dec.{ltb, leb, eqb}
 use lib.ListN.{length, getD, length-set}
 use lib.Seq.{getD-set-same, getD-set-other, set-getD}
 use Rattle.lane.specs.declared.lane.Lane.{Lane}
-use Rattle.lane.specs.Table.{headerWords, rowWords, laneWords, head, setHead, cellAt, cell, setCell, HasRow, words, laneAt, putLane}
+use Rattle.lane.specs.Table.{headerWords, rowWords, laneWords, head, setHead, cellAt, cell, setCell, HasRow, half, low, high, packed, Narrow, NarrowLane, words, narrowed, laneAt, putLane}
 use Rattle.yring.proofs.ListLaws.{length-scatter, scatter-in, scatter-out}
+
+-- ---- two counts in a word
+
+low-packed : (a b : ℕ) → low (packed a b) ≡ a % half
+low-packed a b = omega arith
+
+high-packed : (a b : ℕ) → high (packed a b) ≡ b % half
+high-packed a b = omega arith
+
+-- a word is its halves
+packed-halves : (w : ℕ) → w < 2 ^ 64 → packed (low w) (high w) ≡ w
+packed-halves w h = omega arith
+
+-- counts that fit lose nothing
+pub narrow-same : (l : Lane) → NarrowLane l → narrowed l ≡ l
+narrow-same l n =
+    let a : l .cached % half ≡ l .cached = omega (arith, n .cached-fits) in
+    let b : l .unreleased % half ≡ l .unreleased = omega (arith, n .unreleased-fits) in
+    let c : l .burst % half ≡ l .burst = omega (arith, n .burst-fits) in
+    let d : l .window % half ≡ l .window = omega (arith, n .window-fits) in
+    λ i. record {
+      key = l .key;
+      tail = l .tail;
+      released = l .released;
+      head = l .head;
+      known = l .known;
+      cached = a i;
+      unreleased = b i;
+      burst = c i;
+      window = d i;
+      pending = l .pending;
+      queued = l .queued;
+      paused = l .paused;
+      registered = l .registered;
+      living = l .living;
+    }
+
+-- a new lane's counts fit
+pub none-narrow : Narrow 0 0 0 0
+none-narrow = record { cached-fits = omega arith; unreleased-fits = omega arith; burst-fits = omega arith; window-fits = omega arith }
 
 -- ---- a lane stored
 
@@ -51,10 +91,31 @@ module _ (t : List ℕ) (l : Lane) where
   word-stored h c p =
       scatter-in (words l) t (λ i. cellAt i (l .key .slot)) (λ i k. omega arith) (λ i j a b e. omega arith) c (ltb-true c laneWords p)
 
-  -- a lane stored is loaded again
-  pub lane-stored : HasRow (l .key .slot) (length t) → laneAt (putLane t l) (l .key .slot) ≡ l
+  -- a lane stored is loaded again, its counts in 32 bits
+  pub lane-stored : HasRow (l .key .slot) (length t) → laneAt (putLane t l) (l .key .slot) ≡ narrowed l
   unfolding laneAt
-  lane-stored h = simp word-stored
+  lane-stored h =
+      let w = word-stored h in
+      let a : low (cell (putLane t l) 5 (l .key .slot)) ≡ l .cached % half = ap low (w 5 refl) ∙ low-packed (l .cached) (l .unreleased) in
+      let b : high (cell (putLane t l) 5 (l .key .slot)) ≡ l .unreleased % half = ap high (w 5 refl) ∙ high-packed (l .cached) (l .unreleased) in
+      let c : low (cell (putLane t l) 6 (l .key .slot)) ≡ l .burst % half = ap low (w 6 refl) ∙ low-packed (l .burst) (l .window) in
+      let d : high (cell (putLane t l) 6 (l .key .slot)) ≡ l .window % half = ap high (w 6 refl) ∙ high-packed (l .burst) (l .window) in
+      λ i. record {
+        key = record { slot = l .key .slot; generation = w 0 refl i };
+        tail = w 1 refl i;
+        released = w 2 refl i;
+        head = w 3 refl i;
+        known = w 4 refl i;
+        cached = a i;
+        unreleased = b i;
+        burst = c i;
+        window = d i;
+        pending = w 7 refl i;
+        queued = w 8 refl i;
+        paused = w 9 refl i;
+        registered = w 10 refl i;
+        living = w 11 refl i;
+      }
 
   -- another slot's lane
   pub other-lane-kept : (s : ℕ) → (s ≡ l .key .slot → ⊥) → laneAt (putLane t l) s ≡ laneAt t s
@@ -62,18 +123,27 @@ module _ (t : List ℕ) (l : Lane) where
   other-lane-kept s n = simp (other-row-putLane, ne-eqb s (l .key .slot) n)
 
   -- the same two, in the form for `simp`
-  pub lane-own : (s : ℕ) → l .key .slot ≡ s → leb (cellAt rowWords s) (length t) ≡ true → laneAt (putLane t l) s ≡ l
+  pub lane-own : (s : ℕ) → l .key .slot ≡ s → leb (cellAt rowWords s) (length t) ≡ true → laneAt (putLane t l) s ≡ narrowed l
   lane-own s e h =
       rw (sym e) (lane-stored (omega (arith, leb-true (cellAt rowWords s) (length t) h)))
+
+  -- where 32 bits hold the counts
+  pub lane-own-narrow : (s : ℕ) → l .key .slot ≡ s → leb (cellAt rowWords s) (length t) ≡ true → NarrowLane l → laneAt (putLane t l) s ≡ l
+  lane-own-narrow s e h n = lane-own s e h ∙ narrow-same l n
 
   pub lane-other : (s : ℕ) → eqb s (l .key .slot) ≡ false → laneAt (putLane t l) s ≡ laneAt t s
   lane-other s n = other-lane-kept s (eqb-false s (l .key .slot) n)
 
 module _ (t : List ℕ) (slot : ℕ) where
-  -- storing what was loaded changes nothing
-  pub load-store-same : putLane t (laneAt t slot) ≡ t
+  -- storing what was loaded changes nothing, of words that are u64
+  pub load-store-same : cell t 5 slot < 2 ^ 64 → cell t 6 slot < 2 ^ 64 → putLane t (laneAt t slot) ≡ t
   unfolding laneAt putLane
-  load-store-same = simp set-getD
+  load-store-same h k = simp (packed-halves (cell t 5 slot) h, packed-halves (cell t 6 slot) k, set-getD)
+
+  -- what was loaded fits
+  pub loaded-narrow : NarrowLane (laneAt t slot)
+  unfolding laneAt
+  loaded-narrow = record { cached-fits = omega arith; unreleased-fits = omega arith; burst-fits = omega arith; window-fits = omega arith }
 
   -- the slot of the lane of a slot
   pub slot-of-lane : laneAt t slot .key .slot ≡ slot

@@ -6,15 +6,18 @@ ghost use Rattle.lane.specs.Table.{rowWords, laneWords, HasRow, cell, se
 use crate::lane::Lane;
 use model::LaneKey;
 
+// One more than the largest half of a word. Counts are two to a word; what does not fit in 32 bits is lost, and no count of a lane in order does not.
+const HALF: u64 = 4294967296;
+
 impl Lane {
     // The header's words, the words of a slot's row, and those of them that the record takes.
     pub const HEADER_WORDS: usize = 512;
 
-    pub const ROW_WORDS: usize = 24;
+    pub const ROW_WORDS: usize = 16;
 
-    pub const LANE_WORDS: usize = 14;
+    pub const LANE_WORDS: usize = 12;
 
-    fn words(self) -> [u64; 14]
+    fn words(self) -> [u64; 12]
         ensures { λ r. ⌜ r ≡ words self ⌝ }
     {
         [
@@ -23,10 +26,8 @@ impl Lane {
             self.released,
             self.head,
             self.known,
-            self.cached,
-            self.unreleased,
-            self.burst,
-            self.window,
+            self.cached % HALF + HALF * (self.unreleased % HALF),
+            self.burst % HALF + HALF * (self.window % HALF),
             self.pending,
             self.queued,
             self.paused,
@@ -49,15 +50,15 @@ impl Lane {
             released: words[2],
             head: words[3],
             known: words[4],
-            cached: words[5],
-            unreleased: words[6],
-            burst: words[7],
-            window: words[8],
-            pending: words[9],
-            queued: words[10],
-            paused: words[11],
-            registered: words[12],
-            living: words[13],
+            cached: words[5] % HALF,
+            unreleased: words[5] / HALF % HALF,
+            burst: words[6] % HALF,
+            window: words[6] / HALF % HALF,
+            pending: words[7],
+            queued: words[8],
+            paused: words[9],
+            registered: words[10],
+            living: words[11],
         }
     }
 

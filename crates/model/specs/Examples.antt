@@ -21,6 +21,7 @@ pub mod Miscounted
 pub mod LaneIds
 pub mod Mistaken
 pub mod Renumbered
+pub mod RowWords
 pub mod Registration
 pub mod ReceivesEnd
 pub mod BudgetAfterNothing

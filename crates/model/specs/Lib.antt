@@ -22,6 +22,7 @@ pub mod EqualTurns
 pub mod FreePlaces
 pub mod LaneIds
 pub mod Renumbered
+pub mod RowWords
 pub mod Closed
 pub mod Held
 pub mod HeldCalls

@@ -43,13 +43,17 @@ openedState o = record {
 }
 
 -- "capacity 0 or above 65,536"; "S 0 or above 8,192"; "ring store short"; "table store short"
--- "Opening lends a ring store of at least S × C u64 words and a table store of at least 24 × S + 512."
+-- "Opening lends a ring store of at least S × C u64 words", and a table store of at least n × S + 512.
 -- There is no state before an opening, so the one named with a refusal says nothing.
-unfoldable pub openingOutcome : Opening → Lent → Outcome
-openingOutcome o lent =
+abbrev pub openingWithRows : ℕ → Opening → Lent → Outcome
+openingWithRows n o lent =
     unless
     ((either (ltb (o .capacity) 1) (ltb 65536 (o .capacity)), CapacityOutOfRange)
     ∷ (either (ltb (o .slots) 1) (ltb 8192 (o .slots)), SlotsOutOfRange)
     ∷ (ltb (lent .rings) (o .slots * nextPowerOfTwo (o .capacity)), RingStoreShort)
-    ∷ (ltb (lent .table) (24 * o .slots + 512), TableStoreShort) ∷ [])
+    ∷ (ltb (lent .table) (n * o .slots + 512), TableStoreShort) ∷ [])
     (openedState o) (says Done (openedState o))
+
+-- document 02, N9: "The table store is then 16 × S + 512 words, the length refusal 4 now tests."
+unfoldable pub openingOutcome : Opening → Lent → Outcome
+openingOutcome o lent = openingWithRows 16 o lent

@@ -1,5 +1,7 @@
 -- Document 01's rules, put together.
 -- Assumes nothing.
+use Prim.Native.Nat.{ℕ}
+use Rattle.model.specs.declared.Opening.{Opening}
 use Rattle.model.specs.declared.Call.{Call}
 use Rattle.model.specs.declared.Call.the-variants.{Sender, Receive, Control}
 use Rattle.model.specs.State.{State}
@@ -8,21 +10,29 @@ use Rattle.model.specs.Runs.{Lent, Rules}
 use Rattle.model.specs.Sender.{senderOutcome}
 use Rattle.model.specs.Receive.{receiveOutcome, outputAfter}
 use Rattle.model.specs.Control.{controlOutcome}
-use Rattle.model.specs.Opening.{openingOutcome}
+use Rattle.model.specs.Opening.{openingWithRows, openingOutcome}
 
 unfoldable pub outcome : State → Call → Outcome
 outcome s (Sender c) = senderOutcome s c
 outcome s (Receive r) = receiveOutcome s r
 outcome s (Control c) = controlOutcome s c
 
--- What demands 2 and 3 are proved of.
-abbrev pub theRules : Rules
-theRules = record {
+-- Document 01's calls, from an opening of any kind on.
+abbrev pub rulesFrom : (Opening → Lent → Outcome) → Rules
+rulesFrom opening = record {
   State = State;
   Stores = Lent;
   lengths = λ lent. lent;
-  opens = λ o lent. (openingOutcome o lent) .1;
+  opens = λ o lent. (opening o lent) .1;
   step = λ s c. (outcome s c) .1;
   hands = λ s r. (receiveOutcome s r) .0;
   output = λ s r out. outputAfter s r out;
 }
+
+-- What demands 2 and 3 are proved of.
+abbrev pub theRules : Rules
+theRules = rulesFrom openingOutcome
+
+-- The rules with n words of the table store for each slot: only the opening speaks of them.
+abbrev pub rulesWithRows : ℕ → Rules
+rulesWithRows n = rulesFrom (openingWithRows n)

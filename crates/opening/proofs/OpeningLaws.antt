@@ -53,7 +53,7 @@ module _ (o : Opening) (t r : List ℕ) where
       (either (ltb (o .capacity) 1) (ltb 65536 (o .capacity)), CapacityOutOfRange) ∷ (either (ltb (o .slots) 1) (ltb 8192 (o .slots)), SlotsOutOfRange) ∷ []
 
   abbrev storeTests : List (Bool × Refusal)
-  storeTests = (ltb (length r) (o .slots * C), RingStoreShort) ∷ (ltb (length t) (24 * o .slots + 512), TableStoreShort) ∷ []
+  storeTests = (ltb (length r) (o .slots * C), RingStoreShort) ∷ (ltb (length t) (16 * o .slots + 512), TableStoreShort) ∷ []
 
   sizes-alike : sizesVerdict o ≡ firstOf sizeTests
   unfolding sizesVerdict firstOf
@@ -73,7 +73,7 @@ module _ (o : Opening) (t r : List ℕ) where
   stores-alike : storesVerdict (o .slots) C (length t) (length r) ≡ firstOf storeTests
   unfolding storesVerdict firstOf
   stores-alike =
-      rw (not-below (length r) (o .slots * C), not-below (length t) (24 * o .slots + 512)) (go (ltb (length r) (o .slots * C)) (ltb (length t) (24 * o .slots + 512)))
+      rw (not-below (length r) (o .slots * C), not-below (length t) (16 * o .slots + 512)) (go (ltb (length r) (o .slots * C)) (ltb (length t) (16 * o .slots + 512)))
     where
       go : (a b : Bool) → cond (not a) (cond (not b) Pass (Refuse TableStoreShort)) (Refuse RingStoreShort) ≡ if a (Refuse RingStoreShort) (if b (Refuse TableStoreShort) Pass)
       go true b = refl

@@ -26,7 +26,7 @@ sizesVerdict o =
     (Refuse CapacityOutOfRange))
     (Refuse CapacityOutOfRange)
 
--- "Opening lends a ring store of at least S × C u64 words and a table store of at least 24 × S + 512."
+-- "Opening lends a ring store of at least S × C u64 words"; document 02, N9: "The table store is then 16 × S + 512 words, the length refusal 4 now tests."
 unfoldable pub storesVerdict : ℕ → ℕ → ℕ → ℕ → Verdict
 storesVerdict S C table rings =
     cond (leb (S * C) rings) (cond (leb (rowWords * S + headerWords) table) Pass (Refuse TableStoreShort)) (Refuse RingStoreShort)

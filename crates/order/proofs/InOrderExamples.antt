@@ -7,7 +7,7 @@ use Prim.Native.Nat.{ℕ}
 use lib.ListN.{replicate, set, take}
 use Rattle.model.specs.Lists.{both, either, count, same, keep, from}
 use Rattle.model.specs.State.{releaseBatch}
-use Rattle.lane.specs.Table.{cellAt, laneAt}
+use Rattle.lane.specs.Table.{packed, cellAt, laneAt}
 use Rattle.queues.specs.Queue.{queueOf}
 use Rattle.queues.specs.Registry.{freeOf}
 use Rattle.store.specs.Held.{heldIn, heldFrom}
@@ -20,15 +20,15 @@ header = 3 ∷ 0 ∷ 1 ∷ 1 ∷ 3 ∷ 64 ∷ 0 ∷ 1 ∷ 2 ∷ 7 ∷ 0 ∷ 0 �
 
 -- the front lane, with a window of 1 and one item more; page 0 has the bit of slot 1, group 0 that of page 0
 abbrev pub front : List ℕ
-front = 0 ∷ 2 ∷ 0 ∷ 0 ∷ 2 ∷ 1 ∷ 1 ∷ 1 ∷ 1 ∷ 1 ∷ 1 ∷ 0 ∷ 1 ∷ 1 ∷ 0 ∷ 2 ∷ 2 ∷ 1 ∷ replicate 6 0
+front = 0 ∷ 2 ∷ 0 ∷ 0 ∷ 2 ∷ packed 1 1 ∷ packed 1 1 ∷ 1 ∷ 1 ∷ 0 ∷ 1 ∷ 1 ∷ 0 ∷ 2 ∷ 2 ∷ 1 ∷ []
 
 -- a pending lane that is not queued
 abbrev pub second : List ℕ
-second = 0 ∷ 1 ∷ 0 ∷ 0 ∷ 0 ∷ 0 ∷ 0 ∷ 0 ∷ 0 ∷ 1 ∷ 0 ∷ 0 ∷ 1 ∷ 0 ∷ replicate 10 0
+second = 0 ∷ 1 ∷ 0 ∷ 0 ∷ 0 ∷ 0 ∷ 0 ∷ 1 ∷ 0 ∷ 0 ∷ 1 ∷ 0 ∷ replicate 4 0
 
 -- no lane
 abbrev pub third : List ℕ
-third = 5 ∷ replicate 23 0
+third = 5 ∷ replicate 15 0
 
 abbrev pub table : List ℕ
 table = header ++ replicate 495 0 ++ front ++ second ++ third
@@ -71,28 +71,30 @@ laneChanges =
     -- the released head, the head, the known tail no u64
     ∷ ((cellAt 2 1, 18446744073709551616) ∷ []) ∷ ((cellAt 3 1, 18446744073709551616) ∷ []) ∷ ((cellAt 4 1, 18446744073709551616) ∷ [])
     -- cached, unreleased, the burst below the window, the burst above 63
-    ∷ ((cellAt 5 0, 2) ∷ []) ∷ ((cellAt 6 0, 0) ∷ []) ∷ ((cellAt 7 0, 0) ∷ []) ∷ ((cellAt 7 0, 64) ∷ [])
+    ∷ ((cellAt 5 0, packed 2 1) ∷ []) ∷ ((cellAt 5 0, packed 1 0) ∷ []) ∷ ((cellAt 6 0, packed 0 1) ∷ []) ∷ ((cellAt 6 0, packed 64 1) ∷ [])
+    -- a half whose upper bits are set, in either place
+    ∷ ((cellAt 5 0, packed 65537 1) ∷ []) ∷ ((cellAt 5 0, packed 1 65537) ∷ []) ∷ ((cellAt 6 0, packed 1 4294967295) ∷ [])
     -- unreleased no longer below the batch
-    ∷ ((cellAt 1 1, 2) ∷ (cellAt 3 1, 2) ∷ (cellAt 4 1, 2) ∷ (cellAt 6 1, 2) ∷ (16, 2) ∷ [])
+    ∷ ((cellAt 1 1, 2) ∷ (cellAt 3 1, 2) ∷ (cellAt 4 1, 2) ∷ (cellAt 5 1, packed 0 2) ∷ (16, 2) ∷ [])
     -- pending, queued, paused, registered, living no flags
-    ∷ ((cellAt 9 0, 2) ∷ []) ∷ ((cellAt 10 2, 2) ∷ []) ∷ ((cellAt 11 1, 2) ∷ []) ∷ ((cellAt 12 2, 2) ∷ []) ∷ ((cellAt 13 1, 2) ∷ [])
+    ∷ ((cellAt 7 0, 2) ∷ []) ∷ ((cellAt 8 2, 2) ∷ []) ∷ ((cellAt 9 1, 2) ∷ []) ∷ ((cellAt 10 2, 2) ∷ []) ∷ ((cellAt 11 1, 2) ∷ [])
     -- queued and not flagged, queued and paused, pending and not marked
-    ∷ ((cellAt 10 0, 0) ∷ []) ∷ ((cellAt 11 0, 1) ∷ []) ∷ ((cellAt 16 0, 4) ∷ [])
+    ∷ ((cellAt 8 0, 0) ∷ []) ∷ ((cellAt 9 0, 1) ∷ []) ∷ ((cellAt 14 0, 4) ∷ [])
     -- a window, at `fast_slot`, of a lane that is not the front one
     ∷ (
-    (cellAt 5 0, 2) ∷ (cellAt 6 0, 0) ∷ (cellAt 8 0, 0) ∷ (cellAt 4 1, 1) ∷ (cellAt 6 1, 1) ∷ (cellAt 7 1, 1) ∷ (cellAt 8 1, 1) ∷ (12, 1) ∷ []
+    (cellAt 5 0, packed 2 0) ∷ (cellAt 6 0, packed 1 0) ∷ (cellAt 4 1, 1) ∷ (cellAt 5 1, packed 0 1) ∷ (cellAt 6 1, packed 1 1) ∷ (12, 1) ∷ []
     )
     ∷ []
 
 abbrev pub listChanges : List (List Change)
 listChanges =
     -- the queue names a slot without a lane, one slot twice, one not issued
-    ((2, 2) ∷ (cellAt 14 1, 2) ∷ []) ∷ ((2, 2) ∷ (cellAt 14 1, 0) ∷ []) ∷ ((2, 2) ∷ (cellAt 14 1, 3) ∷ [])
+    ((2, 2) ∷ (cellAt 12 1, 2) ∷ []) ∷ ((2, 2) ∷ (cellAt 12 1, 0) ∷ []) ∷ ((2, 2) ∷ (cellAt 12 1, 3) ∷ [])
     -- the free list names a slot with a lane, one slot twice, one not issued, one of the last generation
-    ∷ ((cellAt 15 0, 1) ∷ []) ∷ ((3, 2) ∷ (cellAt 15 1, 2) ∷ []) ∷ ((cellAt 15 0, 3) ∷ []) ∷ ((cellAt 0 2, 18446744073709551615) ∷ [])
+    ∷ ((cellAt 13 0, 1) ∷ []) ∷ ((3, 2) ∷ (cellAt 13 1, 2) ∷ []) ∷ ((cellAt 13 0, 3) ∷ []) ∷ ((cellAt 0 2, 18446744073709551615) ∷ [])
     -- a page's and a group's word no u64, a page bit of a slot not issued, a group bit missing, a group bit of a page that does not exist
-    ∷ ((cellAt 16 0, 18446744073709551618) ∷ []) ∷ ((cellAt 17 0, 18446744073709551617) ∷ [])
-    ∷ ((cellAt 16 0, 10) ∷ []) ∷ ((cellAt 17 0, 0) ∷ []) ∷ ((cellAt 17 0, 3) ∷ [])
+    ∷ ((cellAt 14 0, 18446744073709551618) ∷ []) ∷ ((cellAt 15 0, 18446744073709551617) ∷ [])
+    ∷ ((cellAt 14 0, 10) ∷ []) ∷ ((cellAt 15 0, 0) ∷ []) ∷ ((cellAt 15 0, 3) ∷ [])
     ∷ []
 
 -- the held count untrue
@@ -101,33 +103,33 @@ heldChanges =
     -- one less, one more, 2^64 more
     ((16, 2) ∷ []) ∷ ((16, 4) ∷ []) ∷ ((16, 18446744073709551619) ∷ [])
     -- left as it was by a send, by a receive, by a lane that goes
-    ∷ ((cellAt 1 1, 2) ∷ []) ∷ ((cellAt 3 1, 1) ∷ (cellAt 4 1, 1) ∷ (cellAt 6 1, 1) ∷ []) ∷ ((cellAt 12 1, 0) ∷ (13, 1) ∷ [])
+    ∷ ((cellAt 1 1, 2) ∷ []) ∷ ((cellAt 3 1, 1) ∷ (cellAt 4 1, 1) ∷ (cellAt 5 1, packed 0 1) ∷ []) ∷ ((cellAt 10 1, 0) ∷ (13, 1) ∷ [])
     -- without a paused lane, and of a closed receiver
-    ∷ ((cellAt 11 1, 1) ∷ (16, 2) ∷ []) ∷ ((7, 0) ∷ (16, 0) ∷ [])
+    ∷ ((cellAt 9 1, 1) ∷ (16, 2) ∷ []) ∷ ((7, 0) ∷ (16, 0) ∷ [])
     ∷ []
 
 -- the held count true
 abbrev pub heldTrue : List (List Change)
 heldTrue =
     -- the same send, receive and lane that goes
-    ((cellAt 1 1, 2) ∷ (16, 4) ∷ []) ∷ ((cellAt 3 1, 1) ∷ (cellAt 4 1, 1) ∷ (cellAt 6 1, 1) ∷ (16, 2) ∷ []) ∷ ((cellAt 12 1, 0) ∷ (13, 1) ∷ (16, 2) ∷ [])
+    ((cellAt 1 1, 2) ∷ (16, 4) ∷ []) ∷ ((cellAt 3 1, 1) ∷ (cellAt 4 1, 1) ∷ (cellAt 5 1, packed 0 1) ∷ (16, 2) ∷ []) ∷ ((cellAt 10 1, 0) ∷ (13, 1) ∷ (16, 2) ∷ [])
     -- with a paused lane, and of a closed receiver
-    ∷ ((cellAt 11 1, 1) ∷ []) ∷ ((7, 0) ∷ [])
+    ∷ ((cellAt 9 1, 1) ∷ []) ∷ ((7, 0) ∷ [])
     -- an item of a lane that is idle, as an unsignalled send leaves it
-    ∷ ((cellAt 9 1, 0) ∷ [])
+    ∷ ((cellAt 7 1, 0) ∷ [])
     -- cursors of a slot without a lane, of one whose sender lives, of one that is not issued; a ring with an item at 2^64 - 1
-    ∷ ((cellAt 1 2, 5) ∷ []) ∷ ((cellAt 12 1, 0) ∷ (cellAt 13 1, 1) ∷ (13, 1) ∷ (14, 2) ∷ (16, 2) ∷ [])
-    ∷ ((0, 2) ∷ (3, 0) ∷ (cellAt 12 2, 1) ∷ (cellAt 1 2, 1) ∷ [])
+    ∷ ((cellAt 1 2, 5) ∷ []) ∷ ((cellAt 10 1, 0) ∷ (cellAt 11 1, 1) ∷ (13, 1) ∷ (14, 2) ∷ (16, 2) ∷ [])
+    ∷ ((0, 2) ∷ (3, 0) ∷ (cellAt 10 2, 1) ∷ (cellAt 1 2, 1) ∷ [])
     ∷ ((cellAt 1 1, 0) ∷ (cellAt 2 1, 18446744073709551615) ∷ (cellAt 3 1, 18446744073709551615) ∷ (cellAt 4 1, 18446744073709551615) ∷ [])
     ∷ []
 
 -- one slot, C 1, nothing issued, and a held count
 abbrev pub empty : ℕ → List ℕ
-empty held = replicate 4 0 ++ (1 ∷ 64 ∷ 0 ∷ 1 ∷ 1 ∷ 7 ∷ replicate 6 0) ++ held ∷ replicate 519 0
+empty held = replicate 4 0 ++ (1 ∷ 64 ∷ 0 ∷ 1 ∷ 1 ∷ 7 ∷ replicate 6 0) ++ held ∷ replicate 511 0
 
 -- stores that are too short
 abbrev pub shortInOrder : Bool
-shortInOrder = either (inOrder (take 583 table) rings) (either (inOrder table (replicate 5 0)) (inOrder [] []))
+shortInOrder = either (inOrder (take 559 table) rings) (either (inOrder table (replicate 5 0)) (inOrder [] []))
 
 pub in-order-examples : (inOrder table rings ≡ true) × (shortInOrder ≡ false) × (noneInOrder headerChanges ≡ true) × (noneInOrder laneChanges ≡ true)
     × (noneInOrder listChanges ≡ true) × (noneInOrder heldChanges ≡ true) × (allInOrder heldTrue ≡ true)

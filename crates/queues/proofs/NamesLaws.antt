@@ -11,7 +11,7 @@ use lib.Dec.{eqb}
 use Rattle.model.specs.Lists.{if, count, same}
 use Rattle.model.specs.Lists as rules
 use Rattle.demands.proofs.Counting.{Same, equal, other, same?, same-self, count-append, without-own, without-other}
-use Rattle.lane.specs.Table.{laneAt, putLane}
+use Rattle.lane.specs.Table.{narrowed, laneAt, putLane}
 use Rattle.lane.specs.declared.lane.Lane.{Lane}
 use Rattle.lane.proofs.TableLaws.{frames, has-row, lane-own, other-lane-kept}
 use Rattle.queues.specs.Header.{Shaped, issued, queueCount, slots}
@@ -91,7 +91,7 @@ module _ (t : List ℕ) (s : Shaped t) (q : QueueNames t) where
 
   -- the lane of an issued slot x is stored, and x then stands k times in the queue
   module _ (x : ℕ) (l : Lane) (is : l .key .slot ≡ x) (h : x < issued t) where
-    own : laneAt (putLane t l) x ≡ l
+    own : laneAt (putLane t l) x ≡ narrowed l
     own = lane-own t l x is (has-row t x (omega (arith, s .room, s .issued-most)))
 
     pub names-stored : (u : List ℕ) (k : ℕ) → issued u ≡ issued t → ((y : ℕ) → laneAt u y ≡ laneAt (putLane t l) y)

@@ -10,8 +10,8 @@ use lib.Dec.{ltb, leb, eqb}
 use lib.ListN.{length}
 use Rattle.model.specs.Lists as rules
 use Rattle.demands.proofs.Counting.{equal, other, same?}
-use Rattle.lane.specs.Table.{headerWords, rowWords, laneWords, head, cellAt, cell, laneAt, putLane}
-use Rattle.lane.proofs.TableLaws.{frames, slot-of-lane}
+use Rattle.lane.specs.Table.{headerWords, rowWords, laneWords, head, cellAt, cell, narrowed, laneAt, putLane}
+use Rattle.lane.proofs.TableLaws.{frames, slot-of-lane, narrow-same, loaded-narrow}
 use Rattle.queues.specs.Header.{Shaped, issued, queueCount, slots}
 use Rattle.queues.specs.Queue.{queueColumn, queueOf, QueueNames}
 use Rattle.queues.specs.Registry.{freeOf}
@@ -64,7 +64,9 @@ module _ (t : List ℕ) (x : ℕ) where
 
   pub lane-enqueued : leb (cellAt rowWords x) (length t) ≡ true → laneAt (enqueue t x) x ≡ queuedLane (laneAt t x)
   unfolding enqueue
-  lane-enqueued r = simp (queue-frames, frames, r)
+  lane-enqueued r =
+      let here : laneAt (enqueue t x) x ≡ narrowed (queuedLane (laneAt t x)) = simp (queue-frames, frames, r) in
+      here ∙ narrow-same (queuedLane (laneAt t x)) (loaded-narrow t x)
 
   pub other-enqueued : (y : ℕ) → eqb y x ≡ false → laneAt (enqueue t x) y ≡ laneAt t y
   unfolding enqueue

@@ -17,7 +17,7 @@ use Rattle.model.specs.Receive as rules
 use Rattle.lane.specs.declared.lane.Lane.{Lane}
 use Rattle.lane.specs.Lane.{releasePending}
 use Rattle.lane.specs.Table.{head, laneAt, putLane}
-use Rattle.lane.proofs.OrderLaws.{release-pending-keeps, refundable}
+use Rattle.lane.proofs.OrderLaws.{order-narrow, release-pending-keeps, refundable}
 use Rattle.queues.specs.Header.{Shaped, issued, queueCount, capacity, laneCount}
 use Rattle.queues.specs.Queue.{queueOf}
 use Rattle.queues.specs.Registry.{freeOf}
@@ -49,7 +49,8 @@ module _ (t : List ℕ) (k : Turning t) (x : ℕ) (h : x < issued t) (e : laneAt
   back = gives-back (laneAt t x)
 
   stored : Step t (putLane t new) x new (queueOf t) (head t)
-  stored = step-put-lane (step-from t (k .shaped) (k .linked) x) new (slot-released t x) h
+  stored = step-put-lane (step-from t (k .shaped) (k .linked) x) new (slot-released t x)
+      (order-narrow (capacity t) (k .power .most) new (release-pending-keeps (capacity t) (k .power .most) (laneAt t x) (k .lanes x h e))) h
 
   free-stored : freeOf (putLane t new) ≡ freeOf t
   free-stored = simp registry-frames

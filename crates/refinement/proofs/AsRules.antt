@@ -91,12 +91,12 @@ module _ (M : StoreCalls) (i : AsInner M) where
 
 -- an opening with such sizes, lent enough, is accepted
 opens-accepted : (o : Opening) (lent : Lent) → 1 ≤ o .capacity → o .capacity ≤ 65536 → 1 ≤ o .slots → o .slots ≤ 8192
-    → o .slots * nextPowerOfTwo (o .capacity) ≤ lent .rings → 24 * o .slots + 512 ≤ lent .table → (openingOutcome o lent) .1 .0 ≡ Done
+    → o .slots * nextPowerOfTwo (o .capacity) ≤ lent .rings → 16 * o .slots + 512 ≤ lent .table → (openingOutcome o lent) .1 .0 ≡ Done
 unfolding openingOutcome unless
 opens-accepted o lent a b c d m n =
-    rw (le-ltb (o .capacity) 1 a, le-ltb 65536 (o .capacity) b, le-ltb (o .slots) 1 c, le-ltb 8192 (o .slots) d, le-ltb (lent .rings) (o .slots * nextPowerOfTwo (o .capacity)) m, le-ltb (lent .table) (24 * o .slots + 512) n)
+    rw (le-ltb (o .capacity) 1 a, le-ltb 65536 (o .capacity) b, le-ltb (o .slots) 1 c, le-ltb 8192 (o .slots) d, le-ltb (lent .rings) (o .slots * nextPowerOfTwo (o .capacity)) m, le-ltb (lent .table) (16 * o .slots + 512) n)
 
-example-accepted : (e : Example) → sizesTaken e ≡ true → (t r : List ℕ) → 24 * e .slots + 512 ≤ length t → e .slots * nextPowerOfTwo (e .capacity) ≤ length r
+example-accepted : (e : Example) → sizesTaken e ≡ true → (t r : List ℕ) → 16 * e .slots + 512 ≤ length t → e .slots * nextPowerOfTwo (e .capacity) ≤ length r
     → (openStore (openingOf e) t r) .0 ≡ Done
 unfolding sizesTaken openingOf
 example-accepted e h t r m n =
@@ -108,7 +108,7 @@ example-accepted e h t r m n =
 
 module _ (M : StoreCalls) (i : AsInner M) where
   examples-in : (l : List Example) → map found l ≡ map expected l → map sizesTaken l ≡ map (λ e. true) l
-      → Each (λ e. (t r : List ℕ) → 24 * e .slots + 512 ≤ length t → e .slots * nextPowerOfTwo (e .capacity) ≤ length r → AsExample M e t r) l
+      → Each (λ e. (t r : List ℕ) → 16 * e .slots + 512 ≤ length t → e .slots * nextPowerOfTwo (e .capacity) ≤ length r → AsExample M e t r) l
   unfolding Each
   examples-in [] f h = tt
   examples-in (e ∷ l) f h =

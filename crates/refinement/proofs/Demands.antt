@@ -11,7 +11,7 @@ use Rattle.model.specs.State as rules
 use Rattle.model.specs.State.{vacant, hasLane}
 use Rattle.model.specs.Demand2.{Demand2In}
 use Rattle.demands.proofs.Demand3.{unstopped}
-use Rattle.demands.proofs.Simulation.{words-demand2, words-demand3, words-stops-only-at-items, words-next-is-above, words-hands-only-admitted, words-equal-turns, words-free-places, words-not-full-before, words-openings-told-apart, words-saved-ids-refused, words-number-only-tells-ids, words-none-after-close, words-held-as-counted, words-hands-as-answered, words-no-lost-wake, words-nothing-waits, words-keys-never-again, words-issued-as-answered}
+use Rattle.demands.proofs.Simulation.{words-demand2, words-demand3, words-stops-only-at-items, words-next-is-above, words-hands-only-admitted, words-equal-turns, words-free-places, words-not-full-before, words-openings-told-apart, words-saved-ids-refused, words-number-only-tells-ids, words-answers-as-before, words-none-after-close, words-held-as-counted, words-hands-as-answered, words-no-lost-wake, words-nothing-waits, words-keys-never-again, words-issued-as-answered}
 use Rattle.yring.specs.Ring.{newRing}
 use Rattle.lane.specs.Lane.{heldItems}
 use Rattle.lane.specs.Table.{laneAt}
@@ -19,7 +19,7 @@ use Rattle.queues.specs.Header.{issued, capacity}
 use Rattle.store.specs.View.{flag, slotAt, view}
 use Rattle.opening.specs.Opening.{openStore}
 use Rattle.refinement.specs.Runs.{callWords, viewedOf, innerCalls, theStores}
-use Rattle.refinement.specs.Demands.{itemsIn, runs, RefusalsChangeNothing, ItemsInOrder, AnswersTell, LanesWaitBounded, LanesWaitUnstopped, StopsOnlyAtItems, NextIsAbove, HandsOnlyAdmitted, LanesShareEqually, FreePlacesSaid, NotFullBefore, OpeningsToldApart, SavedIdsRefused, NumberOnlyTellsIds, NoneAfterClose, HeldIsCounted, NoLostWake, NothingWaits, KeysNeverAgain, IssuedAsAnswered, CallsSimulate, TraceAsRules, ExamplesHold, CreditByTable}
+use Rattle.refinement.specs.Demands.{itemsIn, runs, RefusalsChangeNothing, ItemsInOrder, AnswersTell, LanesWaitBounded, LanesWaitUnstopped, StopsOnlyAtItems, NextIsAbove, HandsOnlyAdmitted, LanesShareEqually, FreePlacesSaid, NotFullBefore, OpeningsToldApart, SavedIdsRefused, NumberOnlyTellsIds, AnswersAsBefore, NoneAfterClose, HeldIsCounted, NoLostWake, NothingWaits, KeysNeverAgain, IssuedAsAnswered, CallsSimulate, TraceAsRules, ExamplesHold, CreditByTable}
 use Rattle.refinement.proofs.RefusedUnmoved.{all-left, open-unmoved}
 use Rattle.refinement.proofs.CallLaws.{call-unmoved, output-unmoved}
 use Rattle.refinement.proofs.AsInner.{inner-as-inner}
@@ -88,6 +88,9 @@ saved-ids-refused = words-saved-ids-refused (viewedOf innerCalls) stores-simulat
 
 pub number-only-tells-ids : NumberOnlyTellsIds
 number-only-tells-ids = words-number-only-tells-ids (viewedOf innerCalls) stores-simulate
+
+pub answers-as-before : AnswersAsBefore
+answers-as-before = words-answers-as-before (viewedOf innerCalls) stores-simulate
 
 pub none-after-close : NoneAfterClose
 none-after-close = words-none-after-close (viewedOf innerCalls) stores-simulate

@@ -16,7 +16,8 @@ use Rattle.lane.specs.declared.lane.Lane.{Lane}
 use Rattle.lane.specs.declared.lane.EmptyLane.{EmptyLane}
 use Rattle.yring.specs.Ring.{newRing}
 use Rattle.lane.specs.Lane.{heldItems}
-use Rattle.lane.specs.Table.{head, laneAt, putLane}
+use Rattle.lane.specs.Table.{head, NarrowLane, laneAt, putLane}
+use Rattle.lane.proofs.OrderLaws.{order-narrow}
 use Rattle.lane.proofs.TableLaws.{slot-of-lane}
 use Rattle.queues.specs.Header.{issued, slots, freeCount, budget, capacity, fastSlot, laneCount, livingCount}
 use Rattle.queues.specs.Queue.{queueOf}
@@ -44,6 +45,9 @@ module _ (t r : List ℕ) (o : InOrderButHeld t r) (x : ℕ) (h : x < issued t) 
   pub found-slot : found .lane .key .slot ≡ x
   found-slot = ap (λ (z : Fixed). z .0 .slot) (k .fixed .0) ∙ slot-of-lane t x
 
+  pub found-narrow : NarrowLane (found .lane)
+  found-narrow = order-narrow (capacity t) (o .stores .power .most) (found .lane) (k .order)
+
   sees : slot ≡ slotAt t r x
   sees = slot-in t r x h
 
@@ -63,7 +67,7 @@ module _ (t r : List ℕ) (o : InOrderButHeld t r) (x : ℕ) (h : x < issued t) 
 
   -- the lane stored
   pub found-view : view (putLane t (found .lane)) r ≡ put x (settledEmpty (view t r .slotOf x)) (view t r)
-  found-view = view-put-lane t (o .stores .shaped) l x found-slot h r ∙ ap (λ (m : Slot). put x m (view t r)) slot-settled
+  found-view = view-put-lane t (o .stores .shaped) l x found-slot found-narrow h r ∙ ap (λ (m : Slot). put x m (view t r)) slot-settled
 
   pub found-dropped : found .disconnected ≡ not (view t r .slotOf x .living)
   unfolding slotAt
@@ -139,7 +143,7 @@ module _ (t r : List ℕ) (o : InOrderButHeld t r) (x : ℕ) (h : x < issued t) 
     settled-stores = go (found .disconnected)
       where
         go : (b : Bool) → Stores (cond b (retireLane u l) u) r
-        go true = stores-after t r _ r (o .stores) x h (retired l) _ _ (step-retire-lane step l found-slot h room) owes-retired (o .stores .rings-room)
+        go true = stores-after t r _ r (o .stores) x h (retired l) _ _ (step-retire-lane step l found-slot found-narrow h room) owes-retired (o .stores .rings-room)
         go false = stores-after t r _ r (o .stores) x h l _ _ step owes-settled (o .stores .rings-room)
 
     pub settled-in-order : InOrderButHeld (retireIf (found .disconnected) u (found .lane)) r

@@ -14,7 +14,8 @@ use Rattle.lane.specs.declared.lane.Lane.{Lane}
 use Rattle.yring.specs.Ring.{newRing}
 use Rattle.lane.specs.Lane.{heldItems}
 use Rattle.lane.specs.Order.{InOrder}
-use Rattle.lane.specs.Table.{head, laneAt, putLane}
+use Rattle.lane.specs.Table.{head, NarrowLane, laneAt, putLane}
+use Rattle.lane.proofs.OrderLaws.{order-narrow}
 use Rattle.queues.specs.Header.{budget, capacity, fastSlot, laneCount, livingCount, setBudget}
 use Rattle.queues.specs.Queue.{queueOf, rotateLeft}
 use Rattle.queues.proofs.QueueLaws.{queue-putLane, shaped-putLane}
@@ -47,13 +48,16 @@ module _ (t r : List ℕ) (o : InOrderButHeld t r) (x : ℕ) (q : List ℕ) (e :
   front : FrontLane t x q
   front = front-lane t r o x q e
 
+  narrow : NarrowLane m
+  narrow = order-narrow (capacity t) (o .stores .power .most) m (k .order)
+
   -- the slot as the rules then have it
   abbrev stored : State
   stored = put x (popped left (m .unreleased) (m .burst) (view t r .slotOf x)) (view t r)
 
   view-stored : view (putLane t m) r ≡ stored
   view-stored =
-      view-put-holding t r (o .stores .shaped) x (front .is-issued) m (ap (λ (z : Flagged). z .0) (k .same-flags)) left refl
+      view-put-holding t r (o .stores .shaped) x (front .is-issued) m (ap (λ (z : Flagged). z .0) (k .same-flags)) narrow left refl
       (ap (λ (z : Flagged). z .1) (k .same-flags)) (ap (λ (z : Flagged). z .3) (k .same-flags))
       (ap (λ (z : Flagged). z .2) (k .same-flags)) (ap (λ (z : Flagged). z .5) (k .same-flags))
       ∙ ap₂ (λ (u n : ℕ). put x (withRing left u n (view t r .slotOf x)) (view t r)) (less-none (k .closed)) (less-none (k .closed))
@@ -70,7 +74,7 @@ module _ (t r : List ℕ) (o : InOrderButHeld t r) (x : ℕ) (q : List ℕ) (e :
   view-turned false = ap (λ (w : List ℕ). withQueue w (view (putLane t m) r)) queue-stored
 
   step-turned : (b : Bool) → Step t (cond b (rotateLeft (putLane t m)) (putLane t m)) x m (queueAfter b) (head t)
-  step-turned b = go b (step-put-lane (step-start t r (o .stores) x) m (slot-by t x m (k .same-flags)) (front .is-issued))
+  step-turned b = go b (step-put-lane (step-start t r (o .stores) x) m (slot-by t x m (k .same-flags)) narrow (front .is-issued))
     where
       go : (b : Bool) → Step t (putLane t m) x m (queueOf t) (head t)
           → Step t (cond b (rotateLeft (putLane t m)) (putLane t m)) x m (queueAfter b) (head t)

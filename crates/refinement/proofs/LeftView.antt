@@ -26,7 +26,7 @@ use Rattle.store.proofs.ViewLaws.{view-popped-front, view-budget}
 use Rattle.store.proofs.StepLaws.{Step, step-start, step-put-lane, step-popped-front}
 use Rattle.store.proofs.StoreLaws.{room-in-free, windows-front}
 use Rattle.store.proofs.BetweenTurns.{FrontLane, front-lane, full-budget-in-order}
-use Rattle.refinement.proofs.FoundEmptyLaws.{found-slot, found-view, settled-view, settled-in-order}
+use Rattle.refinement.proofs.FoundEmptyLaws.{found-slot, found-narrow, found-view, settled-view, settled-in-order}
 pub use Rattle.refinement.proofs.EmptyLaneLaws.{slot-path, Empties, empties-by-poll, empties-by-refill}
 
 -- ---- it leaves the queue
@@ -48,7 +48,7 @@ module _ (t r : List ℕ) (o : InOrderButHeld t r) (x : ℕ) (q : List ℕ) (e :
   step-settled : Step t settled x (found .lane) q (head t)
   step-settled =
       step-popped-front
-      (step-put-lane (step-start t r (o .stores) x) (found .lane) (found-slot t r o x (front .is-issued) (front .registered) found k) (front .is-issued)) x q e
+      (step-put-lane (step-start t r (o .stores) x) (found .lane) (found-slot t r o x (front .is-issued) (front .registered) found k) (found-narrow t r o x (front .is-issued) (front .registered) found k) (front .is-issued)) x q e
 
   room : freeCount settled < slots settled
   room = simp (queue-frames, frames) (room-in-free t r (o .stores) x (front .is-issued) (front .registered) (o .ordered))

@@ -20,8 +20,8 @@ use Rattle.demands.proofs.OrderKept.{retire-empty-paused-ordered}
 use Rattle.lane.specs.declared.lane.Lane.{Lane}
 use Rattle.lane.specs.Lane.{heldItems, closeFast, prefetch, reload, reloadIsEmpty, refill, readyOrIdle}
 use Rattle.yring.specs.Ring.{newRing}
-use Rattle.lane.specs.Table.{head, laneAt}
-use Rattle.lane.proofs.OrderLaws.{cond-holds, refill-fills}
+use Rattle.lane.specs.Table.{head, NarrowLane, laneAt}
+use Rattle.lane.proofs.OrderLaws.{cond-holds, order-narrow, closed-reload-keeps, refill-fills}
 use Rattle.lane.proofs.HeldLaws.{reload-holds, pop-targeted-takes-first}
 use Rattle.queues.specs.Header.{issued, slots, budget, capacity, freeCount, laneCount, livingCount}
 use Rattle.queues.specs.Queue.{queueOf}
@@ -63,15 +63,18 @@ module _ (t r : List ℕ) (o : Stores t r) (x : ℕ) (h : x < issued t) where
   same-key : new .key ≡ old .key
   same-key = ap (λ (z : Flagged). z .0) same-flags
 
-  view-retired-looked : freeCount t < slots t → view (retireLane t new) r ≡ turns.retireLane x (view t r)
-  view-retired-looked room =
+  narrow : old .registered ≡ 1 → NarrowLane new
+  narrow g = order-narrow (capacity t) (o .power .most) new (closed-reload-keeps (capacity t) (o .power .most) old (o .lanes x h g))
+
+  view-retired-looked : old .registered ≡ 1 → freeCount t < slots t → view (retireLane t new) r ≡ turns.retireLane x (view t r)
+  view-retired-looked g room =
       let ends = looked-ends old in
       let counts = looked-seen old in
-      view-retire-as t r (o .shaped) x h new same-key (ends .0) (ends .1) (ap (λ (z : Flagged). z .3) same-flags) (ap (λ (z : Flagged). z .5) same-flags) (counts .0) (counts .1) room
+      view-retire-as t r (o .shaped) x h new same-key (narrow g) (ends .0) (ends .1) (ap (λ (z : Flagged). z .3) same-flags) (ap (λ (z : Flagged). z .5) same-flags) (counts .0) (counts .1) room
 
   module _ (g : old .registered ≡ 1) (room : freeCount t < slots t) where
     step-retired : Step t (retireLane t new) x (retired new) (queueOf t) (withWord laneCount (laneCount t - 1) (head t))
-    step-retired = step-retire-lane (step-start t r o x) new (slot-by t x new same-flags) h room
+    step-retired = step-retire-lane (step-start t r o x) new (slot-by t x new same-flags) (narrow g) h room
 
     owes-retired : Owes t x (retired new) (queueOf t) (withWord laneCount (laneCount t - 1) (head t))
     owes-retired =
@@ -152,7 +155,7 @@ module _ (t r : List ℕ) (o : InOrderButHeld t r) (x : ℕ) (h : x < issued t) 
 
   view-slot : view (retireEmptyPaused t x) r ≡ turns.retireLaneIf (retires (view t r) x) x (view t r)
   unfolding turns.retireLaneIf
-  view-slot = slot-cases (λ u b. view u r ≡ turns.retireLaneIf b x (view t r)) (λ g. view-retired-looked t r (o .stores) x h (room-if g)) refl
+  view-slot = slot-cases (λ u b. view u r ≡ turns.retireLaneIf b x (view t r)) (λ g. view-retired-looked t r (o .stores) x h g (room-if g)) refl
 
   issued-slot : issued (retireEmptyPaused t x) ≡ issued t
   issued-slot = slot-cases (λ u b. issued u ≡ issued t) (λ g. issued-kept (step-retired t r (o .stores) x h g (room-if g))) refl

@@ -18,8 +18,8 @@ use Rattle.lane.specs.declared.lane.Refill.the-variants as Refill
 use Rattle.yring.specs.Ring.{newRing}
 use Rattle.lane.specs.Lane.{heldItems, refill, readyOrIdle, targeted, popTargeted}
 use Rattle.lane.specs.Order.{InOrder, Filled}
-use Rattle.lane.specs.Table.{head, laneAt, putLane}
-use Rattle.lane.proofs.OrderLaws.{pop-targeted-keeps}
+use Rattle.lane.specs.Table.{head, NarrowLane, laneAt, putLane}
+use Rattle.lane.proofs.OrderLaws.{order-narrow, pop-targeted-keeps}
 use Rattle.lane.proofs.HeldLaws.{reload-holds, pop-targeted-takes-first}
 use Rattle.lane.proofs.TableLaws.{frames}
 use Rattle.queues.specs.Header.{Shaped, issued, slots, queueCount, budget, capacity, laneCount, livingCount}
@@ -84,6 +84,12 @@ module _ (t r : List ℕ) (o : StoreInOrder t r) (x : ℕ) (h : x < issued t) (g
   own-slot : new .key .slot ≡ x
   own-slot = slot-by t x new same-flags
 
+  keeps : InOrder (capacity t) new
+  keeps = pop-targeted-keeps (newRing x (capacity t)) (o .stores .power .most) r (looked old) filled
+
+  narrow : NarrowLane new
+  narrow = order-narrow (capacity t) (o .stores .power .most) new keeps
+
   -- the item is the oldest that the lane holds
   pub target-takes : view t r .slotOf x .ring ≡ popTargeted (newRing x (capacity t)) r (looked (laneAt t x)) .item ∷ targetRest t r x
   unfolding slotAt popTargeted targeted
@@ -125,10 +131,7 @@ module _ (t r : List ℕ) (o : StoreInOrder t r) (x : ℕ) (h : x < issued t) (g
   -- ---- it is stored, and stays where it was
 
   view-stored : view (putLane t new) r ≡ put x taken (view t r)
-  view-stored = view-put-lane t (o .stores .shaped) new x own-slot h r ∙ ap (λ (m : Slot). put x m (view t r)) slot-taken
-
-  keeps : InOrder (capacity t) new
-  keeps = pop-targeted-keeps (newRing x (capacity t)) (o .stores .power .most) r (looked old) filled
+  view-stored = view-put-lane t (o .stores .shaped) new x own-slot narrow h r ∙ ap (λ (m : Slot). put x m (view t r)) slot-taken
 
   flags-stored : Flags new
   flags-stored = flags-by old new same-flags (o .stores .flags x h)
@@ -136,7 +139,7 @@ module _ (t r : List ℕ) (o : StoreInOrder t r) (x : ℕ) (h : x < issued t) (g
   stores-stored : Stores (putLane t new) r
   stores-stored =
       stores-after t r (putLane t new) r (o .stores) x h new (queueOf t) (head t)
-      (step-put-lane (step-start t r (o .stores) x) new own-slot h)
+      (step-put-lane (step-start t r (o .stores) x) new own-slot narrow h)
       (record {
         flags = flags-stored;
         order = λ e. keeps;
@@ -184,7 +187,7 @@ module _ (t r : List ℕ) (o : StoreInOrder t r) (x : ℕ) (h : x < issued t) (g
     view-turned : view marked r ≡ put x (signalled taken) (view t r)
     view-turned =
         view-put-marked-if-idle (putLane t turned) r shaped-turned new x own-slot (simp frames h) _ (view t r)
-        (view-put-lane t (o .stores .shaped) turned x own-slot h r ∙ ap (λ (m : Slot). put x m (view t r)) slot-turned)
+        (view-put-lane t (o .stores .shaped) turned x own-slot narrow h r ∙ ap (λ (m : Slot). put x m (view t r)) slot-turned)
         ∙ ap (λ (b : Bool). put x (markedIf b (withSignal true (slot .marked) taken)) (view t r)) was-idle
 
     queued-is : queueTarget t new ≡ pushBack marked x
@@ -204,7 +207,7 @@ module _ (t r : List ℕ) (o : StoreInOrder t r) (x : ℕ) (h : x < issued t) (g
     step-queued =
         let start = step-start t r (o .stores) x in
         subst (λ (u : List ℕ). Step t u x turned (queueOf t ++ (x ∷ [])) (head t)) (sym queued-is)
-        (step-pushed-back (step-marked-if-idle (step-put-lane start turned own-slot h) new (rw own-slot h)) x (rw (length-queue t) room))
+        (step-pushed-back (step-marked-if-idle (step-put-lane start turned own-slot narrow h) new (rw own-slot h)) x (rw (length-queue t) room))
 
     stores-queued : Stores (queueTarget t new) r
     stores-queued =

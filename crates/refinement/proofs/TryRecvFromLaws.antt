@@ -42,7 +42,7 @@ use Rattle.store.proofs.StoreLaws.{room-in-free, but-held-after, windows-withou
 use Rattle.store.proofs.LaneFields.{Flagged, flagged-reload}
 use Rattle.store.proofs.LaneView.{looked}
 use Rattle.refinement.proofs.EmptyLaneLaws.{Empties, empties-by-refill}
-use Rattle.refinement.proofs.FoundEmptyLaws.{found-slot, found-view, found-dropped, settled-view, settled-in-order}
+use Rattle.refinement.proofs.FoundEmptyLaws.{found-slot, found-narrow, found-view, found-dropped, settled-view, settled-in-order}
 use Rattle.refinement.proofs.TargetTookLaws.{targetLane, target-takes, target-view, target-stores}
 
 -- ---- a lane found empty: it settles and leaves the queue
@@ -59,7 +59,7 @@ module _ (t r : List ℕ) (o : StoreInOrder t r) (x : ℕ) (h : x < issued t) (g
   rest = lists.without x (queueOf t)
 
   step-left : Step t left x l rest (head t)
-  step-left = step-removed (step-put-lane (step-start t r (o .stores) x) l (found-slot t r (but-held o) x h g found k) h) x
+  step-left = step-removed (step-put-lane (step-start t r (o .stores) x) l (found-slot t r (but-held o) x h g found k) (found-narrow t r (but-held o) x h g found k) h) x
 
   room : freeCount left < slots left
   room = simp (queue-frames, frames) (room-in-free t r (o .stores) x h g (o .ordered))

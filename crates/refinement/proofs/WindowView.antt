@@ -19,7 +19,8 @@ use Rattle.lane.specs.declared.lane.Lane.{Lane}
 use Rattle.yring.specs.Ring.{newRing}
 use Rattle.lane.specs.Lane.{heldItems}
 use Rattle.lane.specs.Order.{InOrder}
-use Rattle.lane.specs.Table.{head, laneAt, putLane}
+use Rattle.lane.specs.Table.{head, NarrowLane, laneAt, putLane}
+use Rattle.lane.proofs.OrderLaws.{order-narrow}
 use Rattle.queues.specs.Header.{budget, capacity, fastSlot, laneCount, livingCount, setFastSlot, setBudget}
 use Rattle.queues.specs.Queue.{queueOf}
 use Rattle.queues.proofs.QueueLaws.{shaped-putLane}
@@ -67,12 +68,15 @@ module _ (t r : List ℕ) (o : InOrderButHeld t r) (x : ℕ) (q : List ℕ) (e :
   sees : slot ≡ slotAt t r x
   sees = slot-in t r x (front .is-issued)
 
+  narrow : NarrowLane m
+  narrow = order-narrow (capacity t) (o .stores .power .most) m (k .order)
+
   flags-now : flagged m ≡ flagged (laneAt u x)
   flags-now = k .same-flags ∙ ap flagged (sym (s .own))
 
   view-stored : view (putLane u m) r ≡ put x (withRing left (unreleasedSeen m) (burstSeen m) slot) (view t r)
   view-stored =
-      view-put-holding u r (s .shaped) x (rw (issued-kept s) (front .is-issued)) m (ap (λ (z : Flagged). z .0) flags-now) left
+      view-put-holding u r (s .shaped) x (rw (issued-kept s) (front .is-issued)) m (ap (λ (z : Flagged). z .0) flags-now) narrow left
       (ap (λ (C : ℕ). heldItems (newRing x C) r m) (capacity-kept s))
       (ap (λ (z : Flagged). z .1) flags-now) (ap (λ (z : Flagged). z .3) flags-now) (ap (λ (z : Flagged). z .2) flags-now) (ap (λ (z : Flagged). z .5) flags-now)
       ∙ ap (λ (v : State). put x (withRing left (unreleasedSeen m) (burstSeen m) (v .slotOf x)) v) same
@@ -114,7 +118,7 @@ module _ (t r : List ℕ) (o : InOrderButHeld t r) (x : ℕ) (q : List ℕ) (e :
 
   window-stores : Stores taken r
   window-stores =
-      stores-after t r taken r (o .stores) x (front .is-issued) m _ _ (step-budget (step-put-lane s m (slot-by t x m (k .same-flags)) (front .is-issued)) (budget u - 1))
+      stores-after t r taken r (o .stores) x (front .is-issued) m _ _ (step-budget (step-put-lane s m (slot-by t x m (k .same-flags)) narrow (front .is-issued)) (budget u - 1))
       owes-taken (o .stores .rings-room)
 
   pub window-first : slot .ring ≡ item ∷ left

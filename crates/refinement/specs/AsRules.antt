@@ -64,7 +64,7 @@ pub record AsExample (M : StoreCalls) (e : Example) (t r : List ℕ) : Type 0 wh
 
 -- "The examples marked P are proved in one go over a table": of all examples of the table, those marked P among them
 unfoldable pub ExamplesOf : StoreCalls → Type 0
-ExamplesOf M = Each (λ e. (t r : List ℕ) → 24 * e .slots + 512 ≤ length t → e .slots * nextPowerOfTwo (e .capacity) ≤ length r → AsExample M e t r) table
+ExamplesOf M = Each (λ e. (t r : List ℕ) → 16 * e .slots + 512 ≤ length t → e .slots * nextPowerOfTwo (e .capacity) ≤ length r → AsExample M e t r) table
 
 -- The release batch that calls show at a capacity: the capacity has an entry in the table of release batches, and the run `creditAfter` answers by its C and
 -- its batch, on any two stores that are long enough for one lane, however many items are sent first and however many of them taken.
@@ -72,7 +72,7 @@ pub record CreditAt (M : StoreCalls) (c : ℕ) : Type 0 where
   pub C : ℕ
   pub batch : ℕ
   pub entry : entryFor c entries ≡ some (C, batch)
-  pub shown : (sent taken : ℕ) → 1 ≤ sent → sent ≤ C → taken ≤ sent → taken < batch → (t r : List ℕ) → 24 + 512 ≤ length t → C ≤ length r
+  pub shown : (sent taken : ℕ) → 1 ≤ sent → sent ≤ C → taken ≤ sent → taken < batch → (t r : List ℕ) → 16 + 512 ≤ length t → C ≤ length r
       → AsExample M (creditAfter c C batch sent taken (64 - batch)) t r
 
 -- document 02, N3: "Results for every capacity are those of the table.": as sends and plain receives of one lane show them

@@ -1,6 +1,6 @@
 -- What is claimed of lists of calls on the two stores, made from an opening on, each on the words as the last one left them.
 -- The claims are crate `model`'s (its specs/Demand1.antt, Demand2.antt, Demand3.antt, Stops.antt, EqualTurns.antt, FreePlaces.antt, LaneIds.antt,
--- Renumbered.antt, Closed.antt, Held.antt, Wake.antt, Keys.antt), here of the words that the calls' contracts name.
+-- Renumbered.antt, RowWords.antt, Closed.antt, Held.antt, Wake.antt, Keys.antt), here of the words that the calls' contracts name.
 -- Assumes nothing.
 use mathlib.Core.Bool.{cond}
 use mathlib.Core.List.{List, []}
@@ -16,6 +16,7 @@ use Rattle.model.specs.EqualTurns.{EqualTurnsIn}
 use Rattle.model.specs.FreePlaces.{FreePlacesIn, NotFullBeforeIn}
 use Rattle.model.specs.LaneIds.{OpeningsToldApartIn, SavedIdsRefusedIn}
 use Rattle.model.specs.Renumbered.{NumberOnlyTellsIdsIn}
+use Rattle.model.specs.RowWords.{AnswersAsBeforeIn}
 use Rattle.model.specs.Closed.{NoneAfterCloseIn}
 use Rattle.model.specs.Held.{HeldAsCountedIn}
 use Rattle.model.specs.Wake.{NoLostWakeIn, NothingWaitsIn}
@@ -97,6 +98,10 @@ SavedIdsRefused = SavedIdsRefusedIn theStores runs
 -- and the number does nothing else: with another one, in the opening and in the calls' ids, a run is the same but for the number in the items' ids, outputs too
 abbrev pub NumberOnlyTellsIds : Type 0
 NumberOnlyTellsIds = NumberOnlyTellsIdsIn theStores runs
+
+-- document 02, N9: "Answers of every run, the stores otherwise untouched, are those of before where the opening was accepted under both lengths."
+abbrev pub AnswersAsBefore : Type 0
+AnswersAsBefore = AnswersAsBeforeIn theStores runs
 
 -- "closed by an accepted `close_lane`, after which none of its items is handed out"
 abbrev pub NoneAfterClose : Type 0

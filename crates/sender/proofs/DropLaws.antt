@@ -15,7 +15,7 @@ use Rattle.model.specs.Outcome.{says}
 use Rattle.model.specs.Sender as rules-sender
 use Rattle.lane.specs.declared.lane.Lane.{Lane}
 use Rattle.lane.specs.Table.{head, laneAt, putLane}
-use Rattle.lane.proofs.TableLaws.{frames, slot-of-lane}
+use Rattle.lane.proofs.TableLaws.{frames, slot-of-lane, loaded-narrow}
 use Rattle.queues.specs.Header.{issued, budget, livingCount}
 use Rattle.queues.specs.Queue.{queueOf}
 use Rattle.queues.proofs.QueueLaws.{shaped-putLane}
@@ -58,14 +58,14 @@ module _ (t r : List ℕ) (k : LaneKey) (o : Stores t r) (p : Lives t k) where
   u = markIfIdle (putLane t left) l
 
   run : Step t u x left (queueOf t) (head t)
-  run = step-marked-if-idle (step-put-lane (step-start t r o x) left at is-issued) l (rw at is-issued)
+  run = step-marked-if-idle (step-put-lane (step-start t r o x) left at (loaded-narrow t x) is-issued) l (rw at is-issued)
 
   dropped-view : view (dropLane t l) r ≡ put x (rules.signalled (rules.senderDropped (s .slotOf x))) s
   unfolding dropLane slotAt
   dropped-view =
       view-living-count u r (run .shaped) (livingCount t - 1)
       ∙ view-put-marked-if-idle (putLane t left) r (shaped-putLane t (o .shaped) left) l x at (simp frames is-issued) _ s
-      (view-put-flags t r (o .shaped) x is-issued left refl refl refl refl refl)
+      (view-put-flags t r (o .shaped) x is-issued left refl (loaded-narrow t x) refl refl refl refl)
       ∙ rw (slot-in t r x is-issued, idle-flag (l .pending) (o .flags x is-issued .pending-flag))
 
   dropped-stores : Stores (dropLane t l) r

@@ -22,8 +22,8 @@ use Rattle.lane.specs.declared.lane.Lane.{Lane}
 use Rattle.yring.specs.Ring.{newRing}
 use Rattle.lane.specs.Lane.{heldItems}
 use Rattle.lane.specs.Order.{InOrder}
-use Rattle.lane.specs.Table.{HasRow, headerWords, head, setCell, laneAt, putLane}
-use Rattle.lane.proofs.TableLaws.{frames, has-row, lane-own, other-lane-kept}
+use Rattle.lane.specs.Table.{HasRow, headerWords, head, setCell, NarrowLane, laneAt, putLane}
+use Rattle.lane.proofs.TableLaws.{frames, has-row, lane-own-narrow, other-lane-kept}
 use Rattle.queues.specs.Header.{Shaped, issued, slots, budget, capacity, fastSlot, laneCount, livingCount, setIssued, setLaneCount, setLivingCount}
 use Rattle.queues.specs.Queue.{queueOf}
 use Rattle.queues.specs.Registry.{freeOf}
@@ -267,10 +267,10 @@ module _ (t : List ℕ) (s : Shaped t) (k : Linked t) (below : issued t < slots 
       go y (other d p i) (no c) = rw (p, le-ltb y n (omega arith), le-ltb y (n + 1) (omega arith))
 
   -- a lane stored in the next slot
-  pub view-issued : (r : List ℕ) (l : Lane) → l .key .slot ≡ n
+  pub view-issued : (r : List ℕ) (l : Lane) → l .key .slot ≡ n → NarrowLane l
       → view (putLane u l) r ≡ withIssued (suc n) (put n (slotOf l 0 (heldItems (newRing n (capacity t)) r l)) (view t r))
-  view-issued r l e =
-      view-put-lane u shaped-issued-next l n e (rw issued-next (omega arith)) r
+  view-issued r l e a =
+      view-put-lane u shaped-issued-next l n e a (rw issued-next (omega arith)) r
       ∙ ap₂ (λ (b c : ℕ). put n (slotOf l b (heldItems (newRing n c) r l)) (view u r)) page-bit-next (head-issued-next 8 refl refl)
       ∙ ap (put n (slotOf l 0 (heldItems (newRing n (capacity t)) r l))) (view-issued-next r)
       ∙ ap (withIssued (suc n)) (put-put n (slotOf l 0 (heldItems (newRing n (capacity t)) r l)) (slotAt u r n) (view t r))
@@ -288,7 +288,7 @@ record IssuedOne (t u : List ℕ) : Type 0 where
   queue : queueOf u ≡ queueOf t
 
 -- a lane newly registered in it, with the two counts one more
-module _ (t r u : List ℕ) (o : Stores t r) (d : IssuedOne t u) (l : Lane) (e : l .key .slot ≡ issued t) where
+module _ (t r u : List ℕ) (o : Stores t r) (d : IssuedOne t u) (l : Lane) (e : l .key .slot ≡ issued t) (fits : NarrowLane l) where
   abbrev v : List ℕ
   v = setLivingCount (setLaneCount (putLane u l) (laneCount t + 1)) (livingCount t + 1)
 
@@ -302,7 +302,7 @@ module _ (t r u : List ℕ) (o : Stores t r) (d : IssuedOne t u) (l : Lane) (e :
   issued-now = simp frames (d .issued-is)
 
   own-now : laneAt v (issued t) ≡ l
-  own-now = simp frames (lane-own u l (issued t) e (has-row u (issued t) (row-in u (d .shaped) (issued t) (omega (arith, d .issued-is)))))
+  own-now = simp frames (lane-own-narrow u l (issued t) e (has-row u (issued t) (row-in u (d .shaped) (issued t) (omega (arith, d .issued-is)))) fits)
 
   before-now : (y : ℕ) → y < issued t → laneAt v y ≡ laneAt t y
   before-now y h = simp frames (other-lane-kept u l y (λ p. omega (arith, e)) ∙ d .lanes y)
@@ -378,6 +378,6 @@ module _ (t r : List ℕ) (o : Stores t r) (below : issued t < slots t) where
       }
 
   -- a lane newly registered in the next slot, with the two counts one more, leaves a store in order
-  pub stores-registered-next : (l : Lane) → l .key .slot ≡ issued t → Flags l → InOrder (capacity t) l → l .registered ≡ 1 → l .living ≡ 1 → l .queued ≡ 0 → l .window ≡ 0
+  pub stores-registered-next : (l : Lane) → l .key .slot ≡ issued t → NarrowLane l → Flags l → InOrder (capacity t) l → l .registered ≡ 1 → l .living ≡ 1 → l .queued ≡ 0 → l .window ≡ 0
       → Stores (setLivingCount (setLaneCount (putLane (issuedNext t) l) (laneCount t + 1)) (livingCount t + 1)) r
-  stores-registered-next l e = stores-now t r (issuedNext t) o issued-one l e
+  stores-registered-next l e a = stores-now t r (issuedNext t) o issued-one l e a

@@ -26,7 +26,7 @@ use Rattle.yring.specs.declared.ring.Ring.{Ring}
 use Rattle.yring.specs.Ring.{newRing, items}
 use Rattle.lane.specs.Lane.{newLane, heldItems}
 use Rattle.lane.specs.Table.{head, laneAt, putLane}
-use Rattle.lane.proofs.TableLaws.{frames}
+use Rattle.lane.proofs.TableLaws.{frames, none-narrow}
 use Rattle.yring.proofs.CursorLaws.{distance-self}
 use Rattle.lane.proofs.OrderLaws.{new-lane-in-order}
 use Rattle.queues.specs.Header.{Shaped, issued, slots, budget, capacity, firstCursor, firstGeneration, freeCount, laneCount, livingCount, setLaneCount, setLivingCount}
@@ -140,14 +140,14 @@ module _ (t r : List ℕ) (o : StoreInOrder t r) (d : ℕ) where
     next-view =
         rw taken-next
         (view-counted (putLane (issuedNext t) (newLane next c)) (laneCount t + 1) (livingCount t + 1) (shaped-putLane (issuedNext t) shaped-next (newLane next c))
-        ∙ view-issued t (o .stores .shaped) (o .stores .linked) below r (newLane next c) refl
+        ∙ view-issued t (o .stores .shaped) (o .stores .linked) below r (newLane next c) refl none-narrow
         ∙ rw (new-holds (newRing (issued t) (capacity t)) r next c (o .stores .first-cursor), slot-out t r (issued t) (le-ltb (issued t) (issued t) (omega arith))))
 
     next-stores : Stores (registerLane t d next) r
     unfolding registerLane
     next-stores =
         rw taken-next
-        (stores-registered-next t r (o .stores) below (newLane next c) refl (new-flags next c)
+        (stores-registered-next t r (o .stores) below (newLane next c) refl none-narrow (new-flags next c)
         (new-lane-in-order (capacity t) (o .stores .power) next c (o .stores .first-cursor)) refl refl refl refl)
 
   module _ (h : d < freeCount t) where
@@ -181,7 +181,7 @@ module _ (t r : List ℕ) (o : StoreInOrder t r) (d : ℕ) where
         let same : pageBit u x ≡ pageBit t x = simp registry-frames in
         rw taken-again
         (view-counted (putLane u m) (laneCount t + 1) (livingCount t + 1) (shaped-putLane u (shaped-reissued t (o .stores .shaped) d) m)
-        ∙ view-put-lane u (shaped-reissued t (o .stores .shaped) d) m x refl (simp registry-frames (free .is-issued)) r
+        ∙ view-put-lane u (shaped-reissued t (o .stores .shaped) d) m x refl none-narrow (simp registry-frames (free .is-issued)) r
         ∙ ap₂ (λ (b : ℕ) (z : State). put x (slotOf m b (heldItems (newRing x (capacity u)) r m)) z) same (view-reissued-without t r o d h)
         ∙ rw (new-holds (newRing x (capacity u)) r again c (o .stores .first-cursor), slot-in t r x (free .is-issued)))
 
@@ -206,7 +206,7 @@ module _ (t r : List ℕ) (o : StoreInOrder t r) (d : ℕ) where
         let dead : laneAt t x .living ≡ 0 = zero-flag _ (f .living-flag) dropped in
         rw taken-again
         (stores-after t r _ r (o .stores) x (free .is-issued) m (queueOf t) (withWord livingCount (livingCount t + 1) (withWord laneCount (laneCount t + 1) (head t)))
-        (step-living-count (step-lane-count (step-put-lane (step-reissued (step-start t r (o .stores) x) d) m refl (free .is-issued)) (laneCount t + 1)) (livingCount t + 1))
+        (step-living-count (step-lane-count (step-put-lane (step-reissued (step-start t r (o .stores) x) d) m refl none-narrow (free .is-issued)) (laneCount t + 1)) (livingCount t + 1))
         (record {
           flags = new-flags again c;
           order = λ e. new-lane-in-order (capacity t) (o .stores .power) again c (o .stores .first-cursor);

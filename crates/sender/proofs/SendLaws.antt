@@ -28,8 +28,8 @@ use Rattle.yring.specs.Cursor.{after, distance}
 use Rattle.yring.specs.Ring.{Within, newRing, index, freeAfter, pushItem}
 use Rattle.lane.specs.Lane.{withCursors, heldItems, sent, pushAndFlushItem}
 use Rattle.lane.specs.Order.{InOrder, sentLane}
-use Rattle.lane.specs.Table.{head, laneAt, putLane}
-use Rattle.lane.proofs.TableLaws.{frames, slot-of-lane}
+use Rattle.lane.specs.Table.{head, NarrowLane, laneAt, putLane}
+use Rattle.lane.proofs.TableLaws.{frames, slot-of-lane, loaded-narrow}
 use Rattle.yring.proofs.RingLaws.{length-items, free-after-is}
 use Rattle.lane.proofs.OrderLaws.{push-and-flush-keeps}
 use Rattle.queues.specs.Header.{issued, slots, budget, capacity, heldMore}
@@ -122,12 +122,12 @@ module _ (t r : List ℕ) (k : LaneKey) (v : ℕ) (o : Stores t r) (p : Sends t 
     q = set r (index (newRing x C) (l .tail)) v
 
     -- the lane with its item, whatever its signal
-    view-taken : (m : Lane) → m .key .slot ≡ x → m .head ≡ l .head → m .tail ≡ after (l .tail) 1
+    view-taken : (m : Lane) → m .key .slot ≡ x → NarrowLane m → m .head ≡ l .head → m .tail ≡ after (l .tail) 1
         → view (putLane t m) q ≡ put x (slotOf m (pageBit t x) (heldItems (newRing x C) r l ++ (v ∷ []))) s
-    view-taken m e a b =
+    view-taken m e fits a b =
         let w : pushAndFlushItem (newRing x C) r v l ≡ (Sent.Taken (grown l) free, q) = push-taken (newRing x C) r v l n in
         ap (λ (z : Sent × List ℕ). view (putLane t m) (z .1)) (sym w)
-        ∙ view-sent t r (o .shaped) x is-issued ring-in v order n m e
+        ∙ view-sent t r (o .shaped) x is-issued ring-in v order n m e fits
         (a ∙ ap (λ (z : Sent × List ℕ). sentLane (z .0) .head) (sym w)) (b ∙ ap (λ (z : Sent × List ℕ). sentLane (z .0) .tail) (sym w))
 
     order-taken : InOrder C (grown l)
@@ -174,7 +174,7 @@ module _ (t r : List ℕ) (k : LaneKey) (v : ℕ) (o : Stores t r) (p : Sends t 
         let left : seen (sendSignaled t (Sent.Taken (grown l) free, q)) ≡ (Taken (not (s .slotOf x .pending)) free, put x z s) =
         ap (λ (u : State). (Taken (eqb (l .pending) 0) free, u))
         (view-held-count (markIfIdle (putLane t m) (grown l)) q (shaped-marked-if-idle (putLane t m) (grown l) (shaped-putLane t (o .shaped) m)) _
-        ∙ view-put-marked-if-idle (putLane t m) q (shaped-putLane t (o .shaped) m) (grown l) x at (simp frames is-issued) _ s (view-taken m at refl refl))
+        ∙ view-put-marked-if-idle (putLane t m) q (shaped-putLane t (o .shaped) m) (grown l) x at (simp frames is-issued) _ s (view-taken m at (loaded-narrow t x) refl refl))
         ∙ rw (slot-in t r x is-issued, idle)
         in left ∙ ap (λ (f : ℕ). (Taken (not (s .slotOf x .pending)) f, put x z s)) (free-alike z refl refl)
 
@@ -184,7 +184,7 @@ module _ (t r : List ℕ) (k : LaneKey) (v : ℕ) (o : Stores t r) (p : Sends t 
         let z : Slot = rules.pushed v (s .slotOf x) in
         let left : seen (sendUnsignaled t (Sent.Taken (grown l) free, q)) ≡ (Taken false free, put x z s) =
         ap (λ (u : State). (Taken false free, u))
-        (view-held-count (putLane t (grown l)) q (shaped-putLane t (o .shaped) (grown l)) _ ∙ view-taken (grown l) (slot-of-lane t x) refl refl) ∙ rw (slot-in t r x is-issued)
+        (view-held-count (putLane t (grown l)) q (shaped-putLane t (o .shaped) (grown l)) _ ∙ view-taken (grown l) (slot-of-lane t x) (loaded-narrow t x) refl refl) ∙ rw (slot-in t r x is-issued)
         in left ∙ ap (λ (f : ℕ). (Taken false f, put x z s)) (free-alike z refl refl)
 
     start : Step t t x l (queueOf t) (head t)
@@ -196,13 +196,13 @@ module _ (t r : List ℕ) (k : LaneKey) (v : ℕ) (o : Stores t r) (p : Sends t 
         let at : l .key .slot ≡ x = slot-of-lane t x in
         stores-held-count _ q _
         (stores-after t r _ q o x is-issued m (queueOf t) (head t)
-        (step-marked-if-idle (step-put-lane start m at is-issued) (grown l) (rw at is-issued)) (owes-taken 1 (omega arith)) long-enough)
+        (step-marked-if-idle (step-put-lane start m at (loaded-narrow t x) is-issued) (grown l) (rw at is-issued)) (owes-taken 1 (omega arith)) long-enough)
 
     unsignaled-stores : Stores (heldMore (putLane t (grown l))) q
     unsignaled-stores =
         stores-held-count _ q _
         (stores-after t r _ q o x is-issued (grown l) (queueOf t) (head t)
-        (step-put-lane start (grown l) (slot-of-lane t x) is-issued) (owes-taken (l .pending) (o .flags x is-issued .pending-flag)) long-enough)
+        (step-put-lane start (grown l) (slot-of-lane t x) (loaded-narrow t x) is-issued) (owes-taken (l .pending) (o .flags x is-issued .pending-flag)) long-enough)
 
   -- ---- full, or taken
 

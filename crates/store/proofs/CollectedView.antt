@@ -35,7 +35,7 @@ use Rattle.ready.specs.Bits.{bit, bitsFrom}
 use Rattle.ready.specs.Ready.{pageColumn, groupColumn, pageWord, groupWord, pageBit, groupBit, nonZero, Linked, wantedLane, wanted, queuedLane, enqueue, offer, collectPage, collectGroup, groupCount, groupAt, collectedFrom, collectReady}
 use Rattle.ready.proofs.BitLaws.{bits-next, bits-zero, bit-zero, tz-lt, tz-set}
 use Rattle.queues.proofs.QueueLaws.{queue-frames, header-in}
-use Rattle.ready.proofs.OfferLaws.{Wants, wants, offered-case, shaped-offered, names-offered, other-enqueued}
+use Rattle.ready.proofs.OfferLaws.{Wants, wants, offered-case, shaped-offered, names-offered, lane-enqueued, other-enqueued}
 use Rattle.ready.proofs.CollectLaws.{kept-setCell, kept-page, kept-group, rest-page, group-taken, other-group-left, other-pages-left, pages-taken, linked-group, kept-cursor, linked-cursor}
 use Rattle.ready.proofs.CollectedQueue.{slotsOfPage, slotsOfPages}
 use Rattle.ready.proofs.CollectedMarks.{SameMarks, group-marks, queue-collected}
@@ -296,16 +296,12 @@ module _ (t r : List ℕ) (c : Collects t) where
 
 -- ---- a queued word stays a flag
 
-own-enqueued : (t : List ℕ) (x : ℕ) → leb (cellAt rowWords x) (length t) ≡ true → laneAt (enqueue t x) x ≡ queuedLane (laneAt t x)
-unfolding enqueue
-own-enqueued t x r = simp (queue-frames, frames, r)
-
 module _ (y : ℕ) where
   queued-offered : (t : List ℕ) (x : ℕ) → Shaped t → laneAt t y .queued ≤ 1 → laneAt (offer t x) y .queued ≤ 1
   queued-offered t x s h = offered-case (λ u. laneAt u y .queued ≤ 1) t x (λ e. now (wants t x e) (same? y x)) (λ e. h)
     where
       now : Wants t x → Same y x → laneAt (enqueue t x) y .queued ≤ 1
-      now w (equal e p i) = rw (e, own-enqueued t x (has-row t x (row-in t s x (w .is-issued)))) (omega arith)
+      now w (equal e p i) = rw (e, lane-enqueued t x (has-row t x (row-in t s x (w .is-issued)))) (omega arith)
       now w (other d p i) = rw (other-enqueued t x y p) h
 
   queued-offers : (l t : List ℕ) → Shaped t → QueueNames t → laneAt t y .queued ≤ 1 → laneAt (foldl offer t l) y .queued ≤ 1

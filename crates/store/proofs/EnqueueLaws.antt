@@ -10,8 +10,8 @@ use lib.Dec.{ltb, leb, eqb}
 use lib.ListN.{length}
 use Rattle.model.specs.Lists as rules
 use Rattle.demands.proofs.Counting.{equal, other, same?, same-self, count-append}
-use Rattle.lane.specs.Table.{headerWords, rowWords, head, cellAt, laneAt, putLane}
-use Rattle.lane.proofs.TableLaws.{frames}
+use Rattle.lane.specs.Table.{headerWords, rowWords, head, cellAt, narrowed, laneAt, putLane}
+use Rattle.lane.proofs.TableLaws.{frames, narrow-same, loaded-narrow}
 use Rattle.queues.specs.Header.{Shaped}
 use Rattle.queues.specs.Queue.{queueOf, QueueNames}
 use Rattle.ready.specs.Ready.{queuedLane, enqueue}
@@ -30,7 +30,9 @@ module _ (t : List ℕ) (x : ℕ) where
 
   own-enqueued : leb (cellAt rowWords x) (length t) ≡ true → laneAt (enqueue t x) x ≡ queuedLane (laneAt t x)
   unfolding enqueue
-  own-enqueued r = simp (queue-frames, frames, r)
+  own-enqueued r =
+      let here : laneAt (enqueue t x) x ≡ narrowed (queuedLane (laneAt t x)) = simp (queue-frames, frames, r) in
+      here ∙ narrow-same (queuedLane (laneAt t x)) (loaded-narrow t x)
 
 module _ (t : List ℕ) (x : ℕ) (s : Shaped t) (q : QueueNames t) (w : Wants t x) where
   row-of : leb (cellAt rowWords x) (length t) ≡ true

@@ -12,8 +12,8 @@ use Rattle.model.specs.Changes as changes
 use Rattle.model.specs.Changes.{put, withFree, withFlags, withSignal}
 use Rattle.model.specs.Turn as rules
 use Rattle.lane.specs.declared.lane.Lane.{Lane}
-use Rattle.lane.specs.Table.{laneAt, putLane}
-use Rattle.lane.proofs.TableLaws.{slot-of-lane}
+use Rattle.lane.specs.Table.{NarrowLane, laneAt, putLane}
+use Rattle.lane.proofs.TableLaws.{slot-of-lane, loaded-narrow}
 use Rattle.queues.specs.Header.{Shaped, issued, slots, freeCount, laneCount, setLaneCount}
 use Rattle.queues.specs.Registry.{free}
 use Rattle.queues.proofs.QueueLaws.{shaped-putLane}
@@ -25,7 +25,7 @@ use Rattle.store.proofs.StepLaws.{Step, step-put-lane, step-lane-count,
 use Rattle.store.proofs.RetireFrames.{shaped-lowered, room-lowered}
 
 -- a lane that the rules see as they see the slot's own
-module _ (t r : List ℕ) (s : Shaped t) (x : ℕ) (h : x < issued t) (l : Lane) (key : l .key ≡ laneAt t x .key) (at : l .head ≡ laneAt t x .head) (to : l .tail ≡ laneAt t x .tail)
+module _ (t r : List ℕ) (s : Shaped t) (x : ℕ) (h : x < issued t) (l : Lane) (key : l .key ≡ laneAt t x .key) (fits : NarrowLane l) (at : l .head ≡ laneAt t x .head) (to : l .tail ≡ laneAt t x .tail)
     (living : l .living ≡ laneAt t x .living) (pending : l .pending ≡ laneAt t x .pending) (unreleased : l .unreleased - l .window ≡ laneAt t x .unreleased - laneAt t x .window)
     (burst : l .burst - l .window ≡ laneAt t x .burst - laneAt t x .window) where
   abbrev slot : Slot
@@ -45,7 +45,7 @@ module _ (t r : List ℕ) (s : Shaped t) (x : ℕ) (h : x < issued t) (l : Lane)
   view-lowered : view lowered r ≡ put x (changes.retired slot) (view t r)
   view-lowered =
       view-lane-count (putLane t (retired l)) r (shaped-putLane t s (retired l)) (laneCount t - 1)
-      ∙ view-put-flags t r s x h (retired l) key at to unreleased burst
+      ∙ view-put-flags t r s x h (retired l) key fits at to unreleased burst
       ∙ ap (λ (m : Slot). put x m (view t r)) slot-retired
 
   generation-seen : slot .generation ≡ laneAt t x .key .generation
@@ -68,19 +68,19 @@ module _ (t r : List ℕ) (s : Shaped t) (x : ℕ) (h : x < issued t) (l : Lane)
 
 -- the slot's own lane
 pub view-retire-lane : (t r : List ℕ) → Shaped t → (x : ℕ) → x < issued t → freeCount t < slots t → view (retireLane t (laneAt t x)) r ≡ rules.retireLane x (view t r)
-view-retire-lane t r s x h room = view-retire-as t r s x h (laneAt t x) refl refl refl refl refl refl refl room
+view-retire-lane t r s x h room = view-retire-as t r s x h (laneAt t x) refl (loaded-narrow t x) refl refl refl refl refl refl room
 
 -- in a run of stores
-pub step-retire-lane : {t u : List ℕ} {x : ℕ} {l : Lane} {w : List ℕ} {g : ℕ → ℕ} → Step t u x l w g → (o : Lane) → o .key .slot ≡ x → x < issued t
+pub step-retire-lane : {t u : List ℕ} {x : ℕ} {l : Lane} {w : List ℕ} {g : ℕ → ℕ} → Step t u x l w g → (o : Lane) → o .key .slot ≡ x → NarrowLane o → x < issued t
     → freeCount u < slots u → Step t (retireLane u o) x (retired o) w (withWord laneCount (laneCount u - 1) g)
 unfolding retireLane freeUnlessLast
-step-retire-lane {t = t} {u = u} {x = x} {l = l} {w = w} {g = g} k o e h room = go (eqb (o .key .generation) 18446744073709551615)
+step-retire-lane {t = t} {u = u} {x = x} {l = l} {w = w} {g = g} k o e fits h room = go (eqb (o .key .generation) 18446744073709551615)
   where
     low : List ℕ
     low = setLaneCount (putLane u (retired o)) (laneCount u - 1)
 
     step : Step t low x (retired o) w (withWord laneCount (laneCount u - 1) g)
-    step = step-lane-count (step-put-lane k (retired o) e h) (laneCount u - 1)
+    step = step-lane-count (step-put-lane k (retired o) e fits h) (laneCount u - 1)
 
     go : (c : Bool) → Step t (cond c low (free low (o .key .slot))) x (retired o) w (withWord laneCount (laneCount u - 1) g)
     go true = step

@@ -16,8 +16,8 @@ use Rattle.model.specs.Lists as rules
 use Rattle.model.specs.Lists.{if, either}
 use Rattle.demands.proofs.Counting.{equal, other, same?}
 use Rattle.lane.specs.declared.lane.Lane.{Lane}
-use Rattle.lane.specs.Table.{HasRow, headerWords, head, setHead, laneAt, putLane}
-use Rattle.lane.proofs.TableLaws.{frames, head-putLane, lane-own, other-lane-kept, head-stored, other-head-kept, lane-setHead, has-row}
+use Rattle.lane.specs.Table.{HasRow, headerWords, head, setHead, NarrowLane, laneAt, putLane}
+use Rattle.lane.proofs.TableLaws.{frames, head-putLane, lane-own-narrow, other-lane-kept, head-stored, other-head-kept, lane-setHead, has-row}
 use Rattle.queues.specs.Header.{Shaped, issued, slots, budget, alive, capacity, firstCursor, fastSlot, laneCount, livingCount, freeCount, queueFront, queueCount, setBudget, setFastSlot, setLaneCount, setLivingCount}
 use Rattle.queues.specs.Queue.{queueOf, pushBack, popFront, rotateLeft, remove}
 use Rattle.queues.specs.Registry.{free, reissue}
@@ -163,13 +163,13 @@ module _ {t u : List ℕ} {x : ℕ} {l : Lane} {w : List ℕ} {h : ℕ → ℕ} 
       }
 
   -- lane x stored
-  pub step-put-lane : (o : Lane) → o .key .slot ≡ x → x < issued t → Step t (putLane u o) x o w h
-  step-put-lane o e a =
+  pub step-put-lane : (o : Lane) → o .key .slot ≡ x → NarrowLane o → x < issued t → Step t (putLane u o) x o w h
+  step-put-lane o e fits a =
       record {
         shaped = shaped-putLane u (k .shaped) o;
         linked = linked-by u (putLane u o) (simp frames) (λ p. simp frames) (λ g. simp frames) (k .linked);
         mark-words = λ q. mark-words-by u (putLane u o) (simp frames) (λ p. simp frames) (λ g. simp frames) (k .mark-words q);
-        own = lane-own u o x e (has-row u x (row-in u (k .shaped) x (rw issued-kept a)));
+        own = lane-own-narrow u o x e (has-row u x (row-in u (k .shaped) x (rw issued-kept a))) fits;
         others = λ y d. other-lane-kept u o y (λ p. d (sym (p ∙ e))) ∙ k .others y d;
         queue = simp queue-frames (k .queue);
         heads = λ j i. head-putLane u o j (i .in-header) ∙ k .heads j i;

@@ -22,8 +22,8 @@ use Rattle.yring.specs.Cursor.{distance}
 use Rattle.yring.specs.Ring.{newRing, index, Within, pushItem}
 use Rattle.lane.specs.Lane.{heldItems, pushAndFlushItem, sent}
 use Rattle.lane.specs.Order.{InOrder, sentLane}
-use Rattle.lane.specs.Table.{HasRow, head, setHead, headerWords, laneAt, putLane}
-use Rattle.lane.proofs.TableLaws.{frames, lane-own, other-lane-kept, slot-of-lane, has-row}
+use Rattle.lane.specs.Table.{HasRow, head, setHead, headerWords, NarrowLane, laneAt, putLane}
+use Rattle.lane.proofs.TableLaws.{frames, lane-own-narrow, loaded-narrow, other-lane-kept, slot-of-lane, has-row}
 use Rattle.yring.proofs.RingLaws.{other-ring-kept}
 use Rattle.lane.proofs.HeldLaws.{held-by-ends, push-and-flush-appends}
 use Rattle.queues.specs.Header.{Shaped, issued, slots, budget, groupCursor, alive, capacity, channel, firstGeneration, freeCount, queueCount, setBudget, setGroupCursor, setAlive, setFastSlot, setLaneCount, setLivingCount, setHeldCount}
@@ -132,11 +132,11 @@ heads-put-lane t l = simp frames
 capacity-put-lane : (t : List ℕ) (l : Lane) → capacity (putLane t l) ≡ capacity t
 capacity-put-lane t l = simp frames
 
-module _ (t : List ℕ) (s : Shaped t) (l : Lane) (x : ℕ) (at : l .key .slot ≡ x) (h : x < issued t) where
+module _ (t : List ℕ) (s : Shaped t) (l : Lane) (x : ℕ) (at : l .key .slot ≡ x) (a : NarrowLane l) (h : x < issued t) where
   -- the slot as the rules see it, whatever the ring store
   own-put-lane : (r : List ℕ) → slotAt (putLane t l) r x ≡ slotOf l (pageBit t x) (heldItems (newRing x (capacity t)) r l)
   unfolding slotAt
-  own-put-lane r = rw (lane-own t l x at (has-row t x (row-in t s x h)), page-put-lane t l x, capacity-put-lane t l)
+  own-put-lane r = rw (lane-own-narrow t l x at (has-row t x (row-in t s x h)) a, page-put-lane t l x, capacity-put-lane t l)
 
   other-put-lane : (r : List ℕ) (y : ℕ) → x ≢ y → slotAt (putLane t l) r y ≡ slotAt t r y
   unfolding slotAt
@@ -174,18 +174,18 @@ module _ (t r : List ℕ) (s : Shaped t) (x : ℕ) (h : x < issued t) (w : Withi
     after = sentLane ((pushAndFlushItem (newRing x (capacity t)) r v (laneAt t x)) .0)
 
     -- the lane m stored has the key of the lane before and the ends of the lane after the push
-    pub view-sent : (m : Lane) → m .key .slot ≡ x → m .head ≡ after .head → m .tail ≡ after .tail
+    pub view-sent : (m : Lane) → m .key .slot ≡ x → NarrowLane m → m .head ≡ after .head → m .tail ≡ after .tail
         → view (putLane t m) ((pushAndFlushItem (newRing x (capacity t)) r v (laneAt t x)) .1)
         ≡ put x (slotOf m (pageBit t x) (heldItems (newRing x (capacity t)) r (laneAt t x) ++ (v ∷ []))) (view t r)
-    view-sent m k a b =
+    view-sent m k n′ a b =
         let q : List ℕ = (pushAndFlushItem (newRing x (capacity t)) r v (laneAt t x)) .1 in
-        view-put-ring t s m x k h r q (λ y n. others-sent v y (laneAt t x) n)
+        view-put-ring t s m x k n′ h r q (λ y n. others-sent v y (laneAt t x) n)
         ∙ ap (λ (vs : List ℕ). put x (slotOf m (pageBit t x) vs) (view t r))
         (held-by-ends (newRing x (capacity t)) q m after a b ∙ push-and-flush-appends (newRing x (capacity t)) r (laneAt t x) w o v f)
 
 -- ---- a lane stored that differs from the slot's lane in part
 
-module _ (t r : List ℕ) (s : Shaped t) (x : ℕ) (h : x < issued t) (l : Lane) (key : l .key ≡ laneAt t x .key) (at : l .head ≡ laneAt t x .head) (to : l .tail ≡ laneAt t x .tail) where
+module _ (t r : List ℕ) (s : Shaped t) (x : ℕ) (h : x < issued t) (l : Lane) (key : l .key ≡ laneAt t x .key) (fits : NarrowLane l) (at : l .head ≡ laneAt t x .head) (to : l .tail ≡ laneAt t x .tail) where
   own-slot : l .key .slot ≡ x
   own-slot = ap (λ (k : LaneKey). k .slot) key ∙ slot-of-lane t x
 
@@ -212,7 +212,7 @@ module _ (t r : List ℕ) (s : Shaped t) (x : ℕ) (h : x < issued t) (l : Lane)
       (view t r)
   unfolding slotAt
   view-put-same-ends =
-      view-put-lane t s l x own-slot h r
+      view-put-lane t s l x own-slot fits h r
       ∙ ap₂ (λ (g : ℕ) (vs : List ℕ). put x (slotBy g vs) (view t r)) (ap (λ (k : LaneKey). k .generation) key) (held-by-ends (newRing x (capacity t)) r l (laneAt t x) at to)
       ∙ rw (slot-in t r x h)
 
@@ -229,12 +229,12 @@ module _ (t r : List ℕ) (s : Shaped t) (x : ℕ) (h : x < issued t) (l : Lane)
   view-put-counts a b c d = view-put-same-ends ∙ rw (slot-in t r x h, a, b, c, d)
 
 -- a lane stored whose flags are as they were and that holds the items vs: items were taken, or counts changed
-pub view-put-holding : (t r : List ℕ) → Shaped t → (x : ℕ) → x < issued t → (l : Lane) → l .key ≡ laneAt t x .key → (vs : List ℕ) → heldItems (newRing x (capacity t)) r l ≡ vs
+pub view-put-holding : (t r : List ℕ) → Shaped t → (x : ℕ) → x < issued t → (l : Lane) → l .key ≡ laneAt t x .key → NarrowLane l → (vs : List ℕ) → heldItems (newRing x (capacity t)) r l ≡ vs
     → l .registered ≡ laneAt t x .registered → l .living ≡ laneAt t x .living → l .paused ≡ laneAt t x .paused → l .pending ≡ laneAt t x .pending
     → view (putLane t l) r ≡ put x (withRing vs (l .unreleased - l .window) (l .burst - l .window) (view t r .slotOf x)) (view t r)
 unfolding slotAt
-view-put-holding t r s x h l key vs e a b c d =
-    view-put-lane t s l x (ap (λ (k : LaneKey). k .slot) key ∙ slot-of-lane t x) h r
+view-put-holding t r s x h l key fits vs e a b c d =
+    view-put-lane t s l x (ap (λ (k : LaneKey). k .slot) key ∙ slot-of-lane t x) fits h r
     ∙ ap (λ (m : Slot). put x m (view t r))
     (ap₂ (λ (g : ℕ) (ws : List ℕ). by (l .registered) (l .living) (l .paused) (l .pending) g ws) (ap (λ (k : LaneKey). k .generation) key) e
     ∙ ap₂ (λ (i j : ℕ). by i j (l .paused) (l .pending) (laneAt t x .key .generation) vs) a b
@@ -259,7 +259,7 @@ view-put-holding t r s x h l key vs e a b c d =
 pub view-put-queued : (t r : List ℕ) → Shaped t → (x : ℕ) → x < issued t → view (putLane t (queuedLane (laneAt t x))) r ≡ view t r
 unfolding slotAt
 view-put-queued t r s x h =
-    view-put-counts t r s x h (queuedLane (laneAt t x)) refl refl refl refl refl refl refl
+    view-put-counts t r s x h (queuedLane (laneAt t x)) refl (loaded-narrow t x) refl refl refl refl refl refl
     ∙ ap (λ (m : Slot). put x m (view t r)) (rw (slot-in t r x h)) ∙ put-same x (view t r)
 
 -- ---- a mark

@@ -15,7 +15,7 @@ use Rattle.lane.specs.declared.lane.Lane.{Lane}
 use Rattle.lane.specs.Order.{Refundable}
 use Rattle.lane.specs.Lane.{reloadIsEmpty}
 use Rattle.lane.specs.Table.{laneAt}
-use Rattle.lane.proofs.OrderLaws.{cond-holds, refundable}
+use Rattle.lane.proofs.OrderLaws.{cond-holds, order-narrow, refundable, reload-is-empty-keeps}
 use Rattle.lane.proofs.TableLaws.{slot-of-lane}
 use Rattle.queues.specs.Header.{Shaped, issued, slots, freeCount, laneCount, livingCount, capacity}
 use Rattle.queues.specs.Queue.{queueOf}
@@ -61,7 +61,8 @@ module _ (t : List ℕ) (k : Idle t) (x : ℕ) (h : x < issued t) where
     still-retired =
         record {
           idle = record {
-            turning = turning-retire (k .turning) (step-from t (k .turning .shaped) (k .turning .linked) x) h e (reloadIsEmpty (laneAt t x) .lane) looked-slot (λ y d. refl)
+            turning = turning-retire (k .turning) (step-from t (k .turning .shaped) (k .turning .linked) x) h e (reloadIsEmpty (laneAt t x) .lane) looked-slot
+                (order-narrow (capacity t) (k .turning .power .most) _ (reload-is-empty-keeps (capacity t) (k .turning .power .most) (laneAt t x) (k .turning .lanes x h e))) (λ y d. refl)
                 (none-named (queueOf t) x (length-queue t ∙ k .none-queued)) refl refl;
             none-queued = head-retired t (reloadIsEmpty (laneAt t x) .lane) 2 refl refl refl ∙ k .none-queued;
           };

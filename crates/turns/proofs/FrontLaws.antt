@@ -20,8 +20,8 @@ use Rattle.yring.specs.Ring.{newRing}
 use Rattle.lane.specs.Order.{InOrder, polledLane}
 use Rattle.lane.specs.Lane.{poll}
 use Rattle.yring.specs.declared.ring.Ring.{Ring}
-use Rattle.lane.specs.Table.{headerWords, head, laneAt, putLane}
-use Rattle.lane.proofs.OrderLaws.{cond-holds, poll-keeps}
+use Rattle.lane.specs.Table.{headerWords, head, NarrowLane, laneAt, putLane}
+use Rattle.lane.proofs.OrderLaws.{cond-holds, order-narrow, poll-keeps}
 use Rattle.lane.proofs.TableLaws.{frames, slot-of-lane}
 use Rattle.queues.specs.Header.{Shaped, issued, slots, queueCount, freeCount, budget, capacity, laneCount, setBudget, setLaneCount}
 use Rattle.queues.specs.Queue.{queueOf, frontSlot, popFront, rotateLeft}
@@ -45,12 +45,12 @@ use Rattle.turns.proofs.TurnLaws.{slot-below, some-lane, not-free, free
 -- ---- retiring a lane that is in no queue
 
 module _ {t u : List ℕ} {x : ℕ} {l : Lane} {w : List ℕ} {hd : ℕ → ℕ} (k : Turning t) (s : Step t u x l w hd) (h : x < issued t) (e : laneAt t x .registered ≡ 1)
-    (g : Lane) (at : g .key .slot ≡ x) (others : (y : ℕ) → x ≢ y → count y w ≡ count y (queueOf t)) (gone : count x w ≡ 0) (kept : freeOf u ≡ freeOf t) (lanes : hd (placeOf laneCount) ≡ laneCount t) where
+    (g : Lane) (at : g .key .slot ≡ x) (fits : NarrowLane g) (others : (y : ℕ) → x ≢ y → count y w ≡ count y (queueOf t)) (gone : count x w ≡ 0) (kept : freeOf u ≡ freeOf t) (lanes : hd (placeOf laneCount) ≡ laneCount t) where
   abbrev lowered : List ℕ
   lowered = setLaneCount (putLane u (retired g)) (laneCount u - 1)
 
   step-lowered : Step t lowered x (retired g) w (withWord laneCount (laneCount u - 1) hd)
-  step-lowered = step-lane-count (step-put-lane s (retired g) at h) (laneCount u - 1)
+  step-lowered = step-lane-count (step-put-lane s (retired g) at fits h) (laneCount u - 1)
 
   one-less : laneCount u - 1 + one (flag (laneAt t x .registered)) ≡ laneCount t + 0
   one-less =
@@ -104,11 +104,14 @@ module _ (t : List ℕ) (k : Turning t) (some : queueCount t ≡ 0 → ⊥) wher
     pub left-slot : l .key .slot ≡ x
     left-slot = ap (λ (z : Fixed). z .0 .slot) (e .0) ∙ slot-of-lane t x
 
+    left-narrow : NarrowLane l
+    left-narrow = order-narrow (capacity t) (k .power .most) l o
+
     left-registered : l .registered ≡ 1
     left-registered = ap (λ (z : Fixed). z .1) (e .0) ∙ front-registered t k some
 
     step-left : Step t (popFront (putLane t l)) x l rest (head t)
-    step-left = step-popped-front (step-put-lane begun l left-slot (front-issued t k some)) x rest (queue-is t k some)
+    step-left = step-popped-front (step-put-lane begun l left-slot left-narrow (front-issued t k some)) x rest (queue-is t k some)
 
     free-left : freeOf (popFront (putLane t l)) ≡ freeOf t
     free-left = simp registry-frames
@@ -124,7 +127,7 @@ module _ (t : List ℕ) (k : Turning t) (some : queueCount t ≡ 0 → ⊥) wher
     unfolding settleEmptyFront retireIf
     turning-left =
         cond-holds Turning (found .disconnected) (retireLane (popFront (putLane t l)) l) (popFront (putLane t l))
-        (λ d. turning-retire k step-left (front-issued t k some) (front-registered t k some) l left-slot rest-others (front-alone t k some) free-left refl) (λ d. turning-settled)
+        (λ d. turning-retire k step-left (front-issued t k some) (front-registered t k some) l left-slot left-narrow rest-others (front-alone t k some) free-left refl) (λ d. turning-settled)
 
   -- the front lane, with an item less
   module _ (rotate : Bool) (l : Lane) (e : flagged l ≡ flagged (laneAt t x)) (o : InOrder (capacity t) l) where
@@ -135,7 +138,7 @@ module _ (t : List ℕ) (k : Turning t) (some : queueCount t ≡ 0 → ⊥) wher
     gave-registered = ap (λ (z : Flagged). z .1) e ∙ front-registered t k some
 
     step-given : Step t (putLane t l) x l (queueOf t) (head t)
-    step-given = step-put-lane begun l gave-slot (front-issued t k some)
+    step-given = step-put-lane begun l gave-slot (order-narrow (capacity t) (k .power .most) l o) (front-issued t k some)
 
     counts-turned : (y : ℕ) → count y (rest ++ (x ∷ [])) ≡ count y (queueOf t)
     unfolding count

@@ -110,9 +110,9 @@ openings-computed :
     ∷ ((100, 0, 0, 0), Refused SlotsOutOfRange)
     ∷ ((100, 8193, 0, 0), Refused SlotsOutOfRange)
     ∷ ((100, 2, 255, 0), Refused RingStoreShort)
-    ∷ ((100, 2, 256, 559), Refused TableStoreShort)
-    ∷ ((100, 2, 256, 560), Done)
-    ∷ ((65536, 8192, 536870912, 197120), Done)
+    ∷ ((100, 2, 256, 543), Refused TableStoreShort)
+    ∷ ((100, 2, 256, 544), Done)
+    ∷ ((65536, 8192, 536870912, 131584), Done)
     ∷ [])
 unfolding compute opens
 openings-computed = refl

@@ -131,7 +131,7 @@ abbrev asItWas : (R : Rules) → Opening → R .Stores → ℕ → List Call →
 asItWas R o lent n calls = map (renumberedTick (exchange n)) (trace R ((R .opens o lent) .1) calls)
 
 -- the sum of all numbers on the lines of a run's answers
-numbersIn : List Tick → ℕ
+unfoldable pub numbersIn : List Tick → ℕ
 numbersIn [] = 0
 numbersIn (gives r k v ∷ ts) = numbersIn ts
 numbersIn (ends c a ∷ ts) = total (λ n. n) ((line a []) .numbers) + numbersIn ts
@@ -233,7 +233,7 @@ unfolding computeNumbers
 later-much = shut-out (takesIds asItIs asItIs laterForThis asItIs) opening lent N much refl refl
 
 -- the first of the words that a batch leaves
-firstWord : List ℕ → ℕ
+unfoldable pub firstWord : List ℕ → ℕ
 firstWord [] = 0
 firstWord (v ∷ vs) = v
 

@@ -2,7 +2,7 @@
 -- Assumes nothing.
 use Rattle.all_lanes.proofs.SlotLoops.{slot-released, none-released}
 use Rattle.all_lanes.specs.AllLanes.{releaseSlot}
-use Rattle.lane.specs.Table.{putLane}
+use Rattle.lane.specs.Table.{cellAt, putLane}
 use Rattle.lane.specs.declared.lane.Released.{Released}
 use Rattle.lane.specs.declared.lane.Lane.{Lane}
 use borrow.Author.Tests.{eq-eqb, ne-eqb}
@@ -13,7 +13,10 @@ use Rattle.all_lanes.proofs.all_lanes.release_slot.Statement.{statement
 use Rattle.all_lanes.proofs.all_lanes.release_slot.Tie as tie
 
 returns : tie.Need-returns
-returns c = sym (none-released _ _ (c .before .before .before .before .before .pre .2) (ap (λ (l : Lane). l .unreleased) (sym (c .before .before .load .ensures)) ∙ c .if1 .taken))
+returns c =
+    let fits = c .before .before .before .before .slice-known .given in
+    let slot = c .before .before .before .before .before .args .slot in
+    sym (none-released _ _ (c .before .before .before .before .before .pre .2) (ap (λ (l : Lane). l .unreleased) (sym (c .before .before .load .ensures)) ∙ c .if1 .taken) (fits (cellAt 5 slot) .fits) (fits (cellAt 6 slot) .fits))
 
 release-pending-requires : tie.Need-release-pending-requires
 release-pending-requires c κs = rw (c .before .before .before .before .load .ensures) (c .before .before .before .before .before .before .before .pre .2 (ap (λ (l : Lane). l .registered) (sym (c .before .before .before .before .load .ensures)) ∙ c .if2 .taken))
