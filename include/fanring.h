@@ -99,7 +99,7 @@ extern "C" {
 #define FANRING_WORDS 8
 
 /* The words that the stores of a channel of S slots need. C is a power of two: the opening rounds a capacity up, so for a capacity of 100 it is 128. */
-#define FANRING_TABLE_WORDS(S) (24 * (size_t)(S) + 512)
+#define FANRING_TABLE_WORDS(S) (16 * (size_t)(S) + 512)
 #define FANRING_RING_WORDS(S, C) ((size_t)(S) * (size_t)(C))
 
 /* What a call returns, and the words that it sets. */

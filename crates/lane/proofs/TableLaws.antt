@@ -96,10 +96,10 @@ module _ (t : List ℕ) (l : Lane) where
   unfolding laneAt
   lane-stored h =
       let w = word-stored h in
-      let a : low (cell (putLane t l) 5 (l .key .slot)) ≡ l .cached % half = ap low (w 5 refl) ∙ low-packed (l .cached) (l .unreleased) in
-      let b : high (cell (putLane t l) 5 (l .key .slot)) ≡ l .unreleased % half = ap high (w 5 refl) ∙ high-packed (l .cached) (l .unreleased) in
-      let c : low (cell (putLane t l) 6 (l .key .slot)) ≡ l .burst % half = ap low (w 6 refl) ∙ low-packed (l .burst) (l .window) in
-      let d : high (cell (putLane t l) 6 (l .key .slot)) ≡ l .window % half = ap high (w 6 refl) ∙ high-packed (l .burst) (l .window) in
+      let a : high (cell (putLane t l) 5 (l .key .slot)) ≡ l .cached % half = ap high (w 5 refl) ∙ high-packed (l .unreleased) (l .cached) in
+      let b : low (cell (putLane t l) 5 (l .key .slot)) ≡ l .unreleased % half = ap low (w 5 refl) ∙ low-packed (l .unreleased) (l .cached) in
+      let c : high (cell (putLane t l) 6 (l .key .slot)) ≡ l .burst % half = ap high (w 6 refl) ∙ high-packed (l .window) (l .burst) in
+      let d : low (cell (putLane t l) 6 (l .key .slot)) ≡ l .window % half = ap low (w 6 refl) ∙ low-packed (l .window) (l .burst) in
       λ i. record {
         key = record { slot = l .key .slot; generation = w 0 refl i };
         tail = w 1 refl i;

@@ -65,7 +65,7 @@ NarrowLane l = Narrow (l .cached) (l .unreleased) (l .burst) (l .window)
 -- a lane's words, in the order of their columns
 abbrev pub words : Lane → List ℕ
 words l =
-    l .key .generation ∷ l .tail ∷ l .released ∷ l .head ∷ l .known ∷ packed (l .cached) (l .unreleased) ∷ packed (l .burst) (l .window)
+    l .key .generation ∷ l .tail ∷ l .released ∷ l .head ∷ l .known ∷ packed (l .unreleased) (l .cached) ∷ packed (l .window) (l .burst)
     ∷ l .pending ∷ l .queued ∷ l .paused ∷ l .registered ∷ l .living ∷ []
 
 -- the lane of a slot whose words are f 0, f 1, ..
@@ -77,10 +77,10 @@ ofWords slot f =
       released = f 2;
       head = f 3;
       known = f 4;
-      cached = low (f 5);
-      unreleased = high (f 5);
-      burst = low (f 6);
-      window = high (f 6);
+      cached = high (f 5);
+      unreleased = low (f 5);
+      burst = high (f 6);
+      window = low (f 6);
       pending = f 7;
       queued = f 8;
       paused = f 9;

@@ -71,18 +71,18 @@ laneChanges =
     -- the released head, the head, the known tail no u64
     ∷ ((cellAt 2 1, 18446744073709551616) ∷ []) ∷ ((cellAt 3 1, 18446744073709551616) ∷ []) ∷ ((cellAt 4 1, 18446744073709551616) ∷ [])
     -- cached, unreleased, the burst below the window, the burst above 63
-    ∷ ((cellAt 5 0, packed 2 1) ∷ []) ∷ ((cellAt 5 0, packed 1 0) ∷ []) ∷ ((cellAt 6 0, packed 0 1) ∷ []) ∷ ((cellAt 6 0, packed 64 1) ∷ [])
+    ∷ ((cellAt 5 0, packed 1 2) ∷ []) ∷ ((cellAt 5 0, packed 0 1) ∷ []) ∷ ((cellAt 6 0, packed 1 0) ∷ []) ∷ ((cellAt 6 0, packed 1 64) ∷ [])
     -- a half whose upper bits are set, in either place
-    ∷ ((cellAt 5 0, packed 65537 1) ∷ []) ∷ ((cellAt 5 0, packed 1 65537) ∷ []) ∷ ((cellAt 6 0, packed 1 4294967295) ∷ [])
+    ∷ ((cellAt 5 0, packed 1 65537) ∷ []) ∷ ((cellAt 5 0, packed 65537 1) ∷ []) ∷ ((cellAt 6 0, packed 4294967295 1) ∷ [])
     -- unreleased no longer below the batch
-    ∷ ((cellAt 1 1, 2) ∷ (cellAt 3 1, 2) ∷ (cellAt 4 1, 2) ∷ (cellAt 5 1, packed 0 2) ∷ (16, 2) ∷ [])
+    ∷ ((cellAt 1 1, 2) ∷ (cellAt 3 1, 2) ∷ (cellAt 4 1, 2) ∷ (cellAt 5 1, packed 2 0) ∷ (16, 2) ∷ [])
     -- pending, queued, paused, registered, living no flags
     ∷ ((cellAt 7 0, 2) ∷ []) ∷ ((cellAt 8 2, 2) ∷ []) ∷ ((cellAt 9 1, 2) ∷ []) ∷ ((cellAt 10 2, 2) ∷ []) ∷ ((cellAt 11 1, 2) ∷ [])
     -- queued and not flagged, queued and paused, pending and not marked
     ∷ ((cellAt 8 0, 0) ∷ []) ∷ ((cellAt 9 0, 1) ∷ []) ∷ ((cellAt 14 0, 4) ∷ [])
     -- a window, at `fast_slot`, of a lane that is not the front one
     ∷ (
-    (cellAt 5 0, packed 2 0) ∷ (cellAt 6 0, packed 1 0) ∷ (cellAt 4 1, 1) ∷ (cellAt 5 1, packed 0 1) ∷ (cellAt 6 1, packed 1 1) ∷ (12, 1) ∷ []
+    (cellAt 5 0, packed 0 2) ∷ (cellAt 6 0, packed 0 1) ∷ (cellAt 4 1, 1) ∷ (cellAt 5 1, packed 1 0) ∷ (cellAt 6 1, packed 1 1) ∷ (12, 1) ∷ []
     )
     ∷ []
 
@@ -103,7 +103,7 @@ heldChanges =
     -- one less, one more, 2^64 more
     ((16, 2) ∷ []) ∷ ((16, 4) ∷ []) ∷ ((16, 18446744073709551619) ∷ [])
     -- left as it was by a send, by a receive, by a lane that goes
-    ∷ ((cellAt 1 1, 2) ∷ []) ∷ ((cellAt 3 1, 1) ∷ (cellAt 4 1, 1) ∷ (cellAt 5 1, packed 0 1) ∷ []) ∷ ((cellAt 10 1, 0) ∷ (13, 1) ∷ [])
+    ∷ ((cellAt 1 1, 2) ∷ []) ∷ ((cellAt 3 1, 1) ∷ (cellAt 4 1, 1) ∷ (cellAt 5 1, packed 1 0) ∷ []) ∷ ((cellAt 10 1, 0) ∷ (13, 1) ∷ [])
     -- without a paused lane, and of a closed receiver
     ∷ ((cellAt 9 1, 1) ∷ (16, 2) ∷ []) ∷ ((7, 0) ∷ (16, 0) ∷ [])
     ∷ []
@@ -112,7 +112,7 @@ heldChanges =
 abbrev pub heldTrue : List (List Change)
 heldTrue =
     -- the same send, receive and lane that goes
-    ((cellAt 1 1, 2) ∷ (16, 4) ∷ []) ∷ ((cellAt 3 1, 1) ∷ (cellAt 4 1, 1) ∷ (cellAt 5 1, packed 0 1) ∷ (16, 2) ∷ []) ∷ ((cellAt 10 1, 0) ∷ (13, 1) ∷ (16, 2) ∷ [])
+    ((cellAt 1 1, 2) ∷ (16, 4) ∷ []) ∷ ((cellAt 3 1, 1) ∷ (cellAt 4 1, 1) ∷ (cellAt 5 1, packed 1 0) ∷ (16, 2) ∷ []) ∷ ((cellAt 10 1, 0) ∷ (13, 1) ∷ (16, 2) ∷ [])
     -- with a paused lane, and of a closed receiver
     ∷ ((cellAt 9 1, 1) ∷ []) ∷ ((7, 0) ∷ [])
     -- an item of a lane that is idle, as an unsignalled send leaves it
