@@ -3,6 +3,7 @@
 use mathlib.Core.Path.{_≡_, sym, subst, ap, _∙_}
 use mathlib.Core.List.{List}
 use Prim.Native.Nat.{ℕ}
+use native.Mathlib.Omega.{arith}
 use Rattle.model.specs.declared.Call.{Call}
 use Rattle.model.specs.declared.Refusal.the-variants.{StoreNotInOrder}
 use Rattle.model.specs.declared.Answer.the-variants.{Refused}
@@ -10,6 +11,9 @@ use Rattle.model.specs.Simulation.{Simulation}
 use Rattle.model.specs.Demand2.{Demand2In}
 use Rattle.demands.proofs.Demand3.{unstopped}
 use Rattle.demands.proofs.Simulation.{words-demand2, words-demand3, words-stops-only-at-items, words-next-is-above, words-hands-only-admitted, words-equal-turns, words-free-places, words-not-full-before, words-openings-told-apart, words-saved-ids-refused, words-number-only-tells-ids, words-answers-as-before, words-none-after-close, words-held-as-counted, words-hands-as-answered, words-no-lost-wake, words-nothing-waits, words-keys-never-again, words-issued-as-answered}
+use Rattle.model.specs.Lists.{Each}
+use Rattle.yring.proofs.ReleaseLaws.{batch-most}
+use Rattle.queues.specs.Header.{capacity}
 use Rattle.store.specs.View.{view}
 use Rattle.store.specs.Order.{StoreInOrder}
 use Rattle.store.specs.Words.{Words}
@@ -26,7 +30,7 @@ use Rattle.refinement.proofs.RulesKept.{keeps-rules}
 use Rattle.refinement.proofs.Simulation.{simulates}
 use Rattle.refinement.proofs.AsRules.{each-call-as-rules, lists-as-rules, examples-of, credit-of}
 use Rattle.fanring.specs.Runs.{checkedWords, checkedCalls, theCalls}
-use Rattle.fanring.specs.Demands.{RefusalsChangeNothing, FiveExactly, CallsSimulate, CallsKeepOrder, OpensAsRules, OpensInOrder, runs, NeverFive, ItemsInOrder, AnswersTell, LanesWaitBounded, LanesWaitUnstopped, StopsOnlyAtItems, NextIsAbove, HandsOnlyAdmitted, LanesShareEqually, FreePlacesSaid, NotFullBefore, OpeningsToldApart, SavedIdsRefused, NumberOnlyTellsIds, AnswersAsBefore, NoneAfterClose, HeldIsCounted, UntrueHeldRefused, RulesKept, TraceAsRules, MixedAsChecked, ExamplesHold, CreditByTable, NoLostWake, NothingWaits, KeysNeverAgain, IssuedAsAnswered}
+use Rattle.fanring.specs.Demands.{RefusalsChangeNothing, FiveExactly, CallsSimulate, CallsKeepOrder, OpensAsRules, OpensInOrder, runs, NeverFive, ItemsInOrder, AnswersTell, LanesWaitBounded, LanesWaitUnstopped, StopsOnlyAtItems, NextIsAbove, HandsOnlyAdmitted, LanesShareEqually, FreePlacesSaid, NotFullBefore, OpeningsToldApart, SavedIdsRefused, NumberOnlyTellsIds, AnswersAsBefore, NoneAfterClose, HeldIsCounted, UntrueHeldRefused, CountsSmall, RulesKept, TraceAsRules, MixedAsChecked, ExamplesHold, CreditByTable, NoLostWake, NothingWaits, KeysNeverAgain, IssuedAsAnswered}
 use Rattle.store.proofs.HeldLaws.{held-walked}
 use Rattle.fanring.proofs.CheckedLaws.{checked-five}
 use Rattle.fanring.proofs.CheckedCalls.{checked-as-inner, words-unmoved, output-left}
@@ -55,6 +59,19 @@ five-exactly = record {
 pub untrue-held-refused : UntrueHeldRefused
 unfolding checkedWords
 untrue-held-refused t r c n = checked-five t r (λ o. n (held-walked t r o)) _
+
+pub counts-small : CountsSmall
+unfolding Each
+counts-small t r o x h g =
+    let k = o .stores .lanes x h g in
+    let c = k .counts in
+    let C = o .stores .power .most in (
+      omega (arith, c .cached-is, k .cursors .known-on, C),
+      (
+        omega (arith, c .unreleased-below, batch-most (capacity t), C),
+        (omega (arith, c .burst-most), (omega (arith, c .window-most, c .burst-most), tt)),
+      ),
+    )
 
 pub calls-simulate : CallsSimulate
 calls-simulate = each-call-as-rules checkedCalls checked-as-inner

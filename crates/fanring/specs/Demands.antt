@@ -3,12 +3,13 @@
 -- Closed.antt, Held.antt, Wake.antt, Keys.antt), here of the words that the calls' contracts name; others are crate `refinement`'s (its specs/RulesOnWords.antt, AsRules.antt).
 -- Assumes nothing.
 use mathlib.Core.Path.{_≡_}
-use mathlib.Core.List.{List, map}
-use Prim.Native.Nat.{ℕ, _^_, _<_}
+use mathlib.Core.List.{List, [], _∷_, map}
+use Prim.Native.Nat.{ℕ, _^_, _≤_, _<_}
 use Rattle.model.specs.declared.Opening.{Opening}
 use Rattle.model.specs.declared.Call.{Call}
 use Rattle.model.specs.declared.Refusal.the-variants.{StoreNotInOrder}
 use Rattle.model.specs.declared.Answer.the-variants.{Done, Refused}
+use Rattle.model.specs.Lists.{Each}
 use Rattle.model.specs.Runs.{RunsOf}
 use Rattle.model.specs.Opening.{openingOutcome}
 use Rattle.model.specs.Simulation.{runsThatFit}
@@ -24,6 +25,7 @@ use Rattle.model.specs.Closed.{NoneAfterCloseIn}
 use Rattle.model.specs.Held.{HeldAsCountedIn}
 use Rattle.model.specs.Wake.{NoLostWakeIn, NothingWaitsIn}
 use Rattle.model.specs.Keys.{KeysNeverAgainIn, IssuedAsAnsweredIn}
+use Rattle.lane.specs.Table.{laneAt}
 use Rattle.queues.specs.Header.{issued, heldCount}
 use Rattle.store.specs.View.{view}
 use Rattle.store.specs.Order.{StoreInOrder}
@@ -144,6 +146,11 @@ HeldIsCounted = HeldAsCountedIn theCalls runs
 -- document 02, N6: "A store whose held count is untrue is not in order.": every call is refused 5, and changes no word
 abbrev pub UntrueHeldRefused : Type 0
 UntrueHeldRefused = (t r : List ℕ) (c : Call) → (heldCount t ≡ walkedHeld t → ⊥) → checkedWords t r c ≡ (Refused StoreNotInOrder, t, r)
+
+-- document 02, N9: "Cached, unreleased, burst and window counts never exceed 65,536": of each lane of stores in order, which is what every call leaves
+abbrev pub CountsSmall : Type 0
+CountsSmall = (t r : List ℕ) → StoreInOrder t r → (x : ℕ) → x < issued t → let l = laneAt t x in l .registered ≡ 1
+    → Each (λ n. n ≤ 65536) (l .cached ∷ l .unreleased ∷ l .burst ∷ l .window ∷ [])
 
 -- document 01's sentences on order kept, the poll budget, turns of 64, collections, where receives end, Disconnected and Empty, refusal 13, signals, first cursors
 -- and queued keys, and document 02's on registrations and the free list (N4), on a batch that stops (N2) and on the held count (N6), one field for each

@@ -48,7 +48,7 @@ low w = w % half
 abbrev pub high : ℕ → ℕ
 high w = w / half % half
 
--- the word of two halves; what does not fit loses its upper bits
+-- the word of two halves, the lower one first; what does not fit loses its upper bits
 abbrev pub packed : ℕ → ℕ → ℕ
 packed a b = a % half + half * (b % half)
 

@@ -6,7 +6,8 @@ ghost use Rattle.lane.specs.Table.{rowWords, laneWords, HasRow, cell, se
 use crate::lane::Lane;
 use model::LaneKey;
 
-// One more than the largest half of a word. Counts are two to a word; what does not fit in 32 bits is lost, and no count of a lane in order does not.
+// One more than the largest half of a word. Counts are two to a word, cut to 32 bits, which hold all counts of a lane in order.
+// The lower halves are those that are tested alone.
 const HALF: u64 = 4294967296;
 
 impl Lane {

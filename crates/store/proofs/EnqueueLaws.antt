@@ -10,13 +10,13 @@ use lib.Dec.{ltb, leb, eqb}
 use lib.ListN.{length}
 use Rattle.model.specs.Lists as rules
 use Rattle.demands.proofs.Counting.{equal, other, same?, same-self, count-append}
-use Rattle.lane.specs.Table.{headerWords, rowWords, head, cellAt, narrowed, laneAt, putLane}
-use Rattle.lane.proofs.TableLaws.{frames, narrow-same, loaded-narrow}
+use Rattle.lane.specs.Table.{headerWords, rowWords, head, cellAt, laneAt, putLane}
+use Rattle.lane.proofs.TableLaws.{frames}
 use Rattle.queues.specs.Header.{Shaped}
 use Rattle.queues.specs.Queue.{queueOf, QueueNames}
 use Rattle.ready.specs.Ready.{queuedLane, enqueue}
 use Rattle.queues.proofs.QueueLaws.{queue-frames, shaped-pushed-back, shaped-putLane}
-use Rattle.ready.proofs.OfferLaws.{Wants, wants-room, other-enqueued, queue-enqueued}
+use Rattle.ready.proofs.OfferLaws.{Wants, wants-room, lane-enqueued, other-enqueued, queue-enqueued}
 use Rattle.ready.proofs.CollectLaws.{Kept}
 
 module _ (t : List ℕ) (x : ℕ) where
@@ -27,12 +27,6 @@ module _ (t : List ℕ) (x : ℕ) where
   pub head-enqueued : (k : ℕ) → ltb k headerWords ≡ true → eqb 2 k ≡ false → head (enqueue t x) k ≡ head t k
   unfolding enqueue
   head-enqueued k p n = simp (queue-frames, frames, p, n)
-
-  own-enqueued : leb (cellAt rowWords x) (length t) ≡ true → laneAt (enqueue t x) x ≡ queuedLane (laneAt t x)
-  unfolding enqueue
-  own-enqueued r =
-      let here : laneAt (enqueue t x) x ≡ narrowed (queuedLane (laneAt t x)) = simp (queue-frames, frames, r) in
-      here ∙ narrow-same (queuedLane (laneAt t x)) (loaded-narrow t x)
 
 module _ (t : List ℕ) (x : ℕ) (s : Shaped t) (q : QueueNames t) (w : Wants t x) where
   row-of : leb (cellAt rowWords x) (length t) ≡ true
@@ -61,7 +55,7 @@ module _ (t : List ℕ) (x : ℕ) (s : Shaped t) (q : QueueNames t) (w : Wants t
           | other d p i ↦ rw (head-enqueued t x 0 refl refl) (q .issued-only y (omega (arith, count-enqueued y)))
         ];
         flagged = λ y h r. elim (same? y x) [
-          | equal e p i ↦ rw (e, own-enqueued t x row-of) (omega (arith, count-enqueued x, none-before, same-self x))
+          | equal e p i ↦ rw (e, lane-enqueued t x row-of) (omega (arith, count-enqueued x, none-before, same-self x))
           | other d p i ↦
               rw (other-enqueued t x y p)
               (q .flagged y (rw (head-enqueued t x 0 refl refl) at h) (rw (other-enqueued t x y p) at r) ∙ omega (arith, count-enqueued y))
