@@ -132,7 +132,7 @@ impl<const CHECKED: bool> Side for Library<CHECKED> {
 
     fn open(capacity: usize, slots: usize) -> Self {
         let capacity = capacity.next_power_of_two();
-        let (table, rings) = (vec![0; 24 * slots + 512], vec![0; slots * capacity]);
+        let (table, rings) = (vec![0; 16 * slots + 512], vec![0; slots * capacity]);
         let mut new = Self { capacity, slots, table, rings, words: [0; 8], output: vec![0; OUTPUT], count: 0 };
         new.reopen();
         new
