@@ -223,6 +223,17 @@ fn free_places() {
     }
 }
 
+/// Slots registered again, with counts of the lane before left in their words; and with the largest ring.
+#[test]
+fn counts_left() {
+    let large = Lengths { table: 528, rings: 65_536 };
+    for (name, lengths, calls) in
+        [("leftover-counts.txt", &REPLAY, 2_000), ("large/leftover-counts.txt", &large, 200_000)]
+    {
+        assert!(replay(&data(name), lengths) >= calls, "{name} is shorter than it was");
+    }
+}
+
 /// Lane ids of several openings with one channel id.
 #[test]
 fn opening_numbers() {
