@@ -4,9 +4,9 @@
    at least FANRING_RING_WORDS(S, C), with C the capacity rounded up to a power of two; table_len and rings_len are their lengths in words. Their words
    belong to the library from the opening on. There is no heap and no other state. The words are numbers and no pointers: between calls both stores may be
    copied whole, saved and read back, mapped at another place or by another process, and shared behind a lock; calls on them then do and answer the same.
-   Another version of the library may read the words otherwise: it is to open the stores anew. Stores that a version without the held count has opened are
-   refused 5 by checked calls, unless the word of that count happens to be true, and no inner call may be made on them: take their items with that version
-   first, as opening anew drops them.
+   Another version of the library may read the words otherwise: it is to open the stores anew. Stores that a version with longer rows, or without the held
+   count, has opened are refused 5 by checked calls, unless their words happen to be in order here too, and no inner call may be made on them: take their
+   items with that version first, as opening anew drops them. Such stores are long enough for the same opening.
 
    ANSWERS. Each call returns a tag (enum fanring_tag) and puts the answer's numbers into words[0] and on; `words` has room for FANRING_WORDS. Words that
    the answer does not use are as they were. A refusal leaves every word of both stores and of the output as it was.

@@ -38,7 +38,7 @@ fn line(tag: u64, words: &[u64; 8], out: &[u64]) -> String {
 
 /// 2 slots at capacity 4.
 struct Stores {
-    table: [u64; 24 * 2 + 512],
+    table: [u64; 16 * 2 + 512],
     rings: [u64; 2 * 4],
     out: [u64; 8],
     words: [u64; 8],
@@ -89,7 +89,7 @@ fn inner(s: &mut Stores) {
 }
 
 fn main() {
-    let mut stores = Stores { table: [0; 24 * 2 + 512], rings: [0; 2 * 4], out: [0; 8], words: [0; 8] };
+    let mut stores = Stores { table: [0; 16 * 2 + 512], rings: [0; 2 * 4], out: [0; 8], words: [0; 8] };
     checked(&mut stores);
     inner(&mut stores);
 }

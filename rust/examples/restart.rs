@@ -63,7 +63,7 @@ fn refusal(result: Result<(), LaneControlError>) -> Option<u64> {
 
 fn main() {
     let mut saved = Saved { openings: 0, set_aside: None };
-    let stores = Stores { table: vec![0; 24 * AMPLIFIERS + 512], rings: vec![0; AMPLIFIERS * CAPACITY] };
+    let stores = Stores { table: vec![0; 16 * AMPLIFIERS + 512], rings: vec![0; AMPLIFIERS * CAPACITY] };
     let mut channel = start(&mut saved, stores, [("belt", 11), ("EEG", 12)]);
     let belt = receive(&mut channel);
     receive(&mut channel);

@@ -120,7 +120,7 @@ impl Channel {
     /// use proved_fanring::Opening;
     ///
     /// let stores = proved_fanring::channel(4, 2).into_stores();
-    /// assert_eq!((stores.rings.len(), stores.table.len()), (8, 560));
+    /// assert_eq!((stores.rings.len(), stores.table.len()), (8, 544));
     /// let channel = Opening::new(8, 1).open_on(stores).unwrap();
     /// assert_eq!(channel.held(), 0);
     /// ```

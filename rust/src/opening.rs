@@ -152,16 +152,16 @@ impl Opening {
         self.in_range().then(|| self.slots * self.capacity_per_sender.next_power_of_two())
     }
 
-    /// Words that the table store must have: 24 for each slot, and 512. None where capacity or slots are out of range.
+    /// Words that the table store must have: 16 for each slot, and 512. None where capacity or slots are out of range.
     ///
     /// ```
     /// use proved_fanring::Opening;
     ///
-    /// assert_eq!(Opening::new(100, 8).table_words(), Some(24 * 8 + 512));
+    /// assert_eq!(Opening::new(100, 8).table_words(), Some(16 * 8 + 512));
     /// ```
     #[must_use]
     pub fn table_words(&self) -> Option<usize> {
-        self.in_range().then(|| 24 * self.slots + 512)
+        self.in_range().then(|| 16 * self.slots + 512)
     }
 
     fn in_range(&self) -> bool {

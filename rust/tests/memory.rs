@@ -6,7 +6,7 @@ use std::process::Command;
 use proved_fanring::{channel, try_channel, ChannelError, Opening, Taken, MAX_CAPACITY_PER_SENDER, MAX_SLOTS};
 
 /// The words of the two largest stores.
-const WORDS: usize = MAX_SLOTS * MAX_CAPACITY_PER_SENDER + 24 * MAX_SLOTS + 512;
+const WORDS: usize = MAX_SLOTS * MAX_CAPACITY_PER_SENDER + 16 * MAX_SLOTS + 512;
 
 /// Runs a test of this file once more, with at most 1 GiB of memory; the largest stores have 4 GiB.
 fn with_little_memory(test: &str) {
@@ -48,7 +48,7 @@ fn channel_panics_where_memory_is_short() {
 
 #[test]
 #[ignore = "is run by channel_panics_where_memory_is_short"]
-#[should_panic(expected = "there is no memory for stores of 537068032 words")]
+#[should_panic(expected = "there is no memory for stores of 537002496 words")]
 fn a_panic_and_no_abort() {
     let _ = channel(MAX_CAPACITY_PER_SENDER, MAX_SLOTS);
 }

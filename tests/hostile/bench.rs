@@ -5,11 +5,11 @@ use std::time::Duration;
 
 use crate::calls::{self, CHECKED, INNER, Stores, WORDS, Words};
 use crate::memory::Guarded;
-use crate::order::{free_places, free_slots, held, in_order, in_order_but_held, registration};
+use crate::order::{counts, free_places, free_slots, held, in_order, in_order_but_held, registration};
 use crate::records::{self, Answer, Record};
 use crate::watch;
 
-pub const MOST_TABLE: usize = 24 * 8_192 + 512 + 64;
+pub const MOST_TABLE: usize = 16 * 8_192 + 512 + 64;
 pub const MOST_RINGS: usize = 2 * 65_536 + 64;
 pub const MOST_OUTPUT: usize = 80;
 
@@ -28,6 +28,8 @@ pub struct Counts {
     pub stores: u64,
     pub in_order: u64,
     pub but_held: u64,
+    /// Registrations of a freed slot in which larger counts were left than a lane can have.
+    pub left_large: u64,
     /// The slowest call, on stores with more than 4,096 slots issued and on others.
     pub slowest_wide: Duration,
     pub slowest: Duration,
@@ -169,7 +171,7 @@ impl Bench {
         }
     }
 
-    /// On stores in order a registration answers and leaves the free list as the words say that it found there.
+    /// On stores in order a registration answers and leaves the free list as the words say that it found there, and the lane has no count of an earlier one.
     fn look_at_registration(&mut self, record: &Record, answer: &Answer) {
         if record.kind != records::REGISTER || *answer == Answer::Refused(5) {
             return;
@@ -178,6 +180,11 @@ impl Bench {
         let due = due.map_or_else(Answer::Refused, |[slot, generation]| Answer::Lane(slot, generation));
         assert_eq!(*answer, due, "{record:?}: what document 02's sentences say of the words");
         assert!(free_slots(self.table.words()) == free, "{record:?}: {answer} leaves another free list");
+        if let Answer::Lane(slot, _) = *answer {
+            assert_eq!(counts(self.table.words(), slot), [0; 4], "{record:?}: {answer}, and the new lane's counts");
+            let freed = slot < self.table_before[0];
+            self.counts.left_large += u64::from(freed && counts(&self.table_before, slot).iter().any(|&count| count > 65_536));
+        }
     }
 
     /// On stores in order held answers the items that their words say, and so does the inner call.

@@ -28,7 +28,7 @@ fn opening_refusal([capacity, slots, ..]: [u64; 6], table: u64, rings: u64) -> O
         Some(2)
     } else if rings < slots * capacity.next_power_of_two() {
         Some(3)
-    } else if table < 24 * slots + 512 {
+    } else if table < 16 * slots + 512 {
         Some(4)
     } else {
         None
@@ -185,7 +185,7 @@ impl<'a> Episode<'a> {
         // Where S or C is the most, another one or twice as much would find room too.
         let slots_lent = if slots == 8_192 { slots + 1 } else { slots };
         let rings_lent = if capacity == 65_536 { 2 * slots * capacity } else { slots_lent * capacity };
-        let table: Vec<u64> = (0..24 * slots_lent + 512 + more_slots).map(|_| self.random.next()).collect();
+        let table: Vec<u64> = (0..16 * slots_lent + 512 + more_slots).map(|_| self.random.next()).collect();
         let rings: Vec<u64> = (0..rings_lent + more_words).map(|_| self.random.next()).collect();
         let output = self.output();
         self.lend(&table, &rings, &output);

@@ -48,7 +48,7 @@ impl Episode<'_> {
     }
 
     fn length(&mut self, most: usize) -> u64 {
-        let near = self.random.pick(&[0, 8, 16, 24, 512, 536, 560, 584, 608, 2_048, 4_096]) + self.random.below(3);
+        let near = self.random.pick(&[0, 8, 16, 24, 512, 528, 544, 560, 576, 2_048, 4_096]) + self.random.below(3);
         let any = if self.random.one_in(50) { self.random.below(most as u64 + 1) } else { self.random.below(700) };
         if self.random.one_in(2) { near.saturating_sub(1) } else { any }
     }

@@ -66,7 +66,7 @@ fn main() {
     let refused: Vec<String> = counts.refused.iter().map(|(number, count)| format!("{count} refused {number}")).collect();
     println!(
         "hostile: seed {seed}, {} calls: {}, {} accepted, {} of them batches that stopped; {} stores that nobody vouched for, {} of them in order, {} in order \
-         but for their held count; slowest call {} us, with more than 4,096 slots {} us; {} s",
+         but for their held count; {} registrations over counts larger than a lane's; slowest call {} us, with more than 4,096 slots {} us; {} s",
         counts.calls,
         refused.join(", "),
         counts.accepted,
@@ -74,6 +74,7 @@ fn main() {
         counts.stores,
         counts.in_order,
         counts.but_held,
+        counts.left_large,
         counts.slowest.as_micros(),
         counts.slowest_wide.as_micros(),
         begin.elapsed().as_secs()
@@ -82,5 +83,6 @@ fn main() {
     if calls >= 1_000_000 && only.is_none() {
         let never: Vec<u64> = (1..=14).filter(|number| !counts.refused.contains_key(number)).collect();
         assert!(never.is_empty() && counts.but_held > 0, "never refused {never:?}, or by the held count alone");
+        assert!(counts.left_large > 0, "no registration over counts larger than a lane's");
     }
 }

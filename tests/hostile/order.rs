@@ -6,13 +6,53 @@
 struct Table<'a>(&'a [u64]);
 
 pub const HEADER: usize = 512;
-pub const ROW: usize = 24;
+pub const ROW: usize = 16;
 /// The place of the held count.
 pub const HELD: usize = 16;
+
+/// What each word of a row is. No other place in these tests has a column's number.
+pub mod column {
+    pub const GENERATION: usize = 0;
+    pub const TAIL: usize = 1;
+    pub const RELEASED: usize = 2;
+    pub const HEAD: usize = 3;
+    /// The known tail.
+    pub const KNOWN: usize = 4;
+    /// The two words that have two counts each.
+    const CREDIT: usize = 5;
+    const TURN: usize = 6;
+    pub const PENDING: usize = 7;
+    pub const QUEUED: usize = 8;
+    pub const PAUSED: usize = 9;
+    pub const REGISTERED: usize = 10;
+    pub const LIVING: usize = 11;
+    /// These four are of the row's number and not of its slot: a place of the queue, a place of the free list, a page, a group.
+    pub const QUEUE: usize = 12;
+    pub const FREE: usize = 13;
+    pub const PAGE: usize = 14;
+    pub const GROUP: usize = 15;
+
+    /// A count of 32 bits: its column, and the bit of the word with which it begins.
+    pub type Half = (usize, u32);
+    const LOWER: u32 = 0;
+    const UPPER: u32 = 32;
+    pub const CACHED: Half = (CREDIT, LOWER);
+    pub const UNRELEASED: Half = (CREDIT, UPPER);
+    pub const BURST: Half = (TURN, LOWER);
+    pub const WINDOW: Half = (TURN, UPPER);
+    pub const COUNTS: [Half; 4] = [CACHED, UNRELEASED, BURST, WINDOW];
+}
+
+use column::*;
 
 impl Table<'_> {
     fn cell(&self, column: usize, row: u64) -> u64 {
         self.0[HEADER + ROW * row as usize + column]
+    }
+
+    /// "They are stored in 32 bits, two to a word." (document 02, N9)
+    fn count(&self, (column, shift): Half, row: u64) -> u64 {
+        self.cell(column, row) >> shift & 0xffff_ffff
     }
 
     fn issued(&self) -> u64 {
@@ -37,23 +77,24 @@ impl Table<'_> {
 
     /// The slots in the queue, front first, and those in the free list.
     fn queue(&self) -> Vec<u64> {
-        (0..self.0[2]).map(|i| self.cell(14, (self.0[1] + i) % self.slots())).collect()
+        (0..self.0[2]).map(|i| self.cell(QUEUE, (self.0[1] + i) % self.slots())).collect()
     }
 
     fn free(&self) -> Vec<u64> {
-        (0..self.0[3]).map(|i| self.cell(15, i)).collect()
+        (0..self.0[3]).map(|i| self.cell(FREE, i)).collect()
     }
 
     fn page(&self, page: u64) -> u64 {
-        self.cell(16, page)
+        self.cell(PAGE, page)
     }
 
     fn group(&self, group: u64) -> u64 {
-        self.cell(17, group)
+        self.cell(GROUP, group)
     }
 }
 
-/// "Stores have at least the lengths that the opening asked for. C is a power of two; C, S .. are ones an opening takes"
+/// "Stores have at least the lengths that the opening asked for. C is a power of two; C, S .. are ones an opening takes"; of the table store "16 × S + 512
+/// words, the length refusal 4 now tests" (document 02, N9)
 fn lengths(table: &[u64], rings: &[u64]) -> bool {
     if table.len() < HEADER {
         return false;
@@ -63,7 +104,7 @@ fn lengths(table: &[u64], rings: &[u64]) -> bool {
     (1..=8_192).contains(&slots)
         && capacity <= 65_536
         && capacity.is_power_of_two()
-        && table.len() as u64 >= 24 * slots + 512
+        && table.len() as u64 >= 16 * slots + 512
         && rings.len() as u64 >= slots * capacity
 }
 
@@ -96,13 +137,14 @@ fn once(names: &[u64], issued: u64) -> Option<Vec<bool>> {
 
 /// "Per registered lane, in wrapped distances, each at most C, and sums that do not wrap"
 fn lane(t: &Table, x: u64) -> bool {
-    let [tail, released, head, known, cached, unreleased, burst, window] = std::array::from_fn(|i| t.cell(1 + i, x));
+    let [tail, released, head, known] = [TAIL, RELEASED, HEAD, KNOWN].map(|column| t.cell(column, x));
+    let [cached, unreleased, burst, window] = COUNTS.map(|half| t.count(half, x));
     let capacity = t.capacity();
     let from = |a: u64, b: u64| a.wrapping_sub(b);
     let batch = capacity.div_ceil(2).max(64).min(capacity);
     let distances = [from(tail, released), from(tail, known), from(known, head), from(head, released)];
     distances.iter().all(|&distance| distance <= capacity)
-        && cached.checked_add(window) == Some(from(known, head))
+        && cached + window == from(known, head)
         && from(head, released).checked_add(window) == Some(unreleased)
         && unreleased < batch
         && window <= burst
@@ -110,16 +152,16 @@ fn lane(t: &Table, x: u64) -> bool {
 }
 
 fn slot(t: &Table, x: u64, queued: bool, free: bool, front: Option<&u64>) -> bool {
-    let [pending, is_queued, paused, registered, living] = std::array::from_fn(|i| t.cell(9 + i, x));
+    let [pending, is_queued, paused, registered, living] = [PENDING, QUEUED, PAUSED, REGISTERED, LIVING].map(|column| t.cell(column, x));
     // "flags and signals hold one of their two values"
     if [pending, is_queued, paused, registered, living].iter().any(|&word| word > 1) {
         return false;
     }
     if registered == 0 {
-        // "Free slots .. hold no lane and had a last generation below 2^64 - 1"; the queue has lanes only
-        return !queued && !(free && t.cell(0, x) == u64::MAX);
+        // "Free slots .. hold no lane and had a last generation below 2^64 - 1"; the queue has lanes only. Nothing is asked of the counts that are left.
+        return !queued && !(free && t.cell(GENERATION, x) == u64::MAX);
     }
-    let window = t.cell(8, x);
+    let window = t.count(WINDOW, x);
     let page_bit = t.page(x / 64) >> (x % 64) & 1 == 1;
     lane(t, x)
         && !free
@@ -147,7 +189,7 @@ fn marks(t: &Table) -> bool {
 /// Of a store in order.
 pub fn free_places(table: &[u64], x: u64) -> u64 {
     let t = Table(table);
-    t.capacity() - t.cell(1, x).wrapping_sub(t.cell(2, x))
+    t.capacity() - t.cell(TAIL, x).wrapping_sub(t.cell(RELEASED, x))
 }
 
 /// What a registration with this most-lanes number answers, a key or a refusal; and the free list that it leaves, the slot freed last at the end. Of a store
@@ -164,15 +206,20 @@ pub fn registration(table: &[u64], most: u64) -> (Result<[u64; 2], u64>, Vec<u64
     }
     for place in (0..free.len()).rev() {
         let x = free[place];
-        if t.cell(13, x) == 0 {
+        if t.cell(LIVING, x) == 0 {
             free.remove(place);
-            return (Ok([x, t.cell(0, x) + 1]), free);
+            return (Ok([x, t.cell(GENERATION, x) + 1]), free);
         }
     }
     if t.issued() < t.slots() {
         return (Ok([t.issued(), t.0[11]]), free);
     }
     (Err(if free.is_empty() { 8 } else { 9 }), free)
+}
+
+/// Cached, unreleased, burst and window of a slot; what an earlier lane left where it has no lane.
+pub fn counts(table: &[u64], x: u64) -> [u64; 4] {
+    COUNTS.map(|half| Table(table).count(half, x))
 }
 
 /// The slots of the free list, the one freed last at the end; of a store in order.
@@ -185,7 +232,7 @@ pub fn free_slots(table: &[u64]) -> Vec<u64> {
 pub fn held(table: &[u64]) -> u128 {
     let t = Table(table);
     let rows = (table.len() - HEADER) / ROW;
-    let items = |x| if t.cell(12, x) == 1 { t.cell(1, x).wrapping_sub(t.cell(3, x)) } else { 0 };
+    let items = |x| if t.cell(REGISTERED, x) == 1 { t.cell(TAIL, x).wrapping_sub(t.cell(HEAD, x)) } else { 0 };
     (0..t.issued().min(rows as u64)).map(|x| u128::from(items(x))).sum()
 }
 
@@ -208,6 +255,6 @@ pub fn in_order_but_held(table: &[u64], rings: &[u64]) -> bool {
     let count = |column| slots.clone().filter(|&x| t.cell(column, x) == 1).count() as u64;
     slots.clone().all(|x| slot(&t, x, queued[x as usize], free[x as usize], queue.first()))
         // "counts of lanes and living senders are true"
-        && (t.0[13], t.0[14]) == (count(12), count(13))
+        && (t.0[13], t.0[14]) == (count(REGISTERED), count(LIVING))
         && marks(&t)
 }

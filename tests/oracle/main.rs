@@ -372,7 +372,7 @@ fn answer(state: &mut State, record: &Record, lent: &Lent, ask: bool) -> Answer 
         if slots * capacity.next_power_of_two() > lent.rings {
             return Answer::Refused(3);
         }
-        if 24 * slots + 512 > lent.table {
+        if 16 * slots + 512 > lent.table {
             return Answer::Refused(4);
         }
         *state = if [cursor, generation, number] == [0; 3] {

@@ -88,7 +88,7 @@ impl State {
         unless(!(1..=8_192).contains(&slots), 2)?;
         let capacity = capacity.next_power_of_two();
         unless(lent.rings < slots * capacity, 3)?;
-        unless(lent.table < 24 * slots + 512, 4)?;
+        unless(lent.table < 16 * slots + 512, 4)?;
         Ok(Self {
             slots: Vec::new(),
             queue: VecDeque::new(),

@@ -1,6 +1,6 @@
 //! Record streams from a seed, and the text form of stored ones.
 //!
-//!     streams SEED RECORDS [--slots N] [--deep] [--style NAME] [--shifted] [--numbered] [--held] [--rings N] [--table N] [--output N]
+//!     streams SEED RECORDS [--slots N] [--deep] [--style NAME] [--shifted] [--numbered] [--held] [--both-lengths] [--rings N] [--table N] [--output N]
 //!     streams text < FILE        the records of a stored stream
 //!     streams expected < FILE    the lines that it expects
 //!
@@ -16,6 +16,8 @@
 //! With these two registrations pass slots over now and then, in style unplugged all the time. In other streams they do so seldom, as the original is
 //! followed up to there alone, and the opening then soon ends.
 //! --held calls held after seven of eight calls.
+//! --both-lengths makes openings only that are taken or refused alike by programs whose table store has 16 words a slot and by those from before
+//! document 02's N9, where it had 24.
 
 mod random;
 #[allow(dead_code)]
@@ -191,7 +193,7 @@ const STYLES: &[Style] = &[
     Style {
         name: "wide",
         capacities: &[1, 2, 4, 8],
-        slots: &[(65, 149)],
+        slots: &[(65, 224)],
         lanes: 80,
         acts: &[
             (Register, 10), (Send, 40), (Unsignalled, 6), (Fill, 6), (Drop, 4), (Plain, 14), (Fair, 8), (Targeted, 4), (Batch, 8), (Pause, 4),
@@ -218,13 +220,13 @@ const STYLES: &[Style] = &[
         acts: &[(Plain, 30), (Fair, 14), (Held, 14), (Release, 4), (PollAll, 4), (Register, 1), (Send, 2), (Batch, 1), (Drop, 1), (Drain, 1)],
     },
     // Headboxes unplugged, whose drivers hold their senders on: the free list has slots with living older senders and clear ones among each other.
-    // Of 100 calls 25 are registrations: 9 pass slots over (7 take a freed slot, mostly below two or more, and 2 an unused one), 7 pass none over, 4 are
-    // refused 9, 3 refused 8 and 2 refused 7; and 11 are sends refused 12. 89 come after their opening's first slot passed over, and the original has no
-    // answer to 98: one opening in eight has a first generation that it lacks, and in others a refusal 8 or 9 comes before.
+    // Of 100 calls 26 are registrations: 9 pass slots over (7 take a freed slot, mostly below two or more, and 2 an unused one), 7 pass none over, 7 are
+    // refused 8 or 9 and 2 refused 7; and 11 are sends refused 12. 89 come after their opening's first slot passed over, and the original has no answer to
+    // 98: one opening in eight has a first generation that it lacks, and in others a refusal 8 or 9 comes before.
     Style {
         name: "unplugged",
         capacities: &[1, 2, 4, 8],
-        slots: &[(1, 8), (1, 8), (9, 40), (65, 149)],
+        slots: &[(1, 8), (1, 8), (9, 40), (65, 224)],
         lanes: 6,
         acts: &[
             (Register, 16), (Unplug, 10), (SendOn, 3), (LetGo, 7), (Crowd, 3), (Send, 18), (Unsignalled, 3), (Drop, 5), (Plain, 8), (Fair, 5),
@@ -232,6 +234,10 @@ const STYLES: &[Style] = &[
         ],
     },
 ];
+
+/// The words of the table store for each slot, and before document 02's N9.
+const ROW: u64 = 16;
+const ROW_BEFORE: u64 = 24;
 
 /// How many styles take turns.
 const IN_TURN: usize = STYLES.len() - 2;
@@ -259,6 +265,8 @@ struct Stream<W: Write> {
     most_slots: Option<u64>,
     /// Openings with large capacities.
     deep: bool,
+    /// The words of the table store for each slot of an opening that is taken.
+    row: u64,
     /// Every opening has a first cursor and generation that the original does not have.
     shifted: bool,
     /// If the last call was a send that was taken, or one refused 11 after it: its lane's key, and the free places then.
@@ -1088,9 +1096,9 @@ impl<W: Write> Stream<W> {
             [u64::MAX, u64::MAX, 7, 0, 0, 0],
             [65_536, 8_192, 7, 0, 0, 0],
         ]);
-        // One slot more than the table holds.
+        // One slot more than the table holds, with rows of either length.
         if self.numbered && self.random.one_in(4) {
-            fields[..2].copy_from_slice(&[1, (self.rules.lent.table - 512) / 24 + 1]);
+            fields[..2].copy_from_slice(&[1, (self.rules.lent.table - 512) / ROW + 1]);
         }
         fields[5] = self.next_number;
         let answer = self.emit(OPEN, &fields);
@@ -1123,12 +1131,14 @@ impl<W: Write> Stream<W> {
     fn opening(&mut self, style: &Style) {
         let lent = self.rules.lent;
         let (low, high) = if let [only] = *style.slots { only } else { self.random.pick(style.slots) };
+        let fit = (lent.table - 512) / self.row;
+        let high = high.min(fit).max(low);
         let (slots, capacity) = match self.most_slots {
             Some(most) => (most - self.random.below(most / 16 + 1), self.random.pick(&[1, 2, 4])),
             None if self.deep => (1 + self.random.below(4), self.random.pick(&[1_000, 2_048, 5_000, 8_192, 30_000, 65_536])),
             None => (low + self.random.below(high - low + 1), self.random.pick(style.capacities)),
         };
-        let slots = slots.min((lent.table - 512) / 24);
+        let slots = slots.min(fit);
         let mut capacity = capacity;
         while slots * capacity.next_power_of_two() > lent.rings && capacity > 1 {
             capacity /= 2;
@@ -1240,11 +1250,13 @@ fn main() -> io::Result<()> {
         ["text"] => return text::records(io::stdin().lock(), output),
         ["expected"] => return text::expected(io::stdin().lock(), output),
         [seed, left, ref options @ ..] => (number(seed), number(left), options),
-        _ => panic!("streams SEED RECORDS [--slots N] [--deep] [--style NAME] [--shifted] [--numbered] [--held], or streams text, or streams expected"),
+        _ => panic!("streams SEED RECORDS [--slots N] [--deep] [--style NAME] [--shifted] [--numbered] [--held] [--both-lengths], or streams text, \
+                     or streams expected"),
     };
     let mut most_slots = None;
     let mut only = None;
     let (mut deep, mut shifted, mut numbered, mut with_held) = (false, false, false, false);
+    let mut row = ROW;
     let mut options = options.iter();
     while let Some(&option) = options.next() {
         let mut value = || options.next().unwrap_or_else(|| panic!("{option} needs a value"));
@@ -1258,6 +1270,7 @@ fn main() -> io::Result<()> {
             "--shifted" => shifted = true,
             "--numbered" => numbered = true,
             "--held" => with_held = true,
+            "--both-lengths" => row = ROW_BEFORE,
             _ => panic!("no such option: {option}"),
         }
     }
@@ -1270,6 +1283,7 @@ fn main() -> io::Result<()> {
         item: 0,
         most_slots,
         deep,
+        row,
         shifted,
         free: None,
         with_held,

@@ -96,7 +96,7 @@ fn stores_stay_in_order() {
             ..Opening::new(1 << random.below(4), 1 + random.below(4) as usize)
         };
         // Words of no meaning before the opening.
-        let stores = Stores { table: vec![round; 24 * 4 + 512], rings: vec![round; 4 * 8] };
+        let stores = Stores { table: vec![round; 16 * 4 + 512], rings: vec![round; 4 * 8] };
         let Ok(mut stores) = StoresInOrder::open(&opening, stores) else { panic!("{opening:?} is refused") };
         for _ in 0..300 {
             let key = any_key(&mut random);
@@ -119,7 +119,7 @@ fn free_places_are_the_sends_taken_until_one_is_refused() {
             first_cursor: 0_u64.wrapping_sub(random.below(100)),
             ..Opening::new(1 << (round % 8), 1 + random.below(4) as usize)
         };
-        let stores = Stores { table: vec![0; 24 * 4 + 512], rings: vec![0; 4 * 128] };
+        let stores = Stores { table: vec![0; 16 * 4 + 512], rings: vec![0; 4 * 128] };
         let Ok(mut stores) = StoresInOrder::open(&opening, stores) else { panic!("{opening:?} is refused") };
         for _ in 0..600 {
             let key = any_key(&mut random);
@@ -146,7 +146,7 @@ fn a_send_sets_the_words_of_its_answer_and_no_others() {
     let sends: [(Send, u64); 2] = [(fanring_inner_try_send, 1), (fanring_inner_try_send_unsignaled, 0)];
     for (send, woken) in sends {
         let Ok(mut stores) =
-            StoresInOrder::open(&Opening::new(2, 1), Stores { table: vec![0; 536], rings: vec![0; 2] })
+            StoresInOrder::open(&Opening::new(2, 1), Stores { table: vec![0; 528], rings: vec![0; 2] })
         else {
             panic!("the opening is refused")
         };
@@ -166,7 +166,7 @@ fn a_send_sets_the_words_of_its_answer_and_no_others() {
 #[test]
 fn an_item_sets_the_words_of_its_answer_and_no_others() {
     let opening = Opening { channel_id: 7, first_generation: 3, opening_number: NUMBER, ..Opening::new(4, 1) };
-    let Ok(mut stores) = StoresInOrder::open(&opening, Stores { table: vec![0; 536], rings: vec![0; 4] }) else {
+    let Ok(mut stores) = StoresInOrder::open(&opening, Stores { table: vec![0; 528], rings: vec![0; 4] }) else {
         panic!("the opening is refused")
     };
     assert_eq!(stores.register_sender(1), Answer::Registered(LaneKey { slot: 0, generation: 3 }));
@@ -189,7 +189,7 @@ fn an_item_sets_the_words_of_its_answer_and_no_others() {
 
 #[test]
 fn a_batch_sets_the_words_of_its_answer_and_no_others() {
-    let Ok(mut stores) = StoresInOrder::open(&Opening::new(4, 1), Stores { table: vec![0; 536], rings: vec![0; 4] })
+    let Ok(mut stores) = StoresInOrder::open(&Opening::new(4, 1), Stores { table: vec![0; 528], rings: vec![0; 4] })
     else {
         panic!("the opening is refused")
     };
@@ -228,7 +228,7 @@ fn a_batch_sets_the_words_of_its_answer_and_no_others() {
 
 #[test]
 fn a_checked_call_refuses_words_not_in_order() {
-    let Ok(mut stores) = StoresInOrder::open(&Opening::new(4, 1), Stores { table: vec![0; 536], rings: vec![0; 4] })
+    let Ok(mut stores) = StoresInOrder::open(&Opening::new(4, 1), Stores { table: vec![0; 528], rings: vec![0; 4] })
     else {
         panic!("the opening is refused")
     };
