@@ -36,10 +36,10 @@ pub mod column {
     pub type Half = (usize, u32);
     const LOWER: u32 = 0;
     const UPPER: u32 = 32;
-    pub const CACHED: Half = (CREDIT, LOWER);
-    pub const UNRELEASED: Half = (CREDIT, UPPER);
-    pub const BURST: Half = (TURN, LOWER);
-    pub const WINDOW: Half = (TURN, UPPER);
+    pub const UNRELEASED: Half = (CREDIT, LOWER);
+    pub const CACHED: Half = (CREDIT, UPPER);
+    pub const WINDOW: Half = (TURN, LOWER);
+    pub const BURST: Half = (TURN, UPPER);
     pub const COUNTS: [Half; 4] = [CACHED, UNRELEASED, BURST, WINDOW];
 }
 
