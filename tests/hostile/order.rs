@@ -1,6 +1,7 @@
-//! Document 01's "A store in order", with document 02's (N6) clause of the held count, in Rust, of any words: another reading beside crate `order`, and one
-//! that shares no code with it. And what free places and a registration's slot are, of the words of stores in order. Quoted sentences are document 01's, or
-//! document 02's where it is named; the places of the words are those of the specifications Table, Header, Queue, Registry and Ready.
+//! Document 01's "A store in order", with document 02's clause of the held count (N6) and its rows of 16 words (N9), in Rust, of any words: another reading
+//! beside crate `order`, and one that shares no code with it. And what free places and a registration's slot are, of the words of stores in order. Quoted
+//! sentences are document 01's, or document 02's where it is named; the places of the words are those of the specifications Table, Header, Queue, Registry
+//! and Ready.
 
 /// A table store read by names.
 struct Table<'a>(&'a [u64]);
