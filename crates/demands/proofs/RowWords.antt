@@ -1,6 +1,6 @@
 -- The words for each slot of the table store: fewer refuse no opening that more accept, and no call speaks of them.
 -- Assumes nothing.
-use mathlib.Core.Path.{_≡_, refl, ap, _∙_}
+use mathlib.Core.Path.{_≡_, refl, ap, sym, _∙_}
 use mathlib.Core.Bool.{Bool, true, false}
 use mathlib.Core.List.{List, [], _∷_, _++_}
 use Prim.Native.Nat.{ℕ, _+_, _*_, _≤_}
@@ -18,12 +18,13 @@ use Rattle.model.specs.State.{State}
 use Rattle.model.specs.Outcome.{Outcome, says, unless}
 use Rattle.model.specs.Runs.{Lent, Tick, allRuns, handed, ticks, trace, afterList}
 use Rattle.model.specs.Receive.{outputAfter}
-use Rattle.model.specs.Opening.{nextPowerOfTwo, openedState, openingWithRows, openingOutcome}
-use Rattle.model.specs.Rules.{theRules, rulesWithRows}
-use Rattle.model.specs.RowWords.{SameWithRows, AnswersAsBeforeIn, AnswersAsBefore}
+use Rattle.model.specs.Opening.{nextPowerOfTwo, openedState, openingWithRowsOf, openingOutcome}
+use Rattle.model.specs.Rules.{theRules, rulesWithRowsOf}
+use Rattle.model.specs.RowWords.{SameWithRowsOf, AnswersAsBeforeIn, AnswersAsBefore}
+use Rattle.demands.proofs.Demand2.{unless-state}
 
 -- an opening that is accepted with m words for each slot is the same one with fewer
-same-opening : (n m : ℕ) → n ≤ m → (o : Opening) (lent : Lent) → (openingWithRows m o lent) .1 .0 ≡ Done → openingWithRows n o lent ≡ openingWithRows m o lent
+same-opening : (n m : ℕ) → n ≤ m → (o : Opening) (lent : Lent) → (openingWithRowsOf m o lent) .1 .0 ≡ Done → openingWithRowsOf n o lent ≡ openingWithRowsOf m o lent
 unfolding unless
 same-opening n m h o lent e =
     go (either (ltb (o .capacity) 1) (ltb 65536 (o .capacity))) (either (ltb (o .slots) 1) (ltb 8192 (o .slots))) (ltb (lent .rings) (o .slots * nextPowerOfTwo (o .capacity)))
@@ -47,28 +48,33 @@ same-opening n m h o lent e =
     go false false false false p q = rw (fewer p)
 
 module _ (n m : ℕ) where
-  same-calls : (s : State) (cs : List Call) → trace (rulesWithRows n) s cs ≡ trace (rulesWithRows m) s cs
+  same-calls : (s : State) (cs : List Call) → trace (rulesWithRowsOf n) s cs ≡ trace (rulesWithRowsOf m) s cs
   unfolding trace ticks handed
   same-calls s [] = refl
   same-calls s (Sender c ∷ cs) = ap (λ (ts : List Tick). ticks theRules s (Sender c) ++ ts) (same-calls ((theRules .step s (Sender c)) .1) cs)
   same-calls s (Receive c ∷ cs) = ap (λ (ts : List Tick). ticks theRules s (Receive c) ++ ts) (same-calls ((theRules .step s (Receive c)) .1) cs)
   same-calls s (Control c ∷ cs) = ap (λ (ts : List Tick). ticks theRules s (Control c) ++ ts) (same-calls ((theRules .step s (Control c)) .1) cs)
 
-  same-after : (s : State) (cs : List Call) → afterList (rulesWithRows n) s cs ≡ afterList (rulesWithRows m) s cs
+  same-after : (s : State) (cs : List Call) → afterList (rulesWithRowsOf n) s cs ≡ afterList (rulesWithRowsOf m) s cs
   unfolding afterList
   same-after s [] = refl
   same-after s (c ∷ cs) = same-after ((theRules .step s c) .1) cs
 
+-- the state after an opening goes by no length
+opened : (n : ℕ) (o : Opening) (lent : Lent) → (openingWithRowsOf n o lent) .1 .1 ≡ openedState o
+opened n o lent = unless-state _ (openedState o) Done
+
 -- of any two numbers of words, the fewer of them now
-pub same-with-rows : (n m : ℕ) → n ≤ m → (o : Opening) (lent : Lent) → SameWithRows m (rulesWithRows n) (allRuns (rulesWithRows n)) o lent
-same-with-rows n m h o lent = record {
+pub same-with-rows-of : (n m : ℕ) → n ≤ m → (o : Opening) (lent : Lent) → SameWithRowsOf m (rulesWithRowsOf n) (allRuns (rulesWithRowsOf n)) o lent
+same-with-rows-of n m h o lent = record {
   still-accepted = λ e. ap (λ (r : Outcome). r .1 .0) (same-opening n m h o lent e) ∙ e;
-  same-run = λ d e calls t. same-calls n m ((openingWithRows n o lent) .1 .1) calls ∙ ap (λ (r : Outcome). trace (rulesWithRows m) (r .1 .1) calls) (same-opening n m h o lent e);
-  same-output = λ d e calls t r out room.
+  same-run = λ d was e calls t.
+      same-calls n m ((openingWithRowsOf n o lent) .1 .1) calls ∙ ap (λ (s : State). trace (rulesWithRowsOf m) s calls) (opened n o lent ∙ sym (opened m o was));
+  same-output = λ d was e calls t r out room.
       ap (λ (s : State). outputAfter s r out)
-      (same-after n m ((openingWithRows n o lent) .1 .1) calls ∙ ap (λ (w : Outcome). afterList (rulesWithRows m) (w .1 .1) calls) (same-opening n m h o lent e));
+      (same-after n m ((openingWithRowsOf n o lent) .1 .1) calls ∙ ap (λ (s : State). afterList (rulesWithRowsOf m) s calls) (opened n o lent ∙ sym (opened m o was)));
 }
 
 pub answers-as-before : AnswersAsBefore theRules
 unfolding AnswersAsBefore AnswersAsBeforeIn openingOutcome
-answers-as-before o lent = same-with-rows 16 24 (omega arith) o lent
+answers-as-before o lent = same-with-rows-of 16 24 (omega arith) o lent

@@ -284,10 +284,10 @@ module _ (W : Viewed) (sim : Simulation W) where
       let g = h o (R .lengths lent) in
       record {
         still-accepted = λ e. sim .opens-alike o lent ∙ g .still-accepted e;
-        same-run = λ d e calls t. opened-trace W sim o lent d calls t ∙ g .same-run (accepted-too W sim o lent d) e calls tt;
-        same-output = λ d e calls t r out room.
+        same-run = λ d was e calls t. opened-trace W sim o lent d calls t ∙ g .same-run (accepted-too W sim o lent d) was e calls tt;
+        same-output = λ d was e calls t r out room.
             sim .output-alike (afterList R ((R .opens o lent) .1) calls) r out room (stays-ok W sim o lent d calls t)
-            ∙ ap (λ (s : State). theRules .output s r out) (opened-after W sim o lent d calls t) ∙ g .same-output (accepted-too W sim o lent d) e calls tt r out room;
+            ∙ ap (λ (s : State). theRules .output s r out) (opened-after W sim o lent d calls t) ∙ g .same-output (accepted-too W sim o lent d) was e calls tt r out room;
       }
 
   transfer-renumbered : NumberOnlyTellsIds theRules → NumberOnlyTellsIdsIn (W .rules) (W .runs)

@@ -30,7 +30,7 @@ use Rattle.refinement.proofs.RulesKept.{keeps-rules}
 use Rattle.refinement.proofs.Simulation.{simulates}
 use Rattle.refinement.proofs.AsRules.{each-call-as-rules, lists-as-rules, examples-of, credit-of}
 use Rattle.fanring.specs.Runs.{checkedWords, checkedCalls, theCalls}
-use Rattle.fanring.specs.Demands.{RefusalsChangeNothing, FiveExactly, CallsSimulate, CallsKeepOrder, OpensAsRules, OpensInOrder, runs, NeverFive, ItemsInOrder, AnswersTell, LanesWaitBounded, LanesWaitUnstopped, StopsOnlyAtItems, NextIsAbove, HandsOnlyAdmitted, LanesShareEqually, FreePlacesSaid, NotFullBefore, OpeningsToldApart, SavedIdsRefused, NumberOnlyTellsIds, AnswersAsBefore, NoneAfterClose, HeldIsCounted, UntrueHeldRefused, CountsSmall, RulesKept, TraceAsRules, MixedAsChecked, ExamplesHold, CreditByTable, NoLostWake, NothingWaits, KeysNeverAgain, IssuedAsAnswered}
+use Rattle.fanring.specs.Demands.{RefusalsChangeNothing, FiveExactly, CallsSimulate, CallsKeepOrder, OpensAsRules, OpensInOrder, runs, NeverFive, ItemsInOrder, AnswersTell, LanesWaitBounded, LanesWaitUnstopped, StopsOnlyAtItems, NextIsAbove, HandsOnlyAdmitted, LanesShareEqually, FreePlacesSaid, NotFullBefore, OpeningsToldApart, SavedIdsRefused, NumberOnlyTellsIds, AnswersAsBefore, NoneAfterClose, HeldIsCounted, UntrueHeldRefused, ShortTableRefused, SmallCounts, CountsSmall, RulesKept, TraceAsRules, MixedAsChecked, ExamplesHold, CreditByTable, NoLostWake, NothingWaits, KeysNeverAgain, IssuedAsAnswered}
 use Rattle.store.proofs.HeldLaws.{held-walked}
 use Rattle.fanring.proofs.CheckedLaws.{checked-five}
 use Rattle.fanring.proofs.CheckedCalls.{checked-as-inner, words-unmoved, output-left}
@@ -60,9 +60,13 @@ pub untrue-held-refused : UntrueHeldRefused
 unfolding checkedWords
 untrue-held-refused t r c n = checked-five t r (λ o. n (held-walked t r o)) _
 
-pub counts-small : CountsSmall
+pub short-table-refused : ShortTableRefused
+unfolding checkedWords
+short-table-refused t r c n = checked-five t r (λ o. absurd (omega (arith, n, o .stores .shaped .room))) _
+
+small-in-order : (t r : List ℕ) → StoreInOrder t r → SmallCounts t
 unfolding Each
-counts-small t r o x h g =
+small-in-order t r o x h g =
     let k = o .stores .lanes x h g in
     let c = k .counts in
     let C = o .stores .power .most in (
@@ -96,6 +100,10 @@ rules-kept = keeps-rules checkedCalls checked-as-inner
 pub never-refused-five : NeverFive
 unfolding StaysInOrder
 never-refused-five x c e = only-not-in-order _ _ c e (rules-kept .stays-in-order x)
+
+pub counts-small : CountsSmall
+unfolding StaysInOrder
+counts-small = record { in-runs = λ x. small-in-order _ _ (rules-kept .stays-in-order x); in-order = small-in-order }
 
 pub checked-simulate : Simulation (viewedOf checkedCalls)
 checked-simulate = simulates checkedCalls checked-as-inner

@@ -4,7 +4,8 @@
 -- Assumes nothing.
 use mathlib.Core.Path.{_≡_}
 use mathlib.Core.List.{List, [], _∷_, map}
-use Prim.Native.Nat.{ℕ, _^_, _≤_, _<_}
+use Prim.Native.Nat.{ℕ, _+_, _*_, _^_, _≤_, _<_}
+use lib.ListN.{length}
 use Rattle.model.specs.declared.Opening.{Opening}
 use Rattle.model.specs.declared.Call.{Call}
 use Rattle.model.specs.declared.Refusal.the-variants.{StoreNotInOrder}
@@ -26,7 +27,7 @@ use Rattle.model.specs.Held.{HeldAsCountedIn}
 use Rattle.model.specs.Wake.{NoLostWakeIn, NothingWaitsIn}
 use Rattle.model.specs.Keys.{KeysNeverAgainIn, IssuedAsAnsweredIn}
 use Rattle.lane.specs.Table.{laneAt}
-use Rattle.queues.specs.Header.{issued, heldCount}
+use Rattle.queues.specs.Header.{issued, slots, heldCount}
 use Rattle.store.specs.View.{view}
 use Rattle.store.specs.Order.{StoreInOrder}
 use Rattle.store.specs.Held.{walkedHeld}
@@ -147,10 +148,19 @@ HeldIsCounted = HeldAsCountedIn theCalls runs
 abbrev pub UntrueHeldRefused : Type 0
 UntrueHeldRefused = (t r : List ℕ) (c : Call) → (heldCount t ≡ walkedHeld t → ⊥) → checkedWords t r c ≡ (Refused StoreNotInOrder, t, r)
 
--- document 02, N9: "Cached, unreleased, burst and window counts never exceed 65,536": of each lane of stores in order, which is what every call leaves
-abbrev pub CountsSmall : Type 0
-CountsSmall = (t r : List ℕ) → StoreInOrder t r → (x : ℕ) → x < issued t → let l = laneAt t x in l .registered ≡ 1
-    → Each (λ n. n ≤ 65536) (l .cached ∷ l .unreleased ∷ l .burst ∷ l .window ∷ [])
+-- document 02, N9: "The table store is then 16 × S + 512 words": one that is shorter is not in order, and every call is refused 5 and changes no word
+abbrev pub ShortTableRefused : Type 0
+ShortTableRefused = (t r : List ℕ) (c : Call) → length t < 16 * slots t + 512 → checkedWords t r c ≡ (Refused StoreNotInOrder, t, r)
+
+-- the four counts of each lane of a table store are at most 65,536
+abbrev pub SmallCounts : List ℕ → Type 0
+SmallCounts t = (x : ℕ) → x < issued t → let l = laneAt t x in l .registered ≡ 1 → Each (λ n. n ≤ 65536) (l .cached ∷ l .unreleased ∷ l .burst ∷ l .window ∷ [])
+
+-- document 02, N9: "Cached, unreleased, burst and window counts never exceed 65,536"
+pub record CountsSmall : Type 0 where
+  pub in-runs : (x : Run) → SmallCounts ((storesAfter checkedCalls x) .0)
+  -- and in any stores in order
+  pub in-order : (t r : List ℕ) → StoreInOrder t r → SmallCounts t
 
 -- document 01's sentences on order kept, the poll budget, turns of 64, collections, where receives end, Disconnected and Empty, refusal 13, signals, first cursors
 -- and queued keys, and document 02's on registrations and the free list (N4), on a batch that stops (N2) and on the held count (N6), one field for each

@@ -6,8 +6,8 @@ ghost use Rattle.lane.specs.Table.{rowWords, laneWords, HasRow, cell, se
 use crate::lane::Lane;
 use model::LaneKey;
 
-// One more than the largest half of a word. Counts are two to a word, cut to 32 bits, which hold all counts of a lane in order.
-// The lower halves are those that are tested alone.
+// 2^32. Counts are two to a word, cut to 32 bits, which hold all counts of a lane in order. Unreleased and window, which some
+// calls test alone, are the lower halves.
 const HALF: u64 = 4294967296;
 
 impl Lane {

@@ -45,8 +45,8 @@ openedState o = record {
 -- "capacity 0 or above 65,536"; "S 0 or above 8,192"; "ring store short"; "table store short"
 -- "Opening lends a ring store of at least S × C u64 words", and a table store of at least n × S + 512.
 -- There is no state before an opening, so the one named with a refusal says nothing.
-abbrev pub openingWithRows : ℕ → Opening → Lent → Outcome
-openingWithRows n o lent =
+abbrev pub openingWithRowsOf : ℕ → Opening → Lent → Outcome
+openingWithRowsOf n o lent =
     unless
     ((either (ltb (o .capacity) 1) (ltb 65536 (o .capacity)), CapacityOutOfRange)
     ∷ (either (ltb (o .slots) 1) (ltb 8192 (o .slots)), SlotsOutOfRange)
@@ -56,4 +56,4 @@ openingWithRows n o lent =
 
 -- document 02, N9: "The table store is then 16 × S + 512 words, the length refusal 4 now tests."
 unfoldable pub openingOutcome : Opening → Lent → Outcome
-openingOutcome o lent = openingWithRows 16 o lent
+openingOutcome o lent = openingWithRowsOf 16 o lent

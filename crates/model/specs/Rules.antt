@@ -10,14 +10,14 @@ use Rattle.model.specs.Runs.{Lent, Rules}
 use Rattle.model.specs.Sender.{senderOutcome}
 use Rattle.model.specs.Receive.{receiveOutcome, outputAfter}
 use Rattle.model.specs.Control.{controlOutcome}
-use Rattle.model.specs.Opening.{openingWithRows, openingOutcome}
+use Rattle.model.specs.Opening.{openingWithRowsOf, openingOutcome}
 
 unfoldable pub outcome : State → Call → Outcome
 outcome s (Sender c) = senderOutcome s c
 outcome s (Receive r) = receiveOutcome s r
 outcome s (Control c) = controlOutcome s c
 
--- Document 01's calls, from an opening of any kind on.
+-- Document 01's calls, after the opening that is given.
 abbrev pub rulesFrom : (Opening → Lent → Outcome) → Rules
 rulesFrom opening = record {
   State = State;
@@ -33,6 +33,6 @@ rulesFrom opening = record {
 abbrev pub theRules : Rules
 theRules = rulesFrom openingOutcome
 
--- The rules with n words of the table store for each slot: only the opening speaks of them.
-abbrev pub rulesWithRows : ℕ → Rules
-rulesWithRows n = rulesFrom (openingWithRows n)
+-- The rules with rows of n words, n words of the table store for each slot: only the opening speaks of them.
+abbrev pub rulesWithRowsOf : ℕ → Rules
+rulesWithRowsOf n = rulesFrom (openingWithRowsOf n)

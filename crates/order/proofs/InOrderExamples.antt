@@ -4,10 +4,10 @@ use mathlib.Core.Path.{_≡_, refl}
 use mathlib.Core.Bool.{Bool, true, false, not}
 use mathlib.Core.List.{List, [], _∷_, _++_}
 use Prim.Native.Nat.{ℕ}
-use lib.ListN.{replicate, set, take}
+use lib.ListN.{replicate, getD, set, take}
 use Rattle.model.specs.Lists.{both, either, count, same, keep, from}
 use Rattle.model.specs.State.{releaseBatch}
-use Rattle.lane.specs.Table.{packed, cellAt, laneAt}
+use Rattle.lane.specs.Table.{packed, cellAt, words, ofWords, laneAt}
 use Rattle.queues.specs.Queue.{queueOf}
 use Rattle.queues.specs.Registry.{freeOf}
 use Rattle.store.specs.Held.{heldIn, heldFrom}
@@ -72,8 +72,8 @@ laneChanges =
     ∷ ((cellAt 2 1, 18446744073709551616) ∷ []) ∷ ((cellAt 3 1, 18446744073709551616) ∷ []) ∷ ((cellAt 4 1, 18446744073709551616) ∷ [])
     -- cached, unreleased, the burst below the window, the burst above 63
     ∷ ((cellAt 5 0, packed 1 2) ∷ []) ∷ ((cellAt 5 0, packed 0 1) ∷ []) ∷ ((cellAt 6 0, packed 1 0) ∷ []) ∷ ((cellAt 6 0, packed 1 64) ∷ [])
-    -- a half whose upper bits are set, in either place
-    ∷ ((cellAt 5 0, packed 1 65537) ∷ []) ∷ ((cellAt 5 0, packed 65537 1) ∷ []) ∷ ((cellAt 6 0, packed 4294967295 1) ∷ [])
+    -- a half whose upper bits are set, each of the four
+    ∷ ((cellAt 6 0, packed 1 65537) ∷ []) ∷ ((cellAt 5 0, packed 1 65537) ∷ []) ∷ ((cellAt 5 0, packed 65537 1) ∷ []) ∷ ((cellAt 6 0, packed 4294967295 1) ∷ [])
     -- unreleased no longer below the batch
     ∷ ((cellAt 1 1, 2) ∷ (cellAt 3 1, 2) ∷ (cellAt 4 1, 2) ∷ (cellAt 5 1, packed 2 0) ∷ (16, 2) ∷ [])
     -- pending, queued, paused, registered, living no flags
@@ -96,6 +96,21 @@ listChanges =
     ∷ ((cellAt 14 0, 18446744073709551618) ∷ []) ∷ ((cellAt 15 0, 18446744073709551617) ∷ [])
     ∷ ((cellAt 14 0, 10) ∷ []) ∷ ((cellAt 15 0, 0) ∷ []) ∷ ((cellAt 15 0, 3) ∷ [])
     ∷ []
+
+-- words 5 and 6 by numerals: unreleased 2 and cached 3, window 4 and burst 5
+halves : ℕ → ℕ
+halves column = getD (0 ∷ 0 ∷ 0 ∷ 0 ∷ 0 ∷ 12884901890 ∷ 21474836484 ∷ []) column 0
+
+pub halves-read :
+    let l = ofWords 0 halves in
+    (_≡_ {A = List ℕ} (l .unreleased ∷ l .cached ∷ l .window ∷ l .burst ∷ []) (2 ∷ 3 ∷ 4 ∷ 5 ∷ []))
+    × (getD (words l) 5 0 ≡ 12884901890) × (getD (words l) 6 0 ≡ 21474836484)
+unfolding halves
+halves-read = (refl, refl, refl)
+
+-- counts in order: the front lane's burst above its window; anything in the counts of a slot without a lane
+abbrev pub countsTrue : List (List Change)
+countsTrue = ((cellAt 6 0, 8589934593) ∷ []) ∷ ((cellAt 5 2, 18446744073709551615) ∷ (cellAt 6 2, 18446744073709551615) ∷ []) ∷ []
 
 -- the held count untrue
 abbrev pub heldChanges : List (List Change)
@@ -132,7 +147,7 @@ abbrev pub shortInOrder : Bool
 shortInOrder = either (inOrder (take 559 table) rings) (either (inOrder table (replicate 5 0)) (inOrder [] []))
 
 pub in-order-examples : (inOrder table rings ≡ true) × (shortInOrder ≡ false) × (noneInOrder headerChanges ≡ true) × (noneInOrder laneChanges ≡ true)
-    × (noneInOrder listChanges ≡ true) × (noneInOrder heldChanges ≡ true) × (allInOrder heldTrue ≡ true)
+    × (noneInOrder listChanges ≡ true) × (noneInOrder heldChanges ≡ true) × (allInOrder heldTrue ≡ true) × (allInOrder countsTrue ≡ true)
     × (inOrder (empty 0) (0 ∷ []) ≡ true) × (inOrder (empty 1) (0 ∷ []) ≡ false)
 unfolding inOrder headerTest lengthsTest placesTest limitsTest capacityTest namesTest slotsTest slotTest flagsTest registeredTest unregisteredTest laneTest cursorsTest amountsTest fastTest countsTest pagesTest pageTest groupsTest groupTest allBelow someBelow registeredBelow livingBelow heldFrom heldIn queueOf freeOf laneAt count same keep from releaseBatch noneInOrder allInOrder changed
-in-order-examples = (refl, refl, refl, refl, refl, refl, refl, refl, refl)
+in-order-examples = (refl, refl, refl, refl, refl, refl, refl, refl, refl, refl)

@@ -1,22 +1,19 @@
 -- The words for each slot: openings at the edge of refusal 4, computed, and rules that the claim on answers of before shuts out.
 -- Assumes nothing.
-use mathlib.Core.Path.{_≡_, refl, sym, ap}
-use mathlib.Core.Bool.{false}
-use mathlib.Core.List.{List, [], _∷_}
+use mathlib.Core.Path.{refl, sym, ap}
+use mathlib.Core.List.{[], _∷_}
 use Prim.Native.Nat.{ℕ}
-use lib.Dec.{eqb}
 use borrow.Author.Tests.{eqb-false}
 use Rattle.model.specs.declared.Opening.{Opening}
 use Rattle.model.specs.declared.ReceiveCall.the-variants.{TryRecvBatchInto}
-use Rattle.model.specs.declared.Call.{Call}
 use Rattle.model.specs.declared.Refusal.the-variants.{TableStoreShort}
 use Rattle.model.specs.declared.Answer.{Answer}
 use Rattle.model.specs.declared.Answer.the-variants.{Done, Refused}
 use Rattle.model.specs.Answers.{number, line}
-use Rattle.model.specs.Runs.{Lent, Rules, accepted, handed, ticks, trace, afterList}
+use Rattle.model.specs.Runs.{Lent, accepted, handed, ticks, trace, afterList}
 use Rattle.model.specs.Receive.{writtenTo, outputAfter}
-use Rattle.model.specs.Opening.{openingWithRows}
-use Rattle.model.specs.Rules.{rulesWithRows}
+use Rattle.model.specs.Opening.{openingWithRowsOf}
+use Rattle.model.specs.Rules.{rulesWithRowsOf}
 use Rattle.model.specs.Demand2.{HasRoom}
 use Rattle.model.specs.RowWords.{AnswersAsBeforeIn, AnswersAsBefore}
 use Rattle.model.specs.ShutOut.{callBy, countsNone, heldZero, outputBy, numberedWritesNothing}
@@ -27,7 +24,7 @@ use Rattle.model.specs.Examples.FreePlaces.{untrue}
 use Rattle.model.specs.Examples.Mistaken.{sends}
 use Rattle.model.specs.Examples.Renumbered.{numbersIn, firstWord}
 
--- one slot, a ring of one word
+-- one slot, a ring of one word; an opening number other than 0, as `numberedWritesNothing` goes wrong only with such a one
 one : Opening
 one = record { capacity = 1; slots = 1; channel = 0; cursor = 0; generation = 0; number = 1 }
 
@@ -36,7 +33,7 @@ lent words = record { rings = 1; table = words }
 
 -- with so many words for each slot, and a table store of so many
 opens : ℕ × ℕ → Answer
-opens a = (openingWithRows (a .0) one (lent (a .1))) .1 .0
+opens a = (openingWithRowsOf (a .0) one (lent (a .1))) .1 .0
 
 -- 24 + 512 is enough under both lengths, 16 + 512 under the new one
 rows-read :
@@ -55,7 +52,7 @@ unfolding compute computeExamples number line one lent sends accepted handed tic
 computeRows = tt
 
 -- a word more for each slot: an opening that was accepted is refused
-longer-rows : AnswersAsBefore (rulesWithRows 25) → ⊥
+longer-rows : AnswersAsBefore (rulesWithRowsOf 25) → ⊥
 unfolding computeRows AnswersAsBefore AnswersAsBeforeIn
 longer-rows h = untrue (sym (ap accepted ((h one (lent 536)) .still-accepted refl)))
 
@@ -64,10 +61,10 @@ held-zero : AnswersAsBefore heldZero → ⊥
 unfolding computeRows AnswersAsBefore AnswersAsBeforeIn
 held-zero h =
     let calls = registers ∷ sends 0 0 5 ∷ held ∷ [] in
-    eqb-false 1 2 refl (ap numbersIn ((h one (lent 536)) .same-run refl refl calls tt))
+    eqb-false 1 2 refl (ap numbersIn ((h one (lent 536)) .same-run refl (lent 536) refl calls tt))
 
 -- a batch that writes nothing
 writes-nothing : AnswersAsBefore numberedWritesNothing → ⊥
 unfolding computeRows afterList outputBy writtenTo outputAfter firstWord AnswersAsBefore AnswersAsBeforeIn HasRoom
 writes-nothing h =
-    eqb-false 9 5 refl (ap firstWord ((h one (lent 536)) .same-output refl refl (registers ∷ sends 0 0 5 ∷ []) tt (TryRecvBatchInto 1 2) (9 ∷ 9 ∷ []) refl))
+    eqb-false 9 5 refl (ap firstWord ((h one (lent 536)) .same-output refl (lent 536) refl (registers ∷ sends 0 0 5 ∷ []) tt (TryRecvBatchInto 1 2) (9 ∷ 9 ∷ []) refl))
