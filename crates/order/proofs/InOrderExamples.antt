@@ -98,14 +98,13 @@ listChanges =
     ∷ []
 
 -- words 5 and 6 by numerals: unreleased 2 and cached 3, window 4 and burst 5
-halves : ℕ → ℕ
+abbrev pub halves : ℕ → ℕ
 halves column = getD (0 ∷ 0 ∷ 0 ∷ 0 ∷ 0 ∷ 12884901890 ∷ 21474836484 ∷ []) column 0
 
 pub halves-read :
     let l = ofWords 0 halves in
     (_≡_ {A = List ℕ} (l .unreleased ∷ l .cached ∷ l .window ∷ l .burst ∷ []) (2 ∷ 3 ∷ 4 ∷ 5 ∷ []))
     × (getD (words l) 5 0 ≡ 12884901890) × (getD (words l) 6 0 ≡ 21474836484)
-unfolding halves
 halves-read = (refl, refl, refl)
 
 -- counts in order: the front lane's burst above its window; anything in the counts of a slot without a lane
