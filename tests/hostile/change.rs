@@ -95,10 +95,11 @@ impl Episode<'_> {
         }
     }
 
-    /// Counts of a row changed in their halves: one of them alone, two by the same amount or against each other, or two that share a word exchanged.
+    /// Counts of a row changed in their halves: one of them alone, or to what another is or one more or less; two by the same amount or against each other; or
+    /// two that share a word exchanged.
     fn change_counts(&mut self, table: &mut [u64], row: usize) {
         let [count, other] = [self.random.pick(&COUNTS), self.random.pick(&COUNTS)];
-        match self.random.below(8) {
+        match self.random.below(11) {
             0..=3 => {
                 let new = self.other_half(half(table, row, count));
                 set_half(table, row, count, new);
@@ -107,6 +108,10 @@ impl Episode<'_> {
                 let by = self.random.pick(&[1, 2, u32::MAX, u32::MAX - 1, 64]);
                 add_to_half(table, row, count, by);
                 add_to_half(table, row, other, if self.random.one_in(2) { by } else { by.wrapping_neg() });
+            }
+            6..=8 => {
+                let near = half(table, row, other).wrapping_add(self.random.pick(&[0, 1, u32::MAX]));
+                set_half(table, row, count, near);
             }
             _ => table[row + count.0] = table[row + count.0].rotate_left(32),
         }

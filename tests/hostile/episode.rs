@@ -193,6 +193,18 @@ impl<'a> Episode<'a> {
         assert!(self.open([capacity, slots, channel, cursor, generation, opening]));
     }
 
+    /// Items of one lane sent and some of them received, so that there is mostly a window.
+    pub fn begin_turn(&mut self) {
+        let [slot, generation] = self.key();
+        for _ in 0..2 + self.random.below(70) {
+            let item = self.random.next();
+            self.call(&Record::new(SEND, &[slot, generation, item]));
+        }
+        for _ in 0..1 + self.random.below(6) {
+            self.call(&Record::new(PLAIN, &[]));
+        }
+    }
+
     /// A run of calls, now and then one many times over.
     pub fn run(&mut self, length: u64) {
         for _ in 0..length {

@@ -13,6 +13,9 @@ impl Episode<'_> {
         } else {
             let length = 1 + self.random.below(120);
             self.run(length);
+            if self.random.one_in(2) {
+                self.begin_turn();
+            }
         }
         assert!(self.bench.in_order(), "the stores after a run");
         let (table, rings, keys) = (self.bench.table().to_vec(), self.bench.rings().to_vec(), self.keys.clone());
