@@ -38,7 +38,7 @@ setCell t column slot v = set t (cellAt column slot) v
 abbrev pub HasRow : ℕ → ℕ → Type 0
 HasRow slot words = cellAt rowWords slot ≤ words
 
--- "They are stored in 32 bits, two to a word": 2^32, which what half of a word holds is below, and a word's two halves
+-- "They are stored in 32 bits, two to a word": 2^32, and the lower and the upper half of a word
 abbrev pub half : ℕ
 half = 4294967296
 
