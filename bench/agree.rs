@@ -1,7 +1,6 @@
-//! The self-test: original, plain ring and library answer random calls alike, the library's metered receives too.
+//! The self-test: original, plain ring and library answer random calls alike.
 
 use crate::library::Library;
-use crate::metered::Metered;
 use crate::original::Original;
 use crate::plain::Plain;
 use crate::random::Random;
@@ -25,7 +24,6 @@ struct Stream {
     plain: Plain,
     inner: Library<false>,
     checked: Library<true>,
-    metered: Metered,
     /// The lanes, and the living senders among them; then the living senders of closed lanes.
     lanes: Vec<Key>,
     senders: Vec<Key>,
@@ -41,7 +39,6 @@ macro_rules! same {
         assert_eq!(answer, $stream.plain.$call($($argument),*), "the plain ring, {}", stringify!($call));
         assert_eq!(answer, $stream.inner.$call($($argument),*), "the inner calls, {}", stringify!($call));
         assert_eq!(answer, $stream.checked.$call($($argument),*), "the checked calls, {}", stringify!($call));
-        assert_eq!(answer, $stream.metered.$call($($argument),*), "metered, {}", stringify!($call));
         answer
     }};
 }
@@ -56,7 +53,6 @@ impl Stream {
             plain: Plain::open(capacity, slots),
             inner: Library::open(capacity, slots),
             checked: Library::open(capacity, slots),
-            metered: Metered::open(capacity, slots),
             lanes: vec![first],
             senders: vec![first],
             closed: Vec::new(),

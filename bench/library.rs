@@ -14,9 +14,9 @@ const HELD: u64 = 7;
 const STOPPED: u64 = 9;
 const FULL: u64 = 11;
 
-pub const CHANNEL: u64 = 7;
+const CHANNEL: u64 = 7;
 /// The opening number.
-pub const OPENING: u64 = 3;
+const OPENING: u64 = 3;
 /// The most items of a batch.
 const OUTPUT: usize = 4096;
 
@@ -79,10 +79,10 @@ calls! {
 pub struct Library<const CHECKED: bool> {
     capacity: usize,
     slots: usize,
-    pub table: Vec<u64>,
-    pub rings: Vec<u64>,
-    pub words: Words,
-    pub output: Vec<u64>,
+    table: Vec<u64>,
+    rings: Vec<u64>,
+    words: Words,
+    output: Vec<u64>,
     count: usize,
 }
 
@@ -103,7 +103,7 @@ impl<const CHECKED: bool> Library<CHECKED> {
     }
 
     #[inline(always)]
-    pub fn taken(&mut self, tag: u64) -> Batch {
+    fn taken(&mut self, tag: u64) -> Batch {
         self.count = if tag == ITEMS || tag == STOPPED { self.words[0] as usize } else { 0 };
         match tag {
             ITEMS => Batch::Items(self.count),
@@ -114,7 +114,7 @@ impl<const CHECKED: bool> Library<CHECKED> {
     }
 
     #[inline(always)]
-    pub fn received(&self, tag: u64) -> Received {
+    fn received(&self, tag: u64) -> Received {
         match tag {
             ITEM => {
                 let [item, channel, slot, generation, opening, ..] = self.words;

@@ -27,14 +27,13 @@ mod wait;
 mod agree;
 mod library;
 mod measure;
-mod metered;
 mod original;
 mod plain;
 #[allow(dead_code)]
 mod random;
 mod side;
 
-use measure::{COUNT, COUNT_PLACES, Effort, HELD, HELD_PLACES, PLACES, metered_name, metered_places};
+use measure::{Effort, HELD, HELD_PLACES, PLACES};
 
 fn main() {
     let mut effort = Effort { rounds: 30, seconds: 0.5 };
@@ -51,10 +50,6 @@ fn main() {
                     place.hows.iter().for_each(|how| println!("{}\t{}", how.name(), place.name));
                 }
                 HELD_PLACES.iter().for_each(|(place, ..)| println!("{HELD}\t{place}"));
-                for place in metered_places() {
-                    place.hows.iter().for_each(|&how| println!("{}\t{}", metered_name(how), place.name));
-                }
-                COUNT_PLACES.iter().for_each(|(place, _)| println!("{COUNT}\t{place}"));
                 return;
             }
             _ => panic!("options: --rounds N, --seconds N, --only CALL PLACE, --list"),
@@ -77,18 +72,6 @@ fn main() {
     for place in HELD_PLACES {
         if asked(HELD, place.0) {
             measure::held(place, effort);
-        }
-    }
-    for place in metered_places() {
-        for &how in place.hows {
-            if asked(&metered_name(how), place.name) {
-                measure::metered(place, how, effort);
-            }
-        }
-    }
-    for place in COUNT_PLACES {
-        if asked(COUNT, place.0) {
-            measure::counts(place, effort);
         }
     }
 }

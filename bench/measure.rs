@@ -4,7 +4,6 @@ use std::hint::black_box;
 use std::time::Instant;
 
 use crate::library::Library;
-use crate::metered::{MOST, Metered};
 use crate::original::Original;
 use crate::plain::Plain;
 use crate::side::{Batch, Holds, Key, LaneId, Received, Sent, Side};
@@ -202,61 +201,6 @@ pub fn receives(place: &Place, how: How, effort: Effort) {
     plain.tell(place.name, calls);
     inner.tell(place.name, calls);
     checked.tell(place.name, calls);
-}
-
-/// The name of a receive that is metered.
-pub fn metered_name(how: How) -> String {
-    format!("{}, metered", how.name())
-}
-
-/// Where metered receives are measured beside the receives themselves.
-pub fn metered_places() -> impl Iterator<Item = &'static Place> {
-    PLACES.iter().filter(|place| place.lanes <= 64)
-}
-
-/// One kind of receive at one place, by the inner calls and by the metered inner calls, with the longest window.
-pub fn metered(place: &Place, how: How, effort: Effort) {
-    let mut inner = Run::new(Library::<false>::with_lanes(place.capacity, place.lanes));
-    let mut metered = Run::new(Metered::with_window(place.capacity, place.lanes, MOST));
-    let mut more = true;
-    while more {
-        more = inner.go(effort, |side| round(side, place, how));
-        more |= metered.go(effort, |side| round(side, place, how));
-    }
-    let name = metered_name(how);
-    inner.tell(place.name, ["", &name]);
-    metered.tell(place.name, ["", &name]);
-}
-
-pub const COUNT: &str = "count";
-/// Where the count of a key is measured: the items in the window, which is full.
-pub const COUNT_PLACES: [(&str, usize); 3] = [("1 item", 1), ("64 items", 64), ("1,024 items", MOST)];
-
-fn count_keys(side: &mut Metered, window: usize) -> [f64; 1] {
-    const CALLS: usize = 1000;
-    let start = Instant::now();
-    let mut sum = 0;
-    for _ in 0..CALLS {
-        sum += black_box(&mut *side).count(Key { slot: 0, generation: 0 });
-    }
-    let took = since(start, CALLS);
-    // Every second item of the window is of lane 0.
-    assert_eq!(sum, (CALLS * window.div_ceil(2)) as u64);
-    [took]
-}
-
-/// Of the library alone, as no other side has a meter.
-pub fn counts((place, window): (&str, usize), effort: Effort) {
-    let mut side = Metered::with_window(MOST, 2, window);
-    // The last item is of lane 0.
-    for turn in 0..=MOST as u64 {
-        let key = Key { slot: turn % 2, generation: 0 };
-        assert!(matches!(side.try_send(key, turn), Sent::Taken(_)));
-        assert!(matches!(side.try_recv(), Received::Item(..)));
-    }
-    let mut metered = Run::new(side);
-    while metered.go(effort, |side| count_keys(side, window)) {}
-    metered.tell(place, [COUNT]);
 }
 
 const NEW: usize = 64;

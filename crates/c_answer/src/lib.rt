@@ -1,2 +1,3 @@
+#![tactic(auto)]
 // An answer for C and Rust to read: a tag, with its numbers in lent words.
 pub mod answer;

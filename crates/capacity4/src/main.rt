@@ -1,3 +1,4 @@
+#![tactic(auto)]
 // Document 01's example of credit: "C 4, sends 1 to 4: taken; 5: refusal 11. After one to three
 // plain receives still 11; after the fourth, taken." A line for each call, and what it answers.
 ghost use Rattle.std.specs.Prelude.{◌≡◌, false};

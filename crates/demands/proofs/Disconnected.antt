@@ -337,15 +337,18 @@ unfolding is_disconnected
 disconnected_then o (turned_away n) e = absurd (not_disconnected {a = Refused n} refl e)
 disconnected_then o (Found g l a t h) e = absurd (h e)
 disconnected_then o (stopped l n t y h) e = absurd (not_disconnected {a = Stopped n} refl e)
-disconnected_then o (found_nothing k (sender_lives z)) e = absurd (not_disconnected {a = Empty} refl e)
-disconnected_then o (found_nothing k (lane_left z l)) e = absurd (not_disconnected {a = Empty} refl e)
-disconnected_then o (found_nothing {p} k (none_left z l)) e =
-    let n = no_sender_of p (k.ordered o) z in
-    record {
-      no_item = refl;
-      no_sender = no_living (retire_empty_paused_dropped (from 0 p.issued) p n) n;
-      no_lane = no_lane_of _ (retire_empty_paused_ordered (from 0 p.issued) p (k.ordered o)) l;
-    }
+disconnected_then o (found_nothing {p} k m) e = go m e
+  where
+    go : {q : Outcome} → Nothing p q → q.1.0 ≡ Disconnected → DrainedIn q
+    go (sender_lives z) e = absurd (not_disconnected {a = Empty} refl e)
+    go (lane_left z l) e = absurd (not_disconnected {a = Empty} refl e)
+    go (none_left z l) e =
+        let n = no_sender_of p (k.ordered o) z in
+        record {
+          no_item = refl;
+          no_sender = no_living (retire_empty_paused_dropped (from 0 p.issued) p n) n;
+          no_lane = no_lane_of _ (retire_empty_paused_ordered (from 0 p.issued) p (k.ordered o)) l;
+        }
 
 lane_there : (t : State) (y : ℕ) → (t.slot_of y).registered ≡ true → NoLaneRegistered t → ⊥
 unfolding NoLaneRegistered
@@ -356,9 +359,12 @@ unfolding accepted
 only_then w (turned_away n) a d = absurd (no a refl)
 only_then w (Found g l b t h) a d = absurd (clash d.no_item)
 only_then w (stopped l n t y h) a d = absurd (lane_there t y (h w) d.no_lane)
-only_then w (found_nothing k (sender_lives z)) a d = absurd (omega (arith, senders_zero _ d.no_sender))
-only_then w (found_nothing k (lane_left z l)) a d = absurd (omega (arith, lanes_zero _ d.no_lane))
-only_then w (found_nothing k (none_left z l)) a d = refl
+only_then w (found_nothing {p} k m) a d = go m d
+  where
+    go : {q : Outcome} → Nothing p q → DrainedIn q → q.1.0 ≡ Disconnected
+    go (sender_lives z) d = absurd (omega (arith, senders_zero _ d.no_sender))
+    go (lane_left z l) d = absurd (omega (arith, lanes_zero _ d.no_lane))
+    go (none_left z l) d = refl
 
 pub disconnected_exactly : DisconnectedExactly rules_viewed
 unfolding DisconnectedExactly outcome
@@ -399,9 +405,12 @@ unfolding accepted left says_stopped
 retires o (turned_away n) a e w l = absurd (no a refl)
 retires o (Found g k b t h) a e w l = absurd (clash e)
 retires o (stopped k n t y h) a e w l = absurd (no refl w)
-retires o (found_nothing k (sender_lives z)) a e w l = absurd (omega (arith, senders_zero _ l))
-retires o (found_nothing {p} k (lane_left z r)) a e w l = empty_ones_retired _ p k.quiet k.only_dropped (k.ordered o) (no_sender_of p (k.ordered o) z)
-retires o (found_nothing {p} k (none_left z r)) a e w l = empty_ones_retired _ p k.quiet k.only_dropped (k.ordered o) (no_sender_of p (k.ordered o) z)
+retires {s} o (found_nothing {p} k m) a e w l = go m l
+  where
+    go : {q : Outcome} → Nothing p q → NoSenderLives q.1.1 → EmptyOnesRetired s q.1.1
+    go (sender_lives z) l = absurd (omega (arith, senders_zero _ l))
+    go (lane_left z r) l = empty_ones_retired _ p k.quiet k.only_dropped (k.ordered o) (no_sender_of p (k.ordered o) z)
+    go (none_left z r) l = empty_ones_retired _ p k.quiet k.only_dropped (k.ordered o) (no_sender_of p (k.ordered o) z)
 
 pub retires_empty_paused : RetiresEmptyPaused rules_viewed
 unfolding RetiresEmptyPaused outcome
@@ -418,11 +427,14 @@ unfolding accepted left NoLaneRegistered says_stopped
 keeps_paused o (turned_away n) a e w l x r h i = absurd (no a refl)
 keeps_paused o (Found g k b t f) a e w l x r h i = absurd (clash e)
 keeps_paused o (stopped k n t y f) a e w l x r h i = absurd (no refl w)
-keeps_paused o (found_nothing k (sender_lives z)) a e w l x r h i = absurd (omega (arith, senders_zero _ l))
-keeps_paused o (found_nothing {p} k (lane_left z m)) a e w l x r h i = (refl, same_lane ((left_quiet _ p k.quiet k.only_dropped (k.ordered o) (no_sender_of p (k.ordered o) z)).each x) r h i)
-keeps_paused o (found_nothing {p} k (none_left z m)) a e w l x r h i =
-    let j = same_lane ((left_quiet _ p k.quiet k.only_dropped (k.ordered o) (no_sender_of p (k.ordered o) z)).each x) r h i in
-    absurd (no j.still_registered (no_lane_of _ (retire_empty_paused_ordered (from 0 p.issued) p (k.ordered o)) m x))
+keeps_paused {s} o (found_nothing {p} k n) a e w l x r h i = go n l
+  where
+    go : {q : Outcome} → Nothing p q → NoSenderLives q.1.1 → (q.1.0 ≡ Empty) × SameLane (s.slot_of x) (q.1.1.slot_of x)
+    go (sender_lives z) l = absurd (omega (arith, senders_zero _ l))
+    go (lane_left z m) l = (refl, same_lane ((left_quiet _ p k.quiet k.only_dropped (k.ordered o) (no_sender_of p (k.ordered o) z)).each x) r h i)
+    go (none_left z m) l =
+        let j = same_lane ((left_quiet _ p k.quiet k.only_dropped (k.ordered o) (no_sender_of p (k.ordered o) z)).each x) r h i in
+        absurd (no j.still_registered (no_lane_of _ (retire_empty_paused_ordered (from 0 p.issued) p (k.ordered o)) m x))
 
 pub empty_with_paused_items : EmptyWithPausedItems rules_viewed
 unfolding EmptyWithPausedItems outcome
@@ -457,9 +469,12 @@ unfolding accepted says_stopped
 paused_left o g (turned_away n) a e w l x r = absurd (no a refl)
 paused_left o g (Found j k b t f) a e w l x r = absurd (clash e)
 paused_left o g (stopped k n t y f) a e w l x r = absurd (no refl w)
-paused_left o g (found_nothing k (sender_lives z)) a e w l x r = absurd (omega (arith, senders_zero _ l))
-paused_left {s} o g (found_nothing {p} k (lane_left z m)) a e w l x r = left_paused s p o g k z x r
-paused_left {s} o g (found_nothing {p} k (none_left z m)) a e w l x r = left_paused s p o g k z x r
+paused_left {s} o g (found_nothing {p} k n) a e w l x r = go n l r
+  where
+    go : {q : Outcome} → Nothing p q → NoSenderLives q.1.1 → (q.1.1.slot_of x).registered ≡ true → PausedWithItems (q.1.1.slot_of x)
+    go (sender_lives z) l r = absurd (omega (arith, senders_zero _ l))
+    go (lane_left z m) l r = left_paused s p o g k z x r
+    go (none_left z m) l r = left_paused s p o g k z x r
 
 pub only_paused_items_left : OnlyPausedItemsLeft rules_viewed
 unfolding OnlyPausedItemsLeft outcome

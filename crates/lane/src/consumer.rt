@@ -7,7 +7,7 @@ use crate::lane::Lane;
 use yring::ring;
 use yring::ring::Ring;
 
-#[derive(Drop)]
+#[derive(Clone, Copy)]
 pub struct Taken {
     pub item: u64,
     pub lane: Lane,

@@ -40,7 +40,7 @@ use yring::ring::Ring;
 use yring::{num, ring};
 
 // Flags are words that hold 0 or 1, so that a record loaded and stored is the same words.
-#[derive(Drop)]
+#[derive(Clone, Copy)]
 pub struct Lane {
     pub key: LaneKey,
     // The sender's cursors: where it stores next, and the head published to it.
@@ -64,33 +64,33 @@ pub struct Lane {
     pub living: u64,
 }
 
-#[derive(Drop)]
+#[derive(Clone, Copy)]
 pub enum Popped {
     Item { item: u64, lane: Lane },
     Nothing { lane: Lane },
 }
 
-#[derive(Drop)]
+#[derive(Clone, Copy)]
 pub struct Released {
     pub lane: Lane,
     pub released: bool,
 }
 
 // A lane that was found empty. The Rust's `EmptyLane::Keep` never occurs: see `keep_never`.
-#[derive(Drop)]
+#[derive(Clone, Copy)]
 pub struct EmptyLane {
     pub lane: Lane,
     pub disconnected: bool,
     pub released: bool,
 }
 
-#[derive(Drop)]
+#[derive(Clone, Copy)]
 pub enum Refill {
     Ready { lane: Lane },
     Idle { found: EmptyLane },
 }
 
-#[derive(Drop)]
+#[derive(Clone, Copy)]
 pub enum LanePoll {
     Item {
         item: u64,
@@ -103,20 +103,20 @@ pub enum LanePoll {
     },
 }
 
-#[derive(Drop)]
+#[derive(Clone, Copy)]
 pub struct Targeted {
     pub item: u64,
     pub lane: Lane,
     pub released: bool,
 }
 
-#[derive(Drop)]
+#[derive(Clone, Copy)]
 pub struct BurstEnd {
     pub lane: Lane,
     pub ended: bool,
 }
 
-#[derive(Drop)]
+#[derive(Clone, Copy)]
 pub struct Reloaded {
     pub lane: Lane,
     pub empty: bool,

@@ -5,7 +5,7 @@ ghost use Rattle.lane.specs.Lane.{push_and_flush};
 use crate::lane::Lane;
 use yring::ring::{Push, Ring};
 
-#[derive(Drop)]
+#[derive(Clone, Copy)]
 pub enum Sent {
     // The lane with the item, and how many places are free then.
     Taken { lane: Lane, free: u64 },

@@ -1,8 +1,8 @@
--- What document 01 calls an answer: the number of each refusal, document 02's with them, and the line that the replay program prints, by its word and numbers.
+-- What document 01 calls an answer: the number of each refusal, and the line that the replay program prints, by its word and numbers.
 -- Assumes nothing.
 use Rattle.std.specs.Prelude.{Bool, true, false, List, [], ◌∷◌, ℕ, take}
 use Rattle.model.specs.declared.Refusal.{Refusal}
-use Rattle.model.specs.declared.Refusal.TheVariants.{CapacityOutOfRange, SlotsOutOfRange, RingStoreShort, TableStoreShort, StoreNotInOrder, ReceiverClosed, AtCapacity, NoFreeSlot, OlderSenderLives, NoSuchSender, LaneClosed, Full, OutputShort, NoSuchLane, Malformed, WindowOutOfRange, MeterStoreShort}
+use Rattle.model.specs.declared.Refusal.TheVariants.{CapacityOutOfRange, SlotsOutOfRange, RingStoreShort, TableStoreShort, StoreNotInOrder, ReceiverClosed, AtCapacity, NoFreeSlot, OlderSenderLives, NoSuchSender, LaneClosed, Full, OutputShort, NoSuchLane, Malformed}
 use Rattle.model.specs.declared.Answer.{Answer}
 use Rattle.model.specs.declared.Answer.TheVariants.{Done, Registered, Taken, Item, Items, Stopped, Empty, Disconnected, Held, Refused}
 
@@ -38,10 +38,6 @@ number OutputShort = 14
 number NoSuchLane = 13
 -- "malformed record; it stops"
 number Malformed = 15
--- document 02, N5: "16, W outside its range"
-number WindowOutOfRange = 16
--- "17, meter store short"
-number MeterStoreShort = 17
 
 -- The words that stand on the lines of "Replay program": `stopped` last, the others first.
 pub data Word : Type 0 where

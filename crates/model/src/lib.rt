@@ -1,16 +1,17 @@
+#![tactic(auto)]
 // The types that the code and the rules share, keys, calls and answers, and the number of a refusal.
 ghost use Rattle.std.specs.Prelude.{◌≡◌};
 ghost use Rattle.model.specs.Answers.{number};
 
 // Names one lane of one opening: its slot, and which of that slot's lanes, one after the other.
-#[derive(Drop)]
+#[derive(Clone, Copy)]
 pub struct LaneKey {
     pub slot: u64,
     pub generation: u64,
 }
 
 // One opening of a channel: the channel's id, and the opening number that the host chose.
-#[derive(Drop)]
+#[derive(Clone, Copy)]
 pub struct OpenedChannel {
     pub id: u64,
     pub opening: u64,
@@ -18,14 +19,14 @@ pub struct OpenedChannel {
 
 // Names one lane among all openings of all channels, if the host gives no opening number of a channel
 // twice and goes on with one copy of the stores.
-#[derive(Drop)]
+#[derive(Clone, Copy)]
 pub struct LaneId {
     pub channel: OpenedChannel,
     pub key: LaneKey,
 }
 
 // What an opening asks for; the two lent stores stand beside it.
-#[derive(Drop)]
+#[derive(Clone, Copy)]
 pub struct Opening {
     pub capacity: u64,
     pub slots: u64,
@@ -38,7 +39,7 @@ pub struct Opening {
 }
 
 // The calls are in three enums, so that a rule about one kind names only that kind's cases.
-#[derive(Drop)]
+#[derive(Clone, Copy)]
 pub enum SenderCall {
     RegisterSender { most: u64 },
     TrySend { key: LaneKey, item: u64 },
@@ -46,7 +47,7 @@ pub enum SenderCall {
     DropSender { key: LaneKey },
 }
 
-#[derive(Drop)]
+#[derive(Clone, Copy)]
 pub enum ReceiveCall {
     TryRecv,
     TryRecvFair,
@@ -57,7 +58,7 @@ pub enum ReceiveCall {
     TryRecvBatchIntoWhile { limit: u64, bound: u64, room: u64 },
 }
 
-#[derive(Drop)]
+#[derive(Clone, Copy)]
 pub enum ControlCall {
     Pause { id: LaneId },
     Resume { id: LaneId },
@@ -68,15 +69,15 @@ pub enum ControlCall {
     CountHeld,
 }
 
-#[derive(Drop)]
+#[derive(Clone, Copy)]
 pub enum Call {
     Sender(SenderCall),
     Receive(ReceiveCall),
     Control(ControlCall),
 }
 
-// Document 01's refusals, in the order of its table; then document 02's, by their numbers.
-#[derive(Drop)]
+// Document 01's refusals, in the order of its table.
+#[derive(Clone, Copy)]
 pub enum Refusal {
     CapacityOutOfRange,
     SlotsOutOfRange,
@@ -93,12 +94,11 @@ pub enum Refusal {
     OutputShort,
     NoSuchLane,
     Malformed,
-    WindowOutOfRange,
-    MeterStoreShort,
 }
 
 impl Refusal {
-    // Its number in document 01 or 02.
+    // Document 01's number of the refusal.
+    #[tactic(auto, unfolding(crate::specs::Answers::number))]
     pub fn number(self) -> u64
         ensures { result ≡ number self }
     {
@@ -118,14 +118,12 @@ impl Refusal {
             Refusal::OutputShort => 14,
             Refusal::NoSuchLane => 13,
             Refusal::Malformed => 15,
-            Refusal::WindowOutOfRange => 16,
-            Refusal::MeterStoreShort => 17,
         }
     }
 }
 
 // What a call answers. The items of a batch are the first `count` words of its output; `Stopped` is a batch that stopped in front of an item.
-#[derive(Drop)]
+#[derive(Clone, Copy)]
 pub enum Answer {
     Done,
     Registered { key: LaneKey },

@@ -1,2 +1,3 @@
+#![tactic(auto)]
 // Opening two lent stores, whatever they hold.
 pub mod mpsc;

@@ -1,6 +1,6 @@
 -- The test that computes says yes exactly if the stores are in order.
 -- Assumes nothing.
-use mathlib.Core.Path.{◌≡◌, ap}
+use mathlib.Core.Path.{◌≡◌, ap, ◌∙◌}
 use mathlib.Core.Bool.{Bool, true, false}
 use mathlib.Core.List.{List, [], ◌∷◌}
 use Prim.Native.Nat.{ℕ, ◌^◌, ◌<◌}
@@ -85,7 +85,7 @@ module _ (issued : ℕ) where
     unfolding count
     names_more h e o =
         record {
-          once = λ y. elim (same? y x) [ equal f b i ↦ rw f (omega (arith, same_self x)) | other d b i ↦ omega (arith, i, o.once y) ];
+          once = λ y. elim (same? y x) [ equal f b i ↦ omega (arith, i, ap (λ (n : ℕ). count n l) f ∙ e) | other d b i ↦ omega (arith, i, o.once y) ];
           issued_only = λ y k. elim (same? y x) [ equal f b i ↦ rw f h | other d b i ↦ o.issued_only y (omega arith) ];
         }
 

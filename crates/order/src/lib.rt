@@ -1,3 +1,4 @@
+#![tactic(auto)]
 // Whether two stores are in order, for stores that nobody vouches for.
 ghost use Rattle.std.specs.Prelude.{◌≡◌, true};
 ghost use Rattle.store.specs.Order.{StoreInOrder};

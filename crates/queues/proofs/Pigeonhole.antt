@@ -1,6 +1,6 @@
 -- Numbers below n, each at most once, are at most n.
 -- Assumes nothing.
-use mathlib.Core.Path.{◌≡◌, refl, ◌∙◌}
+use mathlib.Core.Path.{◌≡◌, refl, ap, ◌∙◌}
 use mathlib.Core.Bool.{not}
 use mathlib.Core.List.{List, [], ◌∷◌}
 use Prim.Native.Nat.{ℕ, zero, suc, ◌+◌, ◌≤◌, ◌<◌}
@@ -44,7 +44,7 @@ pub pigeonhole_less : (n : ℕ) (l : List ℕ) (x : ℕ) → ((y : ℕ) → coun
     → length l < n
 unfolding count
 pigeonhole_less n l x a b h z =
-    pigeonhole n (x ∷ l) (λ y. elim (same? y x) [ equal e p i ↦ rw e (omega (arith, z, same_self x)) | other d p i ↦ omega (arith, a y) ])
+    pigeonhole n (x ∷ l) (λ y. elim (same? y x) [ equal e p i ↦ omega (arith, i, ap (λ (n : ℕ). count n l) e ∙ z) | other d p i ↦ omega (arith, a y) ])
     (λ y g. elim (same? y x) [ equal e p i ↦ absurd (omega arith) | other d p i ↦ omega (arith, none y g) ])
   where
     none : (y : ℕ) → n ≤ y → count y l ≡ 0

@@ -6,7 +6,7 @@ ghost use Rattle.queues.specs.Header.{channel, held_more, held_less, new_header,
 use model::{OpenedChannel, Opening};
 use yring::ring;
 
-#[derive(Drop)]
+#[derive(Clone, Copy)]
 pub struct Header {
     // Slots 0 to issued - 1 have been issued.
     pub issued: u64,

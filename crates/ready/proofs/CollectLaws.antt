@@ -129,6 +129,7 @@ module _ (page : ℕ) where
       ])
 
   run_in : (l t : List ℕ) → Shaped t → QueueNames t → HasRow page (length t) → In page l → page_word (foldl collect_page t l) page ≡ 0
+  run_in [] t s q r i = elim i [ ]
   run_in (x ∷ l) t s q r (here e) =
       let k = kept_page t x s q in
       run_zero l (collect_page t x) k.shaped k.names (omega (arith, k.long)) (rw (← e) (page_taken t page s q r))

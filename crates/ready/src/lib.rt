@@ -1,2 +1,3 @@
+#![tactic(auto)]
 // The ready marks of lanes, in pages and groups, and collecting them.
 pub mod ready;

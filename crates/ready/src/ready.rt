@@ -45,7 +45,7 @@ fn with_bit(word: u64, b: usize) -> u64
 }
 
 // A page: 64 lanes, a bit for each (`ReadyPage`).
-#[derive(Drop)]
+#[derive(Clone, Copy)]
 pub struct Page {
     pub id: usize,
     pub bits: u64,
@@ -90,7 +90,7 @@ impl Page {
 }
 
 // A group: 64 pages, a bit for each (`ReadyGroup`).
-#[derive(Drop)]
+#[derive(Clone, Copy)]
 pub struct Group {
     pub id: usize,
     pub bits: u64,

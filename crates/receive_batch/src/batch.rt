@@ -35,14 +35,14 @@ use yring::num;
 use yring::ring::Ring;
 
 // The front lane with items at hand, or no lane is queued.
-#[derive(Drop)]
+#[derive(Clone, Copy)]
 pub enum Front {
     Ready { lane: Lane },
     None,
 }
 
 // A look at the front lane ends the search, or the lane was empty and has left the queue.
-#[derive(Drop)]
+#[derive(Clone, Copy)]
 pub enum Look {
     Ends { front: Front },
     Left,
@@ -141,14 +141,7 @@ pub fn chunk_size(t: &[u64], left: u64, l: Lane) -> u64
 
 // Moves a chunk of the front lane to the output, from place `at` on, and counts it as that many receives would. The lane is
 // loaded anew: beside its load the compiler leaves out the stores of words that did not change.
-pub fn give_chunk(
-    t: &mut [u64],
-    r: &[u64],
-    out: &mut [u64],
-    at: usize,
-    left: u64,
-    front: Lane,
-) -> u64
+fn give_chunk(t: &mut [u64], r: &[u64], out: &mut [u64], at: usize, left: u64, front: Lane) -> u64
     requires { Fronts t.old front × Ringed t.old r.now × (at + left ≤ length out.old) }
     ensures { (result, t.new, out.new) ≡ give_chunk t.old r.now out.old at left front }
 {

@@ -1,2 +1,3 @@
+#![tactic(auto)]
 // The batch on a store in order.
 pub mod batch;

@@ -1,2 +1,3 @@
+#![tactic(auto)]
 // The receive from one lane, on a store in order.
 pub mod target;

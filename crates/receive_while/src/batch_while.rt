@@ -16,7 +16,7 @@ use store::refusal::Verdict;
 use yring::ring::Ring;
 
 // How many items were moved, and whether the next was above the bound.
-#[derive(Drop)]
+#[derive(Clone, Copy)]
 pub struct Drained {
     pub received: u64,
     pub rejected: bool,
@@ -24,7 +24,7 @@ pub struct Drained {
 
 // Moves the items of a chunk of the front lane that stand before the first above the bound, and counts them as that many
 // receives would. Where there is none, the lane's burst and its place stay, and a budget of 0 becomes 64 all the same.
-pub fn give_admitted(
+fn give_admitted(
     t: &mut [u64],
     r: &[u64],
     out: &mut [u64],
@@ -90,7 +90,7 @@ fn drain_while(t: &mut [u64], r: &[u64], out: &mut [u64], limit: u64, bound: u64
 }
 
 // The number of items, which are held no more, and that it stopped; else as a batch answers.
-pub fn answer_while(t: &mut [u64], limit: u64, drained: Drained) -> Answer
+fn answer_while(t: &mut [u64], limit: u64, drained: Drained) -> Answer
     requires { (header_words ≤ length t.old) × (drained.rejected ≡ false → RestsAt limit drained.received t.old) }
     ensures { (result, t.new) ≡ answer_while limit drained t.old }
 {

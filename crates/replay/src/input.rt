@@ -5,7 +5,7 @@ ghost use Rattle.replay.specs.Place.{InBuffer, after_read, Fetched};
 use crate::round::{Next, Place};
 
 // What a read brought: so many bytes, 0 where the input has ended; or that it failed.
-#[derive(Drop)]
+#[derive(Clone, Copy)]
 pub struct Came {
     pub failed: bool,
     pub size: usize,

@@ -1,3 +1,4 @@
+#![tactic(auto)]
 // Document 01's replay program: reads records from standard input, and writes one line for each.
 mod input;
 mod round;
@@ -10,7 +11,7 @@ ghost use Rattle.replay.specs.Ran.{Ran};
 use round::{Next, Place};
 
 // How a run of the program ended.
-#[derive(Drop)]
+#[derive(Clone, Copy)]
 pub enum Outcome {
     Answered,
     ReadFailed,

@@ -10,7 +10,7 @@ use replay_serve::serve::{Found, Reached};
 use wire_line::line;
 
 // What comes next: a read; a round over the bytes in the buffer; the last round, as the input has ended; nothing.
-#[derive(Drop)]
+#[derive(Clone, Copy)]
 pub enum Next {
     Read,
     Answer,
@@ -19,7 +19,7 @@ pub enum Next {
 }
 
 // The bytes of the buffer from `at` to `have` are not answered yet, and `end` bytes of the text are due to be written.
-#[derive(Drop)]
+#[derive(Clone, Copy)]
 pub struct Place {
     pub next: Next,
     pub at: usize,

@@ -13,7 +13,7 @@ use wire_record::record::Parsed;
 const FULL: usize = 65536 - line::LONGEST;
 
 // What stood at the place reached: too little to tell, no record, or one that was answered.
-#[derive(Drop)]
+#[derive(Clone, Copy)]
 pub enum Found {
     Incomplete,
     Malformed,
@@ -21,7 +21,7 @@ pub enum Found {
 }
 
 // Where a turn, or a run of them, left the input and the text.
-#[derive(Drop)]
+#[derive(Clone, Copy)]
 pub struct Reached {
     pub found: Found,
     pub at: usize,

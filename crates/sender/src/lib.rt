@@ -1,2 +1,3 @@
+#![tactic(auto)]
 // The sender calls on a store in order.
 pub mod sender;

@@ -7,7 +7,7 @@ use lane::lane::Lane;
 use model::{LaneId, LaneKey, Refusal};
 use queues::header::Header;
 
-#[derive(Drop)]
+#[derive(Clone, Copy)]
 pub enum Verdict {
     Pass,
     Refuse { why: Refusal },

@@ -11,14 +11,14 @@ use store::registry;
 use yring::ring::Ring;
 
 // What a take hands out.
-#[derive(Drop)]
+#[derive(Clone, Copy)]
 pub enum Took {
     Item { item: u64, key: LaneKey },
     Nothing,
 }
 
 // A turn ends the take, or its lane was empty and has left the queue.
-#[derive(Drop)]
+#[derive(Clone, Copy)]
 pub enum Turn {
     Ends { took: Took },
     Left,

@@ -1,2 +1,3 @@
+#![tactic(auto)]
 // Document 01's records as bytes: what the replay program reads.
 pub mod record;

@@ -6,14 +6,14 @@ ghost use Rattle.wire_record.specs.Record.{number, field, key, id, opening, most
 use model::{Call, ControlCall, LaneId, LaneKey, OpenedChannel, Opening, ReceiveCall, SenderCall};
 
 // What a record asks for.
-#[derive(Drop)]
+#[derive(Clone, Copy)]
 pub enum Record {
     Open { opening: Opening },
     Call { call: Call },
 }
 
 // What stands at the head of some bytes.
-#[derive(Drop)]
+#[derive(Clone, Copy)]
 pub enum Parsed {
     // So far a beginning of a record, or too few bytes to tell.
     Incomplete,

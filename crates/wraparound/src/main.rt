@@ -1,3 +1,4 @@
+#![tactic(auto)]
 // Runs a lane past the top of its cursors, which are u64 that wrap. The lane starts three short of
 // 2^64; its ring is filled until a send is refused and emptied until nothing is left, again and
 // again. The items are numbered, and the program looks that they come out by their numbers.
@@ -14,7 +15,7 @@ use yring::ring::Ring;
 
 // How far a lane has come: the next item to send, the next one due, and whether each item that came
 // out was the one due.
-#[derive(Drop)]
+#[derive(Clone, Copy)]
 struct Run {
     lane: Lane,
     send: u64,

@@ -5,13 +5,13 @@ ghost use Rattle.yring.specs.Cursor.{after, distance, Capacity};
 ghost use Rattle.yring.specs.Ring.{Within, new_ring, index, item_at, items, run, push, put, pop_into, accepted_prefix};
 
 // Where a lane's ring lies in the ring store.
-#[derive(Drop)]
+#[derive(Clone, Copy)]
 pub struct Ring {
     pub base: u64,
     pub capacity: u64,
 }
 
-#[derive(Drop)]
+#[derive(Clone, Copy)]
 pub enum Push {
     // The cursor after the item, and how many places are free then.
     Pushed { cursor: u64, free: u64 },

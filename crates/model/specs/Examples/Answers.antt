@@ -3,12 +3,12 @@
 use Rattle.std.specs.Prelude.{refl, true, false, List, [], ◌∷◌, ℕ}
 use Rattle.model.specs.declared.LaneKey.{LaneKey}
 use Rattle.model.specs.declared.LaneId.{LaneId}
-use Rattle.model.specs.declared.Refusal.TheVariants.{CapacityOutOfRange, SlotsOutOfRange, RingStoreShort, TableStoreShort, StoreNotInOrder, ReceiverClosed, AtCapacity, NoFreeSlot, OlderSenderLives, NoSuchSender, LaneClosed, Full, OutputShort, NoSuchLane, Malformed, WindowOutOfRange, MeterStoreShort}
+use Rattle.model.specs.declared.Refusal.TheVariants.{CapacityOutOfRange, SlotsOutOfRange, RingStoreShort, TableStoreShort, StoreNotInOrder, ReceiverClosed, AtCapacity, NoFreeSlot, OlderSenderLives, NoSuchSender, LaneClosed, Full, OutputShort, NoSuchLane, Malformed}
 use Rattle.model.specs.declared.Answer.TheVariants.{Done, Registered, Taken, Item, Items, Stopped, Empty, Disconnected, Held, Refused}
 use Rattle.model.specs.Answers.{number, Line, Word, line}
 use Rattle.model.specs.Examples.Pairs.{Reads}
 
--- "| Place, in this order | No. |": the table's rows, from the top, then those of document 02
+-- "| Place, in this order | No. |": the table's rows, from the top
 refusals_numbered :
     Reads number
     ((CapacityOutOfRange, 1)
@@ -26,8 +26,6 @@ refusals_numbered :
     ∷ (OutputShort, 14)
     ∷ (NoSuchLane, 13)
     ∷ (Malformed, 15)
-    ∷ (WindowOutOfRange, 16)
-    ∷ (MeterStoreShort, 17)
     ∷ [])
 unfolding number
 refusals_numbered = refl

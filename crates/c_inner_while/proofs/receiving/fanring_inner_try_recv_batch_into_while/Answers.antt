@@ -1,0 +1,10 @@
+-- `c_inner_while::receiving::fanring_inner_try_recv_batch_into_while` meets its contract.
+-- Assumes nothing.
+use Rattle.receive_while.specs.While.{try_recv_batch_into_while}
+use Rattle.refinement.specs.Runs.{receive_words, output_words, call_words}
+use Rattle.c_answer.proofs.ToldLaws.{told_into_lem}
+use Rattle.c_inner_while.proofs.receiving.fanring_inner_try_recv_batch_into_while.Goals as goal
+
+pub returns : goal.returns
+unfolding call_words receive_words output_words try_recv_batch_into_while
+returns c = told_into_lem c.args.words.now c.tell.ensures.0 c.tell.ensures.1 c.try_recv_batch_into_while-done.ensures

@@ -1,0 +1,16 @@
+-- `fanring::batch::try_recv_batch_into` meets its contract.
+-- Assumes nothing.
+use Rattle.receive_batch.specs.Batch.{try_recv_batch_into}
+use Rattle.refinement.specs.Runs.{receive_words, output_words, call_words}
+use Rattle.fanring.proofs.CheckedLaws.{refuses_into, passes_into}
+use Rattle.fanring.proofs.batch.try_recv_batch_into.Goals as goal
+
+pub returns-then-not-in_order : goal.returns-then-not-in_order
+returns-then-not-in_order c = refuses_into c.in_order.ensures c.if-not-in_order.true _ _
+
+pub try_recv_batch_into-requires : goal.try_recv_batch_into-requires
+try_recv_batch_into-requires c = c.in_order.ensures.0 c.if-not-in_order.false
+
+pub returns : goal.returns
+unfolding call_words receive_words output_words try_recv_batch_into
+returns c = passes_into c.in_order.ensures c.if-not-in_order.false _ _ c.try_recv_batch_into.ensures

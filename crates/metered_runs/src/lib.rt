@@ -1,1 +1,0 @@
-// No code: what is claimed of metered receives, and its proofs.

@@ -1,0 +1,18 @@
+-- `sender::sender::try_send` meets its contract.
+-- Assumes nothing.
+use mathlib.Core.Path.{◌∙◌, sym}
+use Rattle.store.specs.Words.{unless_refused}
+use Rattle.sender.specs.Sender.{try_send}
+use Rattle.sender.proofs.SenderBounds.{send_room}
+use Rattle.sender.proofs.sender.try_send.Goals as goal
+
+pub send_signaled-requires : goal.send_signaled-requires
+send_signaled-requires c = send_room _ _ _ c.requires (sym c.send_verdict.ensures ∙ c.in-Pass.is)
+
+pub returns-in-Refuse : goal.returns-in-Refuse
+unfolding try_send unless_refused
+returns-in-Refuse c = rw (sym c.send_verdict.ensures ∙ c.in-Refuse.is)
+
+pub returns-in-Pass : goal.returns-in-Pass
+unfolding try_send unless_refused
+returns-in-Pass c = rw (sym c.send_verdict.ensures ∙ c.in-Pass.is) c.send_signaled.ensures

@@ -1,0 +1,18 @@
+-- `sender::sender::try_send_unsignaled` meets its contract.
+-- Assumes nothing.
+use mathlib.Core.Path.{◌∙◌, sym}
+use Rattle.store.specs.Words.{unless_refused}
+use Rattle.sender.specs.Sender.{try_send_unsignaled}
+use Rattle.sender.proofs.SenderBounds.{send_room}
+use Rattle.sender.proofs.sender.try_send_unsignaled.Goals as goal
+
+pub send_unsignaled-requires : goal.send_unsignaled-requires
+send_unsignaled-requires c = send_room _ _ _ c.requires (sym c.send_verdict.ensures ∙ c.in-Pass.is)
+
+pub returns-in-Refuse : goal.returns-in-Refuse
+unfolding try_send_unsignaled unless_refused
+returns-in-Refuse c = rw (sym c.send_verdict.ensures ∙ c.in-Refuse.is)
+
+pub returns-in-Pass : goal.returns-in-Pass
+unfolding try_send_unsignaled unless_refused
+returns-in-Pass c = rw (sym c.send_verdict.ensures ∙ c.in-Pass.is) c.send_unsignaled.ensures
