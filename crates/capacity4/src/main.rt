@@ -1,6 +1,7 @@
-#![tactic(auto)]
 // Document 01's example of credit: "C 4, sends 1 to 4: taken; 5: refusal 11. After one to three
 // plain receives still 11; after the fourth, taken." A line for each call, and what it answers.
+#![tactic(auto)]
+
 ghost use Rattle.std.specs.Prelude.{◌≡◌, false};
 ghost use Rattle.yring.specs.Ring.{new_ring};
 ghost use Rattle.lane.specs.Lane.{new_lane, push_and_flush_item, poll};
@@ -24,17 +25,15 @@ fn start() -> Lane
     )
 }
 
-// Sends an item and says whether it was taken.
-fn send(lane: Lane, store: &mut [u64; 4], item: u64) -> Lane
+// Sends an item and says whether it was taken. That a line cannot be written is passed over, here as below.
+fn send(rt: &impl Print, lane: Lane, store: &mut [u64; 4], item: u64) -> Lane
     requires { InOrder 4 lane }
     ensures { (result ≡ sent_lane (push_and_flush_item (new_ring 0 4) store.old item lane).0) × (store.new ≡ (push_and_flush_item (new_ring 0 4) store.old item lane).1) × InOrder 4 result }
 {
-    io::write_all(1, b"send ");
-    io::print_decimal(1, item);
     let ring = Ring::new(0, 4);
     match lane.push_and_flush(ring) {
         Sent::Full { lane: full } => {
-            io::write_all(1, b": refused 11\n");
+            let _ = println!(rt; "send {item}: refused 11");
             full
         }
         Sent::Taken {
@@ -42,20 +41,20 @@ fn send(lane: Lane, store: &mut [u64; 4], item: u64) -> Lane
             free: _,
         } => {
             ring.put(store, lane.tail, item);
-            io::write_all(1, b": taken\n");
+            let _ = println!(rt; "send {item}: taken");
             next
         }
     }
 }
 
 // A plain receive, and which item it hands out.
-fn receive(lane: Lane, store: &[u64; 4]) -> Lane
+fn receive(rt: &impl Print, lane: Lane, store: &[u64; 4]) -> Lane
     requires { InOrder 4 lane }
     ensures { (result ≡ polled_lane (poll (new_ring 0 4) store.now false lane)) × InOrder 4 result }
 {
     match lane.poll(Ring::new(0, 4), store, false) {
         LanePoll::Idle { found } => {
-            io::write_all(1, b"receive: empty\n");
+            let _ = println!(rt; "receive: empty");
             found.lane
         }
         LanePoll::Item {
@@ -64,30 +63,28 @@ fn receive(lane: Lane, store: &[u64; 4]) -> Lane
             released,
             lane: next,
         } => {
-            io::write_all(1, b"receive: item ");
-            io::print_decimal(1, item);
-            io::write_all(1, b"\n");
+            let _ = println!(rt; "receive: item {item}");
             next
         }
     }
 }
 
-fn main() {
+fn main(rt: HostRuntime) {
     let mut store = [0; 4];
     let mut lane = start();
-    lane = send(lane, &mut store, 1);
-    lane = send(lane, &mut store, 2);
-    lane = send(lane, &mut store, 3);
-    lane = send(lane, &mut store, 4);
-    lane = send(lane, &mut store, 5);
-    lane = receive(lane, &store);
-    lane = send(lane, &mut store, 5);
-    lane = receive(lane, &store);
-    lane = send(lane, &mut store, 5);
-    lane = receive(lane, &store);
-    lane = send(lane, &mut store, 5);
-    lane = receive(lane, &store);
-    lane = send(lane, &mut store, 5);
-    lane = receive(lane, &store);
-    receive(lane, &store);
+    lane = send(&rt, lane, &mut store, 1);
+    lane = send(&rt, lane, &mut store, 2);
+    lane = send(&rt, lane, &mut store, 3);
+    lane = send(&rt, lane, &mut store, 4);
+    lane = send(&rt, lane, &mut store, 5);
+    lane = receive(&rt, lane, &store);
+    lane = send(&rt, lane, &mut store, 5);
+    lane = receive(&rt, lane, &store);
+    lane = send(&rt, lane, &mut store, 5);
+    lane = receive(&rt, lane, &store);
+    lane = send(&rt, lane, &mut store, 5);
+    lane = receive(&rt, lane, &store);
+    lane = send(&rt, lane, &mut store, 5);
+    lane = receive(&rt, lane, &store);
+    receive(&rt, lane, &store);
 }

@@ -3,3 +3,4 @@ pub mod RoundLaws
 pub mod PlaceLaws
 pub mod RunLaws
 pub mod Examples
+mod ReadLaws

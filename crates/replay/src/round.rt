@@ -106,7 +106,7 @@ fn answer_more(
     text: &mut [u8; 65536],
 ) -> Place
     requires { InBuffer place × Sized buffer.old × Sized text.old }
-    ensures { Rounded Next.Answer place (record { table = table.entry.now; rings = rings.old; out = out.old }) buffer.old (record { table = table.exit.now; rings = rings.new; out = out.new }) buffer.new text.new result }
+    ensures { Rounded Next.Answer place (record { table = table.old; rings = rings.old; out = out.old }) buffer.old (record { table = table.new; rings = rings.new; out = out.new }) buffer.new text.new result }
 {
     let at = place.at;
     let have = place.have;
@@ -124,7 +124,7 @@ pub fn round(
     text: &mut [u8; 65536],
 ) -> Place
     requires { InBuffer place × Sized buffer.old × Sized text.old × (place.end ≡ 0) }
-    ensures { Rounded place.next place (record { table = table.entry.now; rings = rings.old; out = out.old }) buffer.old (record { table = table.exit.now; rings = rings.new; out = out.new }) buffer.new text.new result }
+    ensures { Rounded place.next place (record { table = table.old; rings = rings.old; out = out.old }) buffer.old (record { table = table.new; rings = rings.new; out = out.new }) buffer.new text.new result }
 {
     let next = place.next;
     if let Next::End = next {

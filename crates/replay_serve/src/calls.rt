@@ -12,7 +12,7 @@ fn sender_call(
     rings: &mut [u64; 2048],
     out: &mut [u64; 64],
 ) -> Answer
-    ensures { (result, record { table = table.exit.now; rings = rings.new; out = out.new }) ≡ answered (Record.Call (Call.Sender call)) (record { table = table.entry.now; rings = rings.old; out = out.old }) }
+    ensures { (result, record { table = table.new; rings = rings.new; out = out.new }) ≡ answered (Record.Call (Call.Sender call)) (record { table = table.old; rings = rings.old; out = out.old }) }
 {
     match call {
         SenderCall::RegisterSender { most } => mpsc::register_sender(table, rings, most),
@@ -30,7 +30,7 @@ fn receive_call(
     rings: &mut [u64; 2048],
     out: &mut [u64; 64],
 ) -> Answer
-    ensures { (result, record { table = table.exit.now; rings = rings.new; out = out.new }) ≡ answered (Record.Call (Call.Receive call)) (record { table = table.entry.now; rings = rings.old; out = out.old }) }
+    ensures { (result, record { table = table.new; rings = rings.new; out = out.new }) ≡ answered (Record.Call (Call.Receive call)) (record { table = table.old; rings = rings.old; out = out.old }) }
 {
     match call {
         ReceiveCall::TryRecv => recv::try_recv(table, rings),
@@ -53,7 +53,7 @@ fn control_call(
     rings: &mut [u64; 2048],
     out: &mut [u64; 64],
 ) -> Answer
-    ensures { (result, record { table = table.exit.now; rings = rings.new; out = out.new }) ≡ answered (Record.Call (Call.Control call)) (record { table = table.entry.now; rings = rings.old; out = out.old }) }
+    ensures { (result, record { table = table.new; rings = rings.new; out = out.new }) ≡ answered (Record.Call (Call.Control call)) (record { table = table.old; rings = rings.old; out = out.old }) }
 {
     match call {
         ControlCall::Pause { id } => lane_control::pause(table, rings, id),
@@ -72,7 +72,7 @@ fn call(
     rings: &mut [u64; 2048],
     out: &mut [u64; 64],
 ) -> Answer
-    ensures { (result, record { table = table.exit.now; rings = rings.new; out = out.new }) ≡ answered (Record.Call asked) (record { table = table.entry.now; rings = rings.old; out = out.old }) }
+    ensures { (result, record { table = table.new; rings = rings.new; out = out.new }) ≡ answered (Record.Call asked) (record { table = table.old; rings = rings.old; out = out.old }) }
 {
     match asked {
         Call::Sender(c) => sender_call(c, table, rings, out),
@@ -87,7 +87,7 @@ pub fn answer(
     rings: &mut [u64; 2048],
     out: &mut [u64; 64],
 ) -> Answer
-    ensures { (result, record { table = table.exit.now; rings = rings.new; out = out.new }) ≡ answered asked (record { table = table.entry.now; rings = rings.old; out = out.old }) }
+    ensures { (result, record { table = table.new; rings = rings.new; out = out.new }) ≡ answered asked (record { table = table.old; rings = rings.old; out = out.old }) }
 {
     match asked {
         Record::Open { opening } => mpsc::open(opening, table, rings),

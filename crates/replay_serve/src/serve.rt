@@ -39,7 +39,7 @@ fn turn(
     end: usize,
 ) -> Reached
     requires { (at ≤ length input.now) × (end + longest ≤ 65536) }
-    ensures { Turned input.now at end (record { table = table.entry.now; rings = rings.old; out = out.old }) (record { table = table.exit.now; rings = rings.new; out = out.new }) text.old text.new result }
+    ensures { Turned input.now at end (record { table = table.old; rings = rings.old; out = out.old }) (record { table = table.new; rings = rings.new; out = out.new }) text.old text.new result }
 {
     let parsed = record::parse(&input[at..]);
     match parsed {
@@ -81,7 +81,7 @@ pub fn serve(
     text: &mut [u8; 65536],
 ) -> Reached
     requires { (from ≤ have) × (have ≤ length buffer.now) }
-    ensures served { Served (take have buffer.now) from (record { table = table.entry.now; rings = rings.old; out = out.old }) (record { table = table.exit.now; rings = rings.new; out = out.new }) text.old text.new result }
+    ensures served { Served (take have buffer.now) from (record { table = table.old; rings = rings.old; out = out.old }) (record { table = table.new; rings = rings.new; out = out.new }) text.old text.new result }
     ensures at_le_have { (result.at ≤ have) × (result.end ≤ 65536) }
 {
     let input = &buffer[..have];

@@ -1,7 +1,8 @@
-#![tactic(auto)]
 // Runs a lane past the top of its cursors, which are u64 that wrap. The lane starts three short of
 // 2^64; its ring is filled until a send is refused and emptied until nothing is left, again and
 // again. The items are numbered, and the program looks that they come out by their numbers.
+#![tactic(auto)]
+
 ghost use Rattle.std.specs.Prelude.{◌≡◌, true, ℕ, ◌<◌, ◌≤◌, get_or};
 ghost use Rattle.yring.specs.Cursor.{after, distance, Capacity};
 ghost use Rattle.yring.specs.Ring.{Within};
@@ -182,35 +183,25 @@ fn rounds(ring: Ring, chunks: bool) -> Run
     run
 }
 
-// Runs the rounds at a capacity and writes how they went.
-fn show(capacity: u64, chunks: bool) -> Run
+// Runs the rounds at a capacity and writes how they went. That the line cannot be written is passed over.
+fn show(rt: &impl Print, capacity: u64, chunks: bool) -> Run
     requires { Capacity capacity × (capacity ≤ 64) }
     ensures { InOrder capacity result.lane × (result.lane.head ≡ result.lane.tail) }
 {
     let run = rounds(Ring::new(0, capacity), chunks);
-    io::write_all(1, b"C ");
-    io::print_decimal(1, capacity);
-    if chunks {
-        io::write_all(1, b", by chunks: ");
-    } else {
-        io::write_all(1, b", one by one: ");
-    }
-    io::print_decimal(1, run.due);
-    if run.good {
-        io::write_all(1, b" items in order, head ");
-    } else {
-        io::write_all(1, b" items OUT OF ORDER, head ");
-    }
-    io::print_decimal(1, run.lane.head);
-    io::write_all(1, b"\n");
+    let way = if chunks { "by chunks" } else { "one by one" };
+    let due = run.due;
+    let order = if run.good { "in order" } else { "OUT OF ORDER" };
+    let head = run.lane.head;
+    let _ = println!(rt; "C {capacity}, {way}: {due} items {order}, head {head}");
     run
 }
 
-fn main() {
-    show(1, false);
-    show(1, true);
-    show(4, false);
-    show(4, true);
-    show(64, false);
-    show(64, true);
+fn main(rt: HostRuntime) {
+    show(&rt, 1, false);
+    show(&rt, 1, true);
+    show(&rt, 4, false);
+    show(&rt, 4, true);
+    show(&rt, 64, false);
+    show(&rt, 64, true);
 }

@@ -7,4 +7,4 @@ use Rattle.c_inner.proofs.controlling.fanring_inner_held.Goals as goal
 
 pub returns : goal.returns
 unfolding call_words control_words
-returns c = told_of c.args.words.now c.tell.ensures.0 c.tell.ensures.1 c.held-done.ensures
+returns c = told_of c.args.words.now c.tell.ensures.value c.tell.ensures.words_after c.held-done.ensures

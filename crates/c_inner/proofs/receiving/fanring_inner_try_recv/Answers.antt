@@ -6,4 +6,4 @@ use Rattle.c_inner.proofs.receiving.fanring_inner_try_recv.Goals as goal
 
 pub returns : goal.returns
 unfolding call_words receive_words
-returns c = told_of c.args.words.now c.tell.ensures.0 c.tell.ensures.1 c.try_recv-done.ensures
+returns c = told_of c.args.words.now c.tell.ensures.value c.tell.ensures.words_after c.try_recv-done.ensures

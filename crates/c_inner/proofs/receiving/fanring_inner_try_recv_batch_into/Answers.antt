@@ -7,4 +7,4 @@ use Rattle.c_inner.proofs.receiving.fanring_inner_try_recv_batch_into.Goals as g
 
 pub returns : goal.returns
 unfolding call_words receive_words output_words try_recv_batch_into
-returns c = told_into_lem c.args.words.now c.tell.ensures.0 c.tell.ensures.1 c.try_recv_batch_into-done.ensures
+returns c = told_into_lem c.args.words.now c.tell.ensures.value c.tell.ensures.words_after c.try_recv_batch_into-done.ensures

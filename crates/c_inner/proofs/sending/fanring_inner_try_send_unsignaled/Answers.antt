@@ -7,4 +7,4 @@ use Rattle.c_inner.proofs.sending.fanring_inner_try_send_unsignaled.Goals as goa
 
 pub returns : goal.returns
 unfolding call_words sender_words
-returns c = told_of c.args.words.now c.tell.ensures.0 c.tell.ensures.1 c.try_send_unsignaled-done.ensures
+returns c = told_of c.args.words.now c.tell.ensures.value c.tell.ensures.words_after c.try_send_unsignaled-done.ensures
