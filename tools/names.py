@@ -13,7 +13,7 @@ Without CRATE every definition or law of that name is meant; with it one crate's
 the list leaves, and not those before it.
 
 A definition's or law's name is changed only where it is meant: in the file that declares it, and in files that import it from there. Fields of
-records (`l .paused`, `paused = 0`), declarations and clauses in which a parameter, λ or let has the name, names that are part of a longer one,
+records (`l.paused`, `paused = 0`), declarations and clauses in which a parameter, λ or let has the name, names that are part of a longer one,
 code, and words of comments are left alone; in comments and documents a name is changed between backticks, and a folder wherever it stands. A
 function's name is changed in code: in its crate where it is called, and elsewhere behind its module's name.
 """
@@ -22,7 +22,7 @@ import re
 import source
 
 KINDS = {"crate", "proofs", "module", "name", "law", "fn"}
-MODULE = re.compile(r"Rattle·(\w+)(?:·(?:specs|proofs))?\.(specs|proofs)\.(.+)")
+MODULE = re.compile(r"Rattle\.(\w+)\.(specs|proofs)\.(.+)")
 USE = re.compile(r"^[ \t]*(pub |ghost )?use\s+([^\s;{]+?)(?:\.\{([^}]*)\})?(?:\s+as\s+(\S+?))?[ \t]*;?[ \t]*$", re.M)
 
 
@@ -69,7 +69,7 @@ class Names:
             folder, (stem, dot, ending) = part[2], part[3].partition(".")
             if (folder, ending) in (("src", "rt"), ("specs", "antt"), ("proofs", "antt"), ("proofs", "")):
                 part[3] = self.modules.get((part[1], stem), stem) + dot + ending
-            if folder == "proofs" and part[-1] == "Proof.antt":
+            if folder == "proofs" and part[-1] in source.PROOF:
                 part[-2] = self.functions.get((part[1], part[-2]), part[-2])
         return "/".join(part)
 
@@ -105,7 +105,7 @@ class Names:
         """A file's text with the new names of crates and modules; `path` is its new path. With `documents` only where a folder or file is named."""
         own = path.split("/")[1] if path.startswith("crates/") else None
         for old, new in self.crates.items():
-            text = re.sub(rf"Rattle·{old}(?=[.·])", f"Rattle·{new}", text)
+            text = re.sub(rf"(?<!{source.PART})Rattle\.{old}(?=\.)", f"Rattle.{new}", text)
             text = re.sub(rf"(?<=crates/){old}(?!{source.PART})", new, text)
             text = re.sub(rf"(?<=/lib){old}(?=\.a)", new, text)
             if path.endswith((".rt", ".edit")):
@@ -116,12 +116,10 @@ class Names:
             text = "\n".join(line if line.startswith("#") else re.sub(r"\w+", lambda m: self.crates.get(m[0], m[0]), line)
                              for line in text.split("\n"))
         for crate, new in self.parted.items():
-            if own == new:
-                text = text.replace(f"Rattle·{crate}·proofs.", f"Rattle·{new}·proofs.").replace(f"Rattle·{crate}·specs.specs.", f"Rattle·{crate}.specs.")
-            text = text.replace(f"Rattle·{crate}.proofs.", f"Rattle·{new}.proofs.").replace(f"crates/{crate}/proofs", f"crates/{new}/proofs")
+            text = text.replace(f"Rattle.{crate}.proofs.", f"Rattle.{new}.proofs.").replace(f"crates/{crate}/proofs", f"crates/{new}/proofs")
         for (crate, old), new in self.modules.items():
             text = re.sub(rf"(?<![\w:]){crate}::{old}(?!\w)", f"{crate}::{new}", text)
-            text = re.sub(rf"(Rattle·{crate}(?:·\w+)?\.(?:specs|proofs)\.(?:declared\.)?){old}(?!{source.PART})", rf"\g<1>{new}", text)
+            text = re.sub(rf"(Rattle\.{crate}\.(?:specs|proofs)\.(?:(?:declared|contracts)\.)?){old}(?!{source.PART})", rf"\g<1>{new}", text)
             text = re.sub(rf"(crates/{crate}/(?:src|specs|proofs)/){old}(?=[./])", rf"\g<1>{new}", text)
             if own == crate:
                 text = re.sub(rf"(\bcrate::|\bmod |\bsuper::){old}(?!{source.PART})", rf"\g<1>{new}", text)
@@ -157,11 +155,10 @@ class Names:
                             done[path] = called(done[path], rf"(?<![\w:]){alias or module}::{old}(?=\()", f"{alias or module}::{new}")
                     if done[path] != text:
                         callers.add(part[1])
-            a, b = old.replace("_", "-"), new.replace("_", "-")
             for path in files:
-                if path.endswith("Proof.antt") and path.split("/")[1] in callers:
-                    done[path] = proof_names(done[path], a, b)
-                for pattern in (rf"(Rattle·{crate}·proofs\.proofs\.(?:\w+\.)*){old}(?=\.(?:Statement|Tie|Reads|Lts)\b)",
+                if path.endswith(source.PROOF) and path.split("/")[1] in callers:
+                    done[path] = proof_names(done[path], old, new)
+                for pattern in (rf"(Rattle\.{crate}\.proofs\.(?:\w+\.)*){old}(?=\.(?:Statement|Tie|Reads|Lts|Given|Goals|Invariants|Answers)\b)",
                                 rf"(`{crate}::(?:\w+::)+){old}(?=`)", rf"(crates/{crate}/proofs/(?:\w+/)*){old}(?=/)"):
                     done[path] = re.sub(pattern, rf"\g<1>{new}", done[path])
         return done
@@ -246,7 +243,7 @@ class Names:
         """An .antt or .rt file with the new names."""
         alone, behind = self.scope(path, text, sites)
         for old, new in alone.items():
-            if new not in alone and re.search(rf"(?<!\.){source.whole(new)}(?!\.)", code_of(path, text)):
+            if new not in alone and re.search(rf"(?<!\.){source.whole(new)}", code_of(path, text)):
                 look.append(f"{path}: has {new} already, and now for {old} too")
         imports = [(m.start(3), m.end(3), resolve(m[2])) for m in USE.finditer(text) if m[3] is not None]
         left = set()
@@ -261,8 +258,13 @@ class Names:
         logic = logic if logic is not None else (None if path.endswith(".antt") else rt_logic(text))
 
         def put(found):
-            at, name = found.start(2), found[2]
-            module = found[1]
+            if found[1] and at_import(found.start()) is None and found[1][:-1] not in behind and not resolve(found[1][:-1]):
+                # no module: a name, and fields of what it means
+                name, dot, rest = found[0].partition(".")
+                return one(found.start(), name, None, name) + dot + rest
+            return one(found.start(2), found[2], found[1], found[0])
+
+        def one(at, name, module, whole):
             names = at_import(at)
             if names is not None:
                 return (module or "") + names.get(name, name)
@@ -271,15 +273,15 @@ class Names:
                 ticks = text.count("`", comment[0], at)
                 return (module or "") + (in_words.get(name, name) if ticks % 2 and not module else name)
             if logic is not None and not any(s <= at < e for s, e in logic):
-                return found[0]
+                return whole
             if module:
                 known = behind.get(module[:-1], sites.get(resolve(module[:-1]), {}))
                 return module + known.get(name, name)
             if name not in alone or is_field(text, at, name, own):
-                return found[0]
+                return whole
             if any(start <= at < end and name in names for start, end, names in bound):
                 left.add(name)
-                return found[0]
+                return whole
             return alone[name]
         own = sites.get(self.place(path), {})
         bound = bound_antt(text) if path.endswith(".antt") else bound_rt(text)
@@ -324,15 +326,15 @@ def called(text, pattern, new):
 
 
 def proof_names(text, old, new):
-    """A function's proof with another name of a function that it calls, or its own: `.old .ensures`, `old-requires`, `Need-sub-old`."""
+    """A function's proof with another name of a function that it calls, or its own: `c.old.ensures`, `c.old-x.result`, `old-requires`, `goal.sub-old`."""
     kept = {name for use in uses(text) for name in use.names.values()}
-    needed = re.compile(rf"((?:Need-)?(?:(?:add|sub|mul|div|rem)-)?){re.escape(old)}(\d*(?:-(?:requires|arg|spec)[\d-]*)?)")
+    needed = re.compile(rf"((?:Need-)?(?:(?:add|sub|mul|div|rem)-)?){re.escape(old)}(\d*(?:-(?:requires|arg|spec)[\w-]*)?)")
 
     def put(found):
         name = needed.fullmatch(found[0])
         return name[1] + new + name[2] if name and found[0] not in kept else found[0]
-    text = re.sub(rf"(?<=\s\.){re.escape(old)}(?=\d* \.(?:ensures|result)\b)", new, text)
-    return re.sub(rf"(?<!{source.PART})(?<!\s\.){source.NAME}", put, text)
+    text = re.sub(rf"(?<={source.PART}\.){re.escape(old)}(?=\d*(?:-[\w-]+)?\.(?:ensures|result|new)\b)", new, text)
+    return re.sub(rf"(?<!{source.PART})(?:(?<!\.)|(?<=\btie\.)|(?<=\bgoal\.)){source.NAME}", put, text)
 
 
 # imports
@@ -389,8 +391,8 @@ def rt_comments(text):
 
 
 def rt_logic(text):
-    """Where the contracts of an .rt file are: what stands between corners, and in `ghost` blocks."""
-    return [m.span() for m in re.finditer(r"⌜[^⌝]*⌝?|(?:^|(?<=\n))[ \t]*ghost use[^;]*;", text)]
+    """Where the contracts of an .rt file are: what stands in clauses, and in `ghost use`."""
+    return source.clauses(text) + [m.span() for m in re.finditer(r"(?:^|(?<=\n))[ \t]*ghost use[^;]*;", text)]
 
 
 def bound_antt(text):
@@ -447,9 +449,9 @@ def code_of(path, text):
 
 
 def is_field(text, at, name, own):
-    """A field that is read (` .name`), set (`{ name = ..; }`) or declared (`pub name : ..` further in, and none of the file's `own` names)."""
+    """A field that is read (`l.name`), set (`{ name = ..; }`) or declared (`pub name : ..` further in, and none of the file's `own` names)."""
     before = text[max(0, at - 200):at]
-    if re.search(r"(^|[\s(])\.$", before):
+    if before.endswith("."):
         return True
     after = text[at + len(name):at + len(name) + 3]
     if re.search(r"[{;]\s*(--[^\n]*\n\s*)*$", before) and re.match(r"\s=\s", after):

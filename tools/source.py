@@ -5,8 +5,8 @@ It goes by the layout that `rt fmt` gives, and not by a grammar.
 import re
 import typing
 
-# A whole identifier: antt's have letters, digits, _, -, ' and ?, and · in the names of modules.
-PART = r"[\w'?·-]"
+# A whole identifier: antt's have letters, digits, _, -, ' and ?. A dot before one is of a field or of a module.
+PART = r"[\w'?-]"
 NAME = rf"(?!\d){PART}+"
 
 
@@ -97,8 +97,9 @@ def antt_items(text, laws=False):
 # .rt
 
 
-# A comment, or a literal of bytes, in which // is no comment.
-APART = re.compile(r"//[^\n]*|b\"(?:[^\"\\]|\\.)*\"|b'(?:[^'\\]|\\.)+'")
+# A comment, or a literal of bytes, text or a character, in which // is no comment and a brace closes nothing. An antt name may end in ', and a
+# lifetime begins with one.
+APART = re.compile(r"//[^\n]*|(?<!\w)b?\"(?:[^\"\\]|\\.)*\"|(?<![\w'])b?'(?:[^'\\\n]|\\.[^'\n]*)'")
 
 
 def uncommented_rt(text):
@@ -108,7 +109,10 @@ def uncommented_rt(text):
 
 def bare_rt(text):
     """Text without comments, and with a blank in place of each character of a literal; the places stay."""
-    return APART.sub(lambda found: found[0][:2] + re.sub(r"[^\n]", "_", found[0][2:-1]) + found[0][-1], uncommented_rt(text))
+    def blank(found):
+        head = 2 if found[0].startswith("b") else 1
+        return found[0][:head] + re.sub(r"[^\n]", "_", found[0][head:-1]) + found[0][-1]
+    return APART.sub(blank, uncommented_rt(text))
 
 
 def past(text, at, left, right):
@@ -136,32 +140,43 @@ class Function(typing.NamedTuple):
     end: int
 
 
-FUNCTION = re.compile(r"(\bpub(?:\([^)]*\))?\s+)?(extern\s+\"C\"\s+)?\bfn\s+(\w+)")
+FUNCTION = re.compile(r"(\bpub(?:\([^)]*\))?\s+)?(?:const\s+)?(?:unsafe\s+)?(extern\s+\"[^\"]*\"\s+)?\bfn\s+(\w+)")
+# The head of an impl: of a type, or of a trait for one. Its own parameters, and the type's, may have parameters in turn.
+ANGLES = r"<(?:[^<>]|->|<(?:[^<>]|->|<(?:[^<>]|->)*>)*>)*>"
+IMPL = re.compile(rf"\bimpl(?:\s*{ANGLES})?\s+(?:[\w:]+(?:\s*{ANGLES})?\s+for\s+)?&?(\w+)(?:\s*{ANGLES})?\s*(?:where\b[^{{]*)?\{{")
+# The files of a function's proof, in its folder below proofs/.
+PROOF = ("Invariants.antt", "Answers.antt", "Proof.antt")
+# What stands in front of a clause's brace: the kind, with * where it speaks of memory, and a name, where there are several; or a ghost parameter.
+CLAUSE = re.compile(r"\b(requires|ensures)\*?(?:\s+\w+)?\s*$")
+GHOST = re.compile(r"\bghost\s+\w+\s*:\s*$")
 
 
 def functions(text):
     """The functions of an .rt file, in order. Literals are blank in parameters and clauses, and as they are written in promise and body."""
     written = uncommented_rt(text)
     text = bare_rt(text)
-    holders = [(m.start(), past(text, m.end() - 1, "{", "}"), m[1]) for m in re.finditer(r"\bimpl\s+(\w+)\s*\{", text)]
+    holders = [(m.start(), past(text, m.end() - 1, "{", "}"), m[1]) for m in IMPL.finditer(text)]
     found = []
     for start in FUNCTION.finditer(text):
         if found and start.start() < found[-1].end:
             continue
-        open_ = text.index("(", start.end())
+        own = re.compile(rf"\s*{ANGLES}").match(text, start.end())
+        open_ = text.index("(", own.end() if own else start.end())
         at = past(text, open_, "(", ")")
         parameters = text[open_ + 1:at - 1]
         clauses = {"requires": [], "ensures": []}
         result = None
         while True:
             brace = text.index("{", at)
-            before = text[at:brace].split()
+            before = text[at:brace]
+            clause = CLAUSE.search(before) or GHOST.search(before)
             if result is None:
-                result = " ".join(w for w in before if w not in clauses).removeprefix("->").strip()
-            if before[-1:] not in (["requires"], ["ensures"]):
+                result = spaced(re.split(r"\bwhere\b", before[:clause.start() if clause else None])[0]).removeprefix("->").strip()
+            if not clause:
                 break
             at = past(text, brace, "{", "}")
-            clauses[before[-1]].append(text[brace:at])
+            if clause.re is CLAUSE:
+                clauses[clause[1]].append(text[brace:at])
         end = past(text, brace, "{", "}")
         holder = [name + "::" for first, last, name in holders if first < start.start() < last]
         found.append(Function(bool(start[1]), "".join(holder) + start[3], parameters, result, clauses["requires"], clauses["ensures"],
@@ -169,10 +184,22 @@ def functions(text):
     return found
 
 
+def clauses(text):
+    """Where the clauses of an .rt file, or of a piece of one, are: start and end of each, between its braces. One that is cut off goes to the end."""
+    bare = bare_rt(text)
+    found = []
+    for start in re.finditer(r"\b(?:(?:requires|ensures)\*?(?:\s+\w+)?|ghost\s+(?:invariant\s*)?\w*\s*(?::|=|(?<=invariant)))\s*\{", bare):
+        try:
+            found.append((start.end(), past(bare, start.end() - 1, "{", "}") - 1))
+        except IndexError:
+            found.append((start.end(), len(bare)))
+    return found
+
+
 def rt_items(text):
     """The types and constants of an .rt file."""
     written, bare = uncommented_rt(text), bare_rt(text)
-    holders = [(m.start(), past(bare, m.end() - 1, "{", "}"), m[1]) for m in re.finditer(r"\bimpl\s+(\w+)\s*\{", bare)]
+    holders = [(m.start(), past(bare, m.end() - 1, "{", "}"), m[1]) for m in IMPL.finditer(bare)]
     inside = [(f.start, f.end) for f in functions(text)]
     found = []
     for m in re.finditer(r"(?:\bpub(?:\([^)]*\))?\s+)?\b(struct|enum|const)\s+(\w+)", bare):

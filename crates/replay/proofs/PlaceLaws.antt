@@ -270,17 +270,12 @@ last_rounded {s} {b} {text} {v} {place} {p} w j m e g =
     }
 
 -- any other
-pub answer_rounded : {n : Next} {p q : Place} {s u : Stores} {b d text : List ℕ} → OneOf (0 ∷ 1 ∷ 3 ∷ []) (tag_of Next.the_type n) → Rounded Answer p s b u d text q → Rounded n p s b u d text q
+pub answer_rounded : {n : Next} {p q : Place} {s u : Stores} {b d text : List ℕ} → (n ≡ End → ⊥) → Rounded Answer p s b u d text q → Rounded n p s b u d text q
 answer_rounded {n} {p} {q} {s} {u} {b} {d} {text} k r = record { sized = r.sized; in_buffer = r.in_buffer; room = r.room; does = go n k r.does }
   where
-    not_third : OneOf (0 ∷ 1 ∷ 3 ∷ []) 2 → ⊥
-    not_third (inl a) = omega (arith, a)
-    not_third (inr (inl a)) = omega (arith, a)
-    not_third (inr (inr a)) = omega (arith, a)
-
-    go : (n : Next) → OneOf (0 ∷ 1 ∷ 3 ∷ []) (tag_of Next.the_type n) → Round s (between p.at p.have b) u (between q.at q.have d) (take q.end text) q.next
+    go : (n : Next) → (n ≡ End → ⊥) → Round s (between p.at p.have b) u (between q.at q.have d) (take q.end text) q.next
         → RoundBy n s (between p.at p.have b) u (between q.at q.have d) (take q.end text) q.next
     go Read k x = x
     go Answer k x = x
-    go End k x = absurd (not_third k)
+    go End k x = absurd (k refl)
     go Stop k x = x

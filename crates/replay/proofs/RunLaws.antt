@@ -197,23 +197,6 @@ module _ {turns : ℕ} {s : Stores} {b text : List ℕ} {p : Place} (c : Running
   pub turns_over : turns ≡ 0 → Ran TurnsOver s
   turns_over e = ran_so_far {o = TurnsOver} (omega (arith, e, c.counted))
 
--- by the tests of the code: a read did not fail, a round did not stop
-pub not_asking : {n : Next} → OneOf (1 ∷ 2 ∷ 3 ∷ []) (tag_of Next.the_type n) → n ≡ Read → ⊥
-not_asking {n} k e = go k (ap (tag_of Next.the_type) e)
-  where
-    go : {n : ℕ} → OneOf (1 ∷ 2 ∷ 3 ∷ []) n → n ≡ 0 → ⊥
-    go (inl a) z = omega (arith, a, z)
-    go (inr (inl a)) z = omega (arith, a, z)
-    go (inr (inr a)) z = omega (arith, a, z)
-
-pub not_stopped : {n : Next} → OneOf (0 ∷ 1 ∷ 2 ∷ []) (tag_of Next.the_type n) → n ≡ Stop → ⊥
-not_stopped {n} k e = go k (ap (tag_of Next.the_type) e)
-  where
-    go : {n : ℕ} → OneOf (0 ∷ 1 ∷ 2 ∷ []) n → n ≡ 3 → ⊥
-    go (inl a) z = omega (arith, a, z)
-    go (inr (inl a)) z = omega (arith, a, z)
-    go (inr (inr a)) z = omega (arith, a, z)
-
 -- ---- the claims
 
 stopped : {s : Stores} (r : Ran Answered s) → Rounds r.count r.parts r.texts s r.rest Stop

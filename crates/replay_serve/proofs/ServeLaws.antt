@@ -106,14 +106,6 @@ reads_to input {b} {rs = rs} e p = subst (λ (j : ℕ). Reads b rs (drop j input
 stops_as : (input : List ℕ) (end : ℕ) {at i : ℕ} {f q : Found} → f ≡ q → i ≡ at → StopsAt q (parse (drop at input)) end → StopsAt f (parse (drop i input)) end
 stops_as input end {at} {i} {f} {q} e h p = subst (λ (j : ℕ). StopsAt f (parse (drop j input)) end) (sym h) (subst (λ (g : Found). StopsAt g (parse (drop at input)) end) (sym e) p)
 
--- a turn that found one of the first two cases answered no record
-pub not_answered : {f : Found} → OneOf (0 ∷ 1 ∷ []) (tag_of Found.the_type f) → f ≡ Answered → ⊥
-not_answered {f} k e = go k (ap (tag_of Found.the_type) e)
-  where
-    go : {n : ℕ} → OneOf (0 ∷ 1 ∷ []) n → n ≡ 2 → ⊥
-    go (inl a) z = omega (arith, a, z)
-    go (inr b) z = omega (arith, b, z)
-
 -- the records so far and the one that the turn found
 module _ {input : List ℕ} {from : ℕ} {s u : Stores} {text v : List ℕ} {at end : ℕ} {r : Record} {n : ℕ} (g : Serving input from s u text v at end) (e : parse (drop at input) ≡ Parsed.Whole r n) where
   more_read : {to : ℕ} → to ≡ at + n → Reads (drop from input) (g.records ++ r ∷ []) (drop to input)

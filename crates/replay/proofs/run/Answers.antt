@@ -3,7 +3,7 @@
 use mathlib.Core.Path.{refl, ◌∙◌}
 use native.Mathlib.Omega.{arith}
 use Rattle.replay.proofs.PlaceLaws.{fetched_buffer, fetched_end}
-use Rattle.replay.proofs.RunLaws.{running_start, running_on, turns_over, not_asking, not_stopped, ran_stopped, ran_unwritten, ran_unread}
+use Rattle.replay.proofs.RunLaws.{running_start, running_on, turns_over, ran_stopped, ran_unwritten, ran_unread}
 use Rattle.replay.proofs.run.Goals as goal
 
 pub loop-turns-init : goal.loop-turns-init

@@ -4,7 +4,7 @@ use Prim.Native.Nat.{◌-◌}
 use mathlib.Core.Path.{sym}
 use native.Mathlib.Omega.{arith}
 use lib.Seq.{length-take-le}
-use Rattle.replay_serve.proofs.ServeLaws.{serving_start, serving_more, served_to, not_answered}
+use Rattle.replay_serve.proofs.ServeLaws.{serving_start, serving_more, served_to}
 use Rattle.replay_serve.proofs.serve.serve.Goals as goal
 
 pub slice_bounds-input-end : goal.slice_bounds-input-end
