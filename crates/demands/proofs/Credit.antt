@@ -23,7 +23,7 @@ use Rattle.model.specs.Opening.{next_power_of_two, opened_state}
 use Rattle.model.specs.Rules.{outcome, the_rules}
 use Rattle.model.specs.Examples.Example.{opening_of, repeat, in_a_row, calls_of, answers_of, said_calls, said_answers, compute_examples, registers, sends, plain, lane, gave}
 use Rattle.model.specs.Examples.Table.{credit_after}
-use Rattle.model.specs.Examples.Calls.{compute, Found, expected}
+use Rattle.model.proofs.Examples.Calls.{compute, Found, expected}
 use Rattle.demands.proofs.Opened.{doubled_power}
 
 -- ---- the state

@@ -31,7 +31,7 @@ use Rattle.model.specs.Stops.{oldest_above, some_above, StopsAt, is_plain, of_pl
 use Rattle.model.specs.Simulation.{Simulation}
 use Rattle.model.specs.Keys.{registers_as, answers_key_that, KeysNeverAgainIn, KeysNeverAgain}
 use Rattle.model.specs.Wake.{items_below, below_limit, may_sleep, ends_sleep, sends_to, says_woken, wakes, paused_in, NoLostWakeIn, NoLostWake}
-use Rattle.model.specs.Examples.Calls.{compute}
+use Rattle.model.proofs.Examples.Calls.{compute}
 use Rattle.model.specs.ShutOut.{call_by, output_by, receive_before_looking, empty_before_looking, receive_of_front, fair_serves_front_only, send_refused, send_full_always, send_unstored, send_stores_nothing, batch_by, while_by, stopped_at_once, batch_always_stops, stopped_at_end, batch_stops_at_end, item_above, stopped_too_soon, batch_stops_too_soon, never_stopped, batch_never_stops, first_moved, batch_moves_first_only, others_reported, batch_reports_others, one_more_counted, batch_counts_one_more, receive_leaves_item, item_for_ever, counts_none, held_zero, issued_again, register_same_key, same_key_again, send_unwoken, send_never_wakes}
 use Rattle.demands.proofs.Counting.{no}
 use Rattle.demands.proofs.Simulation.{opened_trace}

@@ -1,32 +1,6 @@
--- The rules, and the words of the claims about them, computed on small cases that can be checked by eye.
+-- What the computed examples speak of: document 01's table as data, and the words for it. The examples themselves are in proofs/Examples.
 -- Assumes nothing.
 pub mod Pairs
-pub mod Answers
 pub mod Example
 pub mod Stops
 pub mod Table
-pub mod Calls
-pub mod Ready
-pub mod Events
-pub mod Held
-pub mod HeldCalls
-pub mod BoundMet
-pub mod Stretch
-pub mod StopsInRuns
-pub mod OtherLanes
-pub mod EqualTurns
-pub mod Uneven
-pub mod FreePlaces
-pub mod Miscounted
-pub mod LaneIds
-pub mod Mistaken
-pub mod Renumbered
-pub mod RowWords
-pub mod Registration
-pub mod ReceivesEnd
-pub mod BudgetAfterNothing
-pub mod WhileMarked
-pub mod BatchLoop
-pub mod Wake
-pub mod Keys
-pub mod Numbers

@@ -24,7 +24,7 @@ use Rattle.model.specs.Rules.{outcome, the_rules}
 use Rattle.model.specs.Simulation.{runs_that_fit}
 use Rattle.model.specs.Examples.Example.{Example, opening_of, said_calls}
 use Rattle.model.specs.Examples.Table.{credit_after, table}
-use Rattle.model.specs.Examples.Calls.{Found, expected, table_computed, sizes_taken, sizes_computed}
+use Rattle.model.proofs.Examples.Calls.{Found, expected, table_computed, sizes_taken, sizes_computed}
 use Rattle.demands.proofs.Counting.{both_true}
 use Rattle.demands.proofs.Simulation.{same_after, opened_trace, opened_after}
 use Rattle.demands.proofs.Credit.{credit_after_lem}

@@ -4,7 +4,7 @@ use native.Mathlib.Omega.{arith}
 use Rattle.wraparound.proofs.show.Goals as goal
 
 pub rounds-run-requires : goal.rounds-run-requires
-rounds-run-requires c = rw c.new.ensures (record { power = c.requires.0; fits = omega (arith, c.requires.1) })
+rounds-run-requires g c = rw c.new.ensures (record { power = c.requires.0; fits = omega (arith, c.requires.1) })
 
 pub returns : goal.returns
-returns c = rw c.new.ensures at c.rounds-run.ensures
+returns g c = rw c.new.ensures at c.rounds-run.ensures

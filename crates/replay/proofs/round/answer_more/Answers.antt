@@ -5,4 +5,4 @@ use Rattle.replay.proofs.round.answer_more.Goals as goal
 
 pub returns : goal.returns
 returns c =
-    served_rounded c.requires.0 c.requires.1 c.requires.2 c.serve-t.ensures.0 c.serve-t.ensures.1.0 c.leave.ensures
+    served_rounded c.requires.0 c.requires.1 c.requires.2 c.serve-t.ensures.served c.serve-t.ensures.at_le_have.0 c.leave.ensures

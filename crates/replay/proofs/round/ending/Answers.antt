@@ -11,4 +11,4 @@ returns-then-left-eq0 c = (puts_no_line _ c.if-left-eq0.true, omega arith)
 
 pub returns : goal.returns
 unfolding line
-returns c = (puts_as (cut_line_lem _ c.if-left-eq0.false) c.put_line.ensures.0, omega (arith, c.put_line.ensures.1))
+returns c = (puts_as (cut_line_lem _ c.if-left-eq0.false) c.put_line.ensures.puts, omega (arith, c.put_line.ensures.upper_bound))

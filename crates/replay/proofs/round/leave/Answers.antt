@@ -11,4 +11,4 @@ pub returns-in-Answered : goal.returns-in-Answered
 returns-in-Answered c = left_as c.args.t c.in-Answered.is c.new-in-Answered.ensures refl refl (refl, refl, refl, refl)
 
 pub returns-in-Incomplete : goal.returns-in-Incomplete
-returns-in-Incomplete c = left_as c.args.t c.in-Incomplete.is c.new-in-Incomplete.ensures refl c.shift-left.auto.0 (refl, refl, c.shift-left.ensures.0, c.shift-left.ensures.1)
+returns-in-Incomplete c = left_as c.args.t c.in-Incomplete.is c.new-in-Incomplete.ensures refl c.shift-left.auto.buffer (refl, refl, c.shift-left.ensures.0, c.shift-left.ensures.1)

@@ -8,4 +8,4 @@ returns-in-End c =
     last_rounded c.requires.0 c.requires.1 c.requires.2 c.in-End.is c.finish.ensures
 
 pub returns : goal.returns
-returns c = answer_rounded c.in_default.is c.answer_more.ensures
+returns c = answer_rounded c.in_default.not-End c.answer_more.ensures

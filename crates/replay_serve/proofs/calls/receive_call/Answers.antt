@@ -13,7 +13,7 @@ pub returns-in-TryRecvFrom : goal.returns-in-TryRecvFrom
 returns-in-TryRecvFrom c = try_recv_from_answered _ _ _ c.in-TryRecvFrom.is c.try_recv_from.ensures
 
 pub returns-in-TryRecvBatchInto : goal.returns-in-TryRecvBatchInto
-returns-in-TryRecvBatchInto c = batch_answered _ _ _ c.in-TryRecvBatchInto.is c.in-TryRecvBatchInto.try-recv-batch-into-arg4 c.try_recv_batch_into.ensures
+returns-in-TryRecvBatchInto c = batch_answered _ _ _ c.in-TryRecvBatchInto.is c.told-out c.try_recv_batch_into.ensures
 
 pub returns-in-TryRecvBatchIntoWhile : goal.returns-in-TryRecvBatchIntoWhile
-returns-in-TryRecvBatchIntoWhile c = while_answered _ _ _ c.in-TryRecvBatchIntoWhile.is c.in-TryRecvBatchIntoWhile.try-recv-batch-into-while-arg4 c.try_recv_batch_into_while.ensures
+returns-in-TryRecvBatchIntoWhile c = while_answered _ _ _ c.in-TryRecvBatchIntoWhile.is c.told-out c.try_recv_batch_into_while.ensures

@@ -17,10 +17,10 @@ pub turn-t-requires : goal.turn-t-requires
 turn-t-requires c = (c.loop-t.invariant.inside, omega (arith, c.loop-t.invariant.room))
 
 pub returns-in_default : goal.returns-in_default
-returns-in_default c = (served_to _ c.loop-t.invariant c.turn-t.ensures (λ f. absurd (not_answered c.in_default.is f)), (omega (arith, c.turn-t.ensures.inside, length-take-le c.args.have c.args.buffer.now c.requires.1), omega (arith, c.turn-t.ensures.room, c.loop-t.invariant.room)))
+returns-in_default c = record { served = served_to _ c.loop-t.invariant c.turn-t.ensures (λ f. absurd (c.in_default.not-Answered f)); at_le_have = (omega (arith, c.turn-t.ensures.inside, length-take-le c.args.have c.args.buffer.now c.requires.1), omega (arith, c.turn-t.ensures.room, c.loop-t.invariant.room)) }
 
 pub returns-then-end-gt-FULL : goal.returns-then-end-gt-FULL
-returns-then-end-gt-FULL c = (served_to _ c.loop-t.invariant c.turn-t.ensures (λ f. omega (arith, c.if-end-gt-FULL.true)), (omega (arith, c.turn-t.ensures.inside, length-take-le c.args.have c.args.buffer.now c.requires.1), omega (arith, c.turn-t.ensures.room, c.loop-t.invariant.room)))
+returns-then-end-gt-FULL c = record { served = served_to _ c.loop-t.invariant c.turn-t.ensures (λ f. omega (arith, c.if-end-gt-FULL.true)); at_le_have = (omega (arith, c.turn-t.ensures.inside, length-take-le c.args.have c.args.buffer.now c.requires.1), omega (arith, c.turn-t.ensures.room, c.loop-t.invariant.room)) }
 
 pub loop-t-smaller : goal.loop-t-smaller
 loop-t-smaller c = omega (arith, c.turn-t.ensures.forward c.in-Answered.is, c.turn-t.ensures.inside)

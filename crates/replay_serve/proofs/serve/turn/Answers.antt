@@ -13,7 +13,7 @@ returns-in-Incomplete c = turned_incomplete _ _ _ c.requires.0 _ _ (found_at c.a
 
 pub returns-in-Malformed : goal.returns-in-Malformed
 unfolding line
-returns-in-Malformed c = turned_malformed _ _ _ c.requires.0 _ (found_at c.args.input.now c.args.at c.parse-parsed.ensures c.in-Malformed.is) c.put_line.ensures.0 c.put_line.ensures.1
+returns-in-Malformed c = turned_malformed _ _ _ c.requires.0 _ (found_at c.args.input.now c.args.at c.parse-parsed.ensures c.in-Malformed.is) c.put_line.ensures.puts c.put_line.ensures.upper_bound
 
 pub returns-in-Whole : goal.returns-in-Whole
-returns-in-Whole c = turned_whole _ _ _ c.requires.0 _ (found_at c.args.input.now c.args.at c.parse-parsed.ensures c.in-Whole.is) c.answer-answer.ensures c.put_line-in-Whole.ensures.0 c.put_line-in-Whole.ensures.1
+returns-in-Whole c = turned_whole _ _ _ c.requires.0 _ (found_at c.args.input.now c.args.at c.parse-parsed.ensures c.in-Whole.is) c.answer-answer.ensures c.put_line-in-Whole.ensures.puts c.put_line-in-Whole.ensures.upper_bound

@@ -16,7 +16,7 @@ use Rattle.model.specs.Stretch.{ends_wait, ends_stretch, stretch, says_stopped, 
 use Rattle.model.specs.Stops.{has_bound, oldest_above, some_above, is_plain, of_plain, gives_above}
 use Rattle.model.specs.Examples.Pairs.{Reads}
 use Rattle.model.specs.Examples.Example.{key_at, id_on, id_at}
-use Rattle.model.specs.Examples.Calls.{compute}
+use Rattle.model.proofs.Examples.Calls.{compute}
 
 -- ---- answers
 

@@ -13,7 +13,7 @@ use Rattle.model.specs.Receive.{receive_outcome}
 use Rattle.model.specs.Events.{budget_set, collected, none_marked, found_empty, item_taken, went_to_back, call_events, count_events}
 use Rattle.model.specs.BudgetAfterNothing.{budget_left_by, budget_left, sets_budget}
 use Rattle.model.specs.Examples.Pairs.{Reads, Always}
-use Rattle.model.specs.Examples.Events.{compute_events}
+use Rattle.model.proofs.Examples.Events.{compute_events}
 
 -- Three lanes without items: the budget is b, lanes q are queued, and of the others `ready` are pending with their page bits set.
 lanes : Bool → List ℕ → ℕ → List ℕ → List ℕ → State

@@ -18,10 +18,10 @@ use Rattle.model.specs.RowWords.{AnswersAsBeforeIn, AnswersAsBefore}
 use Rattle.model.specs.ShutOut.{call_by, counts_none, held_zero, output_by, numbered_writes_nothing}
 use Rattle.model.specs.Examples.Pairs.{Reads}
 use Rattle.model.specs.Examples.Example.{compute_examples, registers, held}
-use Rattle.model.specs.Examples.Calls.{compute}
-use Rattle.model.specs.Examples.FreePlaces.{untrue}
-use Rattle.model.specs.Examples.Mistaken.{sends}
-use Rattle.model.specs.Examples.Renumbered.{numbers_in, first_word}
+use Rattle.model.proofs.Examples.Calls.{compute}
+use Rattle.model.proofs.Examples.FreePlaces.{untrue}
+use Rattle.model.proofs.Examples.Mistaken.{sends}
+use Rattle.model.proofs.Examples.Renumbered.{numbers_in, first_word}
 
 -- one slot, a ring of one word; an opening number other than 0, as `numbered_writes_nothing` goes wrong only with such a one
 one : Opening

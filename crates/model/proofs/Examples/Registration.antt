@@ -29,7 +29,7 @@ use Rattle.model.specs.Viewed.{Viewed}
 use Rattle.model.specs.Registration.{LetPass, NoSlotLeft, RegistersInVain, TakesFirstClear, TakesNextUnused, EightExactly, NineExactly, RefusedOnlyInVain, registering, FreedOnTop, issue_freed_last, freed_last_lives, register_freed_last, PassesOver, ElseAsBefore}
 use Rattle.model.specs.ShutOut.{call_by, rules_by}
 use Rattle.model.specs.Examples.Example.{compute_examples, key_at, id_at, registers, sends, drops, closes, plain, lane}
-use Rattle.model.specs.Examples.Calls.{compute}
+use Rattle.model.proofs.Examples.Calls.{compute}
 
 -- ---- five states
 

@@ -23,8 +23,8 @@ use Rattle.model.specs.Simulation.{numbers_of_id, numbers_of_call}
 use Rattle.model.specs.LaneIds.{AllAgree, EqualExactly, NamesLane, NamesNoLane, ByLaneId, targets, pauses, resumes, closes, RefusedById, receiver_closed, no_such_lane}
 use Rattle.model.specs.Examples.Pairs.{Reads}
 use Rattle.model.specs.Examples.Example.{compute_examples, repeat, id_on, registers, sends, plain, fair, lane}
-use Rattle.model.specs.Examples.Calls.{compute}
-use Rattle.model.specs.Examples.FreePlaces.{untrue}
+use Rattle.model.proofs.Examples.Calls.{compute}
+use Rattle.model.proofs.Examples.FreePlaces.{untrue}
 
 -- channel 7 with this opening number
 opening : ℕ → Opening

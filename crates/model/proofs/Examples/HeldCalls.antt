@@ -31,7 +31,7 @@ use Rattle.model.specs.Viewed.{Viewed, items_of, answer_of, view_after}
 use Rattle.model.specs.ShutOut.{call_by, rules_by, receive_leaves_item, batch_by, first_moved}
 use Rattle.model.specs.HeldCalls.{items_sent, items_discarded, HeldAfterCall, HeldIsSum}
 use Rattle.model.specs.Examples.Example.{compute_examples, key_at, id_at, registers, sends, sends_unsignalled, drops, plain, fair, batch, batch_while, targeted, pauses, resumes, closes, polls_all, held, lane, gave}
-use Rattle.model.specs.Examples.Calls.{compute}
+use Rattle.model.proofs.Examples.Calls.{compute}
 
 opened : State
 opened = opened_state record { capacity = 4; slots = 3; channel = 7; cursor = 0; generation = 0; number = 0 }

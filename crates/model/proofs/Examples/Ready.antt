@@ -15,7 +15,7 @@ use Rattle.model.specs.Collections.{groups_before}
 use Rattle.model.specs.Opening.{opened_state}
 use Rattle.model.specs.Rules.{the_rules}
 use Rattle.model.specs.Examples.Pairs.{Reads}
-use Rattle.model.specs.Examples.Calls.{compute}
+use Rattle.model.proofs.Examples.Calls.{compute}
 
 -- ---- signals
 

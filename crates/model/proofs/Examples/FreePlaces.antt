@@ -15,7 +15,7 @@ use Rattle.model.specs.Rules.{the_rules}
 use Rattle.model.specs.FreePlaces.{ordinary, unsignalled, send_to, taken_with, TakesSoMany}
 use Rattle.model.specs.Examples.Pairs.{Reads}
 use Rattle.model.specs.Examples.Example.{compute_examples, key_at, id_at, registers, sends, sends_unsignalled, plain, batch, pauses}
-use Rattle.model.specs.Examples.Calls.{compute}
+use Rattle.model.proofs.Examples.Calls.{compute}
 
 unfoldable pub untrue : true ≡ false → ⊥
 untrue e = let z : ◌≡◌ {A = ℕ} 1 0 = ap (λ (b : Bool). if b 1 0) e in omega (arith, z)

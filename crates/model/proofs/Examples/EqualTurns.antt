@@ -20,7 +20,7 @@ use Rattle.model.specs.Rules.{the_rules}
 use Rattle.model.specs.Ledger.{Lane, Ledger, at_opening, change_lane, add_item, remove_oldest, set_paused, set_closed, set_dropped, add_registered, apply_call, note, ledger_after, any_ordinary, waits_in, waits}
 use Rattle.model.specs.EqualTurns.{out_of_turn, throughout, AtMostOneApart}
 use Rattle.model.specs.Examples.Pairs.{Reads, Always}
-use Rattle.model.specs.Examples.Calls.{compute}
+use Rattle.model.proofs.Examples.Calls.{compute}
 use Rattle.model.specs.Examples.Example.{compute_examples, repeat, key_at, id_at, registers, sends, sends_unsignalled, drops, plain, fair, batch, targeted, pauses, resumes, closes, polls_all, held, lane, gave}
 
 unfoldable pub releases : Call

@@ -17,7 +17,7 @@ use Rattle.model.specs.Rules.{the_rules}
 use Rattle.model.specs.Ledger.{Ledger, at_opening, change_lane, add_item, remove_oldest, set_paused, set_closed, set_dropped, add_registered, apply_call, note, ledger_after, waits, waits_in, any_ordinary, is_live, live_lanes}
 use Rattle.model.specs.Stretch.{ends_wait, ends_stretch, stretch, looks, finds_nothing, looks_in_vain, untargeted, of_other_lane, untargeted_of_other, other_receive, not_fair, after_calls, most_live, groups_at}
 use Rattle.model.specs.Demand3.{bound, Promise}
-use Rattle.model.specs.Examples.Calls.{compute}
+use Rattle.model.proofs.Examples.Calls.{compute}
 
 opening : Opening
 opening = record { capacity = 128; slots = 2; channel = 7; cursor = 0; generation = 0; number = 0 }

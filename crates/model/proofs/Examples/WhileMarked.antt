@@ -15,7 +15,7 @@ use Rattle.model.specs.Viewed.{rules_viewed}
 use Rattle.model.specs.Events.{budget_set, collected, none_marked, found_empty, item_taken, went_to_back, any_marked, take_up_to_events, take_while_events, events_from, collects, finds_none_marked}
 use Rattle.model.specs.WhileMarked.{until_collected}
 use Rattle.model.specs.Examples.Pairs.{Reads}
-use Rattle.model.specs.Examples.Events.{two_slots, lent, lane, repeat, registers, sends, plain, compute_events}
+use Rattle.model.proofs.Examples.Events.{two_slots, lent, lane, repeat, registers, sends, plain, compute_events}
 
 -- the events before the first that collects
 until_collected_read :

@@ -19,7 +19,7 @@ use Rattle.model.specs.Rules.{the_rules}
 use Rattle.model.specs.PollLoop.{NothingLeft}
 use Rattle.model.specs.ReceivesEnd.{items_asked}
 use Rattle.model.specs.Examples.Pairs.{Reads}
-use Rattle.model.specs.Examples.Calls.{compute}
+use Rattle.model.proofs.Examples.Calls.{compute}
 
 lane : ℕ → LaneKey
 lane x = record { slot = x; generation = 0 }

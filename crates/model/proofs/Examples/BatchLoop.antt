@@ -8,7 +8,7 @@ use Rattle.model.specs.Receive.{take_up_to, take_while}
 use Rattle.model.specs.PollLoop.{refreshed, refresh_active}
 use Rattle.model.specs.BatchLoop.{chunk_length, chunk_items, after_chunk, Rounds, limit_reached, chunk_moved, RoundsWhile, while_limit_reached, while_chunk_moved, item_rejected}
 use Rattle.model.specs.Examples.Pairs.{Reads}
-use Rattle.model.specs.Examples.Calls.{compute}
+use Rattle.model.proofs.Examples.Calls.{compute}
 
 -- C is 256, so that the release batch is 128. Lanes 0 and 1 are registered, each with the unreleased count u and the burst b, and hold 5, 6 and 7.
 lanes : ℕ → ℕ → ℕ → List ℕ → State

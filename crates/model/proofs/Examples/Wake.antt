@@ -20,7 +20,7 @@ use Rattle.model.specs.Ledger.{at_opening, change_lane, add_item, remove_oldest,
 use Rattle.model.specs.Stretch.{looks, finds_nothing, looks_in_vain}
 use Rattle.model.specs.Wake.{items_below, below_limit, may_sleep, while_asleep, ends_sleep, sends_to, says_woken, wakes, paused_in}
 use Rattle.model.specs.Examples.Pairs.{Reads}
-use Rattle.model.specs.Examples.Calls.{compute}
+use Rattle.model.proofs.Examples.Calls.{compute}
 
 -- the key of slot x's lane with generation g
 key : ℕ → ℕ → LaneKey

@@ -21,8 +21,8 @@ use Rattle.model.specs.Demand2.{values, into}
 use Rattle.model.specs.FreePlaces.{Send, ordinary, unsignalled, send_to, taken_with, FreePlacesIn, FreePlaces, sent, registered, NotFullBeforeIn, NotFullBefore}
 use Rattle.model.specs.ShutOut.{call_by, Said, said_instead, send_saying, sends_say, full_if, send_keeps_place, keeps_last_place, send_releases, refusal_releases, send_full_paused, paused_is_full, issued_unreleased, register_unreleased, new_lane_unreleased}
 use Rattle.model.specs.Examples.Example.{compute_examples, repeat, key_at, id_on, registers, plain, fair, batch, polls_all, held}
-use Rattle.model.specs.Examples.Calls.{compute}
-use Rattle.model.specs.Examples.FreePlaces.{untrue}
+use Rattle.model.proofs.Examples.Calls.{compute}
+use Rattle.model.proofs.Examples.FreePlaces.{untrue}
 
 -- cursors that pass 2^64, and generations from 4 on
 opening : Opening

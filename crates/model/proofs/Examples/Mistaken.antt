@@ -24,9 +24,9 @@ use Rattle.model.specs.Rules.{the_rules}
 use Rattle.model.specs.LaneIds.{NamesLane, ByLaneId, targets, pauses, resumes, closes, NamesNoLane, ThirteenExactly, ElseSixOrAccepted, RefusedById, ToldApart, OpeningsToldApartIn, OpeningsToldApart, OtherNumber, SavedOf, of_item, of_lane, SavedIdsRefusedIn}
 use Rattle.model.specs.ShutOut.{call_by, rules_by, TakenFor, as_it_is, Otherwise, taking, own_refused, closed_accepted, receive_otherwise, control_otherwise, do_otherwise, number_ignored, upper_half_ignored, channel_ignored, for_no_lane, takes_ids, item_named, receive_naming, names_items, number_lost, sender_calls_lose_number, receives_lose_number, controls_lose_number}
 use Rattle.model.specs.Examples.Example.{compute_examples, key_at, id_on, registers, plain, fair, batch, polls_all, held}
-use Rattle.model.specs.Examples.Calls.{compute}
-use Rattle.model.specs.Examples.FreePlaces.{untrue}
-use Rattle.model.specs.Examples.LaneIds.{not_accepted, not_of_a_lane}
+use Rattle.model.proofs.Examples.Calls.{compute}
+use Rattle.model.proofs.Examples.FreePlaces.{untrue}
+use Rattle.model.proofs.Examples.LaneIds.{not_accepted, not_of_a_lane}
 
 -- ---- a call in a run
 

@@ -23,9 +23,9 @@ use Rattle.model.specs.Renumbered.{renumbered_opening, renumbered_id, renumbered
 use Rattle.model.specs.ShutOut.{call_by, send_refused, receive_of_front, counts_none, as_it_is, number_ignored, taking, receive_otherwise, control_otherwise, takes_ids, if_numbered, numbered_send_full, numbered_fair_front, numbered_held_zero, issued_numbered, register_numbered, generations_numbered, later_for_this, numbered_writes_nothing, output_by, opens_unnumbered}
 use Rattle.model.specs.Examples.Pairs.{Reads}
 use Rattle.model.specs.Examples.Example.{compute_examples, key_at, id_on, registers, plain, fair, batch, held, polls_all}
-use Rattle.model.specs.Examples.Calls.{compute}
-use Rattle.model.specs.Examples.FreePlaces.{untrue}
-use Rattle.model.specs.Examples.Mistaken.{tiny, tiny_lent, N, opening, lent, id, paused, sends, calls, after}
+use Rattle.model.proofs.Examples.Calls.{compute}
+use Rattle.model.proofs.Examples.FreePlaces.{untrue}
+use Rattle.model.proofs.Examples.Mistaken.{tiny, tiny_lent, N, opening, lent, id, paused, sends, calls, after}
 
 compute_renumbered : Unit {0}
 unfolding compute compute_examples number line tiny tiny_lent opening lent id paused sends calls after accepted handed ticks trace renumbered_receive renumbered_control renumbered_call renumbered_answer renumbered_tick call_by send_refused receive_of_front counts_none as_it_is number_ignored taking receive_otherwise control_otherwise if_numbered issued_numbered register_numbered later_for_this

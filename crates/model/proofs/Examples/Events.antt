@@ -15,7 +15,7 @@ use Rattle.model.specs.Events.{Event, budget_set, collected, none_marked, found_
 use Rattle.model.specs.OneTurn.{ends_turn_of}
 use Rattle.model.specs.Budget.{items_counted_from, items_since_set}
 use Rattle.model.specs.Examples.Pairs.{Reads}
-use Rattle.model.specs.Examples.Calls.{compute}
+use Rattle.model.proofs.Examples.Calls.{compute}
 
 -- two slots of capacity 128
 unfoldable pub two_slots : Opening

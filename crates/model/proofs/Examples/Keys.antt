@@ -16,7 +16,7 @@ use Rattle.model.specs.Rules.{the_rules}
 use Rattle.model.specs.Ledger.{at_opening, change_lane, add_item, remove_oldest, set_paused, set_closed, set_dropped, add_registered, apply_call, note, ledger_after}
 use Rattle.model.specs.Keys.{registers_as, answers_key_that, answers_key, answers_slot}
 use Rattle.model.specs.Examples.Pairs.{Reads}
-use Rattle.model.specs.Examples.Calls.{compute}
+use Rattle.model.proofs.Examples.Calls.{compute}
 
 key : ℕ → ℕ → LaneKey
 key x g = record { slot = x; generation = g }

@@ -13,7 +13,7 @@ use Rattle.model.specs.Runs.{Tick, trace}
 use Rattle.model.specs.EqualTurns.{EqualTurnsIn, EqualTurns}
 use Rattle.model.specs.ShutOut.{call_by, output_by, receive_of_front, fair_serves_front_only, front_to_back, receive_turns_round, targeted_turns_round}
 use Rattle.model.specs.Examples.Example.{repeat, key_at, id_on, registers, sends, plain, fair, batch, targeted, polls_all, held}
-use Rattle.model.specs.Examples.EqualTurns.{releases, opening, lent, four_each, compute_runs}
+use Rattle.model.proofs.Examples.EqualTurns.{releases, opening, lent, four_each, compute_runs}
 
 -- what happens, cut in three: n things, m things, and the rest
 cut : (n m : ℕ) (ts : List Tick) → ts ≡ take n ts ++ (take m (drop n ts) ++ drop m (drop n ts))

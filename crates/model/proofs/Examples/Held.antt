@@ -10,7 +10,7 @@ use Rattle.model.specs.declared.Answer.TheVariants.{Done, Taken, Refused}
 use Rattle.model.specs.Runs.{accepted, Tick, gives, ends, same_key}
 use Rattle.model.specs.Ledger.{at_opening, change_lane, add_item, remove_oldest, set_paused, set_closed, add_registered, apply_call, note, ledger_after}
 use Rattle.model.specs.Held.{held_by, held_by_lanes}
-use Rattle.model.specs.Examples.Stretch.{lane, lane_id, registered}
+use Rattle.model.proofs.Examples.Stretch.{lane, lane_id, registered}
 
 sent : ℕ → Tick
 sent x = ends (Sender (TrySend (lane x) 5)) (Taken true 3)
