@@ -7,10 +7,10 @@ use borrow.Author.Rules.{rules}
 use Rattle.capacity4.proofs.receive.Goals as goal
 
 pub poll-requires : goal.poll-requires
-poll-requires c = rw c.new.ensures (record { power = four; fits = search rules }, c.requires)
+poll-requires g c = rw c.new.ensures (record { power = four; fits = search rules }, c.requires)
 
 pub returns-in-Idle : goal.returns-in-Idle
-returns-in-Idle c = receives _ _ c.requires c.new.result c.new.ensures _ _ c.poll.ensures (ap polled_lane c.in-Idle.is)
+returns-in-Idle g c = receives _ _ c.requires c.new.result c.new.ensures _ _ c.poll.ensures (ap polled_lane c.in-Idle.is)
 
 pub returns-in-Item : goal.returns-in-Item
-returns-in-Item c = receives _ _ c.requires c.new.result c.new.ensures _ _ c.poll.ensures (ap polled_lane c.in-Item.is)
+returns-in-Item g c = receives _ _ c.requires c.new.result c.new.ensures _ _ c.poll.ensures (ap polled_lane c.in-Item.is)
