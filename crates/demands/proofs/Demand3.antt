@@ -12,7 +12,6 @@ use Rattle.model.specs.declared.Opening.{Opening}
 use Rattle.model.specs.declared.Call.{Call}
 use Rattle.model.specs.declared.Answer.TheVariants.{Done}
 -- not used here: so the computed run that meets the bound is checked first
-use Rattle.model.proofs.Examples.BoundMet.{bound_met}
 use Rattle.model.specs.Lists.{if, both}
 use Rattle.model.specs.State.{State, vacant, key_of}
 use Rattle.model.specs.Ready.{groups_in}

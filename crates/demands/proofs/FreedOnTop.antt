@@ -11,7 +11,7 @@ use Rattle.model.specs.declared.Call.TheVariants.{Sender, Receive, Control}
 use Rattle.model.specs.declared.Answer.{Answer}
 use Rattle.model.specs.Lists.{if, Each, without}
 use Rattle.model.specs.State.{Slot, State, may_queue}
-use Rattle.model.specs.Changes.{put, with_queue, popped, retired, signalled}
+use Rattle.model.specs.Changes.{put, with_queue, popped, signalled}
 use Rattle.model.specs.Turn.{retire_lane, unreleased_after_one, give_item}
 use Rattle.model.specs.Receive.{queue_lane_if, receive_outcome}
 use Rattle.model.specs.Runs.{Tick, gives, ends, handed, ticks}

@@ -10,7 +10,6 @@ use lib.Dec.{eqb, leb, ltb}
 use borrow.Author.Tests.{eqb-false, leb-false, ltb-true}
 use Rattle.model.specs.declared.LaneKey.{LaneKey}
 -- not used here: so the computed examples are checked before any proof about the rules, and a changed rule is refused there first
-use Rattle.model.proofs.Examples.Calls.{table_computed}
 use Rattle.model.specs.Lists.{if, both, either, count, keep, from, non_empty}
 use Rattle.model.specs.State.{Slot, State, queued, may_queue}
 use Rattle.model.specs.Changes.{with_queue, with_budget, put, signalled, popped, settled_empty, retired, unmarked}

@@ -1,7 +1,7 @@
 -- A plain, fair or non-zero batch receive that is not refused hands out what was asked for, or leaves nothing queued and nothing ready: what follows its poll
 -- loop, lanes retired and credit given back, queues and marks none.
 -- Assumes nothing.
-use mathlib.Core.Path.{◌≡◌, refl, ◌∙◌}
+use mathlib.Core.Path.{◌≡◌, refl}
 use mathlib.Core.Logic.{◌⊎◌, inl, inr}
 use mathlib.Core.Bool.{Bool, true, false, not}
 use mathlib.Core.List.{List, [], ◌∷◌}

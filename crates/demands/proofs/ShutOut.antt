@@ -1,6 +1,6 @@
 -- What document 01 says demands 2 and 3 shut out, they do: each by one computed run of the wrong rules (specs/ShutOut.antt) on which the demand fails.
 -- Assumes nothing.
-use mathlib.Core.Path.{◌≡◌, refl, ap, ◌∙◌}
+use mathlib.Core.Path.{◌≡◌, refl, ap}
 use mathlib.Core.Bool.{true, false}
 use mathlib.Core.List.{List, [], ◌∷◌}
 use Prim.Native.Nat.{ℕ, ◌≤◌}

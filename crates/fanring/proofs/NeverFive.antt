@@ -18,7 +18,6 @@ use Rattle.model.specs.declared.ControlCall.TheVariants.{Pause, Resume, CloseLan
 use Rattle.model.specs.declared.Call.{Call}
 use Rattle.model.specs.declared.Call.TheVariants.{Sender, Receive, Control}
 use Rattle.model.specs.declared.Refusal.{Refusal}
-use Rattle.model.specs.declared.Refusal.TheVariants as Refusal
 use Rattle.model.specs.declared.Answer.{Answer}
 use Rattle.model.specs.declared.Answer.TheVariants.{Refused}
 use Rattle.model.specs.Answers.{number, line}
@@ -26,7 +25,6 @@ use Rattle.model.specs.Runs.{accepted}
 use Rattle.demands.proofs.Counting.{no}
 use Rattle.lane.specs.declared.lane.Lane.{Lane}
 use Rattle.lane.specs.declared.producer.Sent.{Sent}
-use Rattle.lane.specs.declared.producer.Sent.TheVariants as Sent
 use Rattle.lane.specs.Table.{lane_at}
 use Rattle.queues.specs.Header.{issued, free_count, slots, alive, channel_id, opening_number, lane_count}
 use Rattle.store.specs.declared.refusal.Verdict.{Verdict}

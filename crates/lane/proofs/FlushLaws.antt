@@ -11,7 +11,6 @@ use Rattle.lane.specs.Lane.{sent, push_and_flush_item, sent_by, push_and_flush}
 use Rattle.yring.specs.declared.ring.Ring.{Ring}
 use Rattle.lane.specs.declared.lane.Lane.{Lane}
 use Rattle.lane.specs.declared.producer.Sent.{Sent}
-use Rattle.lane.specs.declared.producer.Sent.TheVariants as Sent
 
 -- the ring store that goes with what a send answers
 abbrev pub stored_by : Ring → List ℕ → ℕ → Lane → Sent → List ℕ

@@ -10,7 +10,7 @@ use lib.Dec.{eqb}
 use Rattle.model.specs.State.{release_batch}
 use Rattle.yring.proofs.ReleaseLaws.{batch_some}
 use Rattle.yring.specs.Cursor.{after, distance, Capacity}
-use Rattle.lane.specs.Lane.{with_cursors, with_counts, prefetch, reload, release, advance, close_fast, window_for, open_window, open_for, grant_fast, window_pop, pop_fast, release_at_batch, release_any, release_pending, settled, emptied, settle_empty, ready_or_idle, refill, reload_is_empty, charge, add_burst, end_burst, targeted, pop_targeted, polled, poll_item, poll_refilled, poll, fair_window, burst_of_window, fairly, pop_lone, end_full_burst, chunk_limit, move_chunk, sent, push_and_flush_item, new_lane}
+use Rattle.lane.specs.Lane.{with_cursors, with_counts, prefetch, reload, release, advance, close_fast, window_for, open_for, grant_fast, window_pop, pop_fast, release_at_batch, release_any, release_pending, settled, emptied, settle_empty, ready_or_idle, refill, reload_is_empty, charge, add_burst, end_burst, targeted, pop_targeted, polled, poll_item, poll_refilled, poll, fair_window, fairly, pop_lone, end_full_burst, chunk_limit, move_chunk, sent, push_and_flush_item, new_lane}
 use Rattle.lane.specs.Table.{NarrowLane}
 use Rattle.lane.specs.Order.{Cursors, Counts, InOrder, Filled, FoundEmpty, Refundable, sent_lane, popped_lane, refilled_lane, polled_lane}
 use Rattle.yring.specs.Ring.{push_item, item_at}
@@ -18,12 +18,8 @@ use Rattle.model.specs.declared.LaneKey.{LaneKey}
 use Rattle.yring.specs.declared.ring.Ring.{Ring}
 use Rattle.lane.specs.declared.lane.Lane.{Lane}
 use Rattle.lane.specs.declared.lane.Popped.{Popped}
-use Rattle.lane.specs.declared.lane.Popped.TheVariants as Popped
 use Rattle.lane.specs.declared.lane.Released.{Released}
-use Rattle.lane.specs.declared.lane.Targeted.{Targeted}
-use Rattle.lane.specs.declared.lane.LanePoll.TheVariants as LanePoll
 use Rattle.lane.specs.declared.lane.Refill.{Refill}
-use Rattle.lane.specs.declared.lane.Refill.TheVariants as Refill
 use Rattle.yring.proofs.CursorLaws.{some, behind_after, ahead_after, distance_self, distance_none}
 use Rattle.lane.proofs.CursorOrder.{held_adds, head_goes_on, tail_goes_on, known_is_tail, released_is_head}
 use Rattle.lane.proofs.CountOrder.{counts_close, counts_narrow, counts_look, counts_open, counts_pop, counts_charge, counts_credit, counts_release, counts_burst}

@@ -1,7 +1,7 @@
 -- A pop in two steps, the look at the window and then the item, is the pop of the definition.
 -- Assumes nothing.
 use mathlib.Core.List.{List}
-use mathlib.Core.Path.{◌≡◌, ap, ◌∙◌}
+use mathlib.Core.Path.{◌≡◌, ap}
 use Prim.Native.Nat.{ℕ}
 use borrow.Author.Tests.{eq-eqb, ne_eqb}
 use Rattle.lane.specs.Lane.{pop_window, pop_fast, fair_window, pop_fair, fairly, pop_lone}

@@ -1,6 +1,6 @@
 -- What each method of a lane does to its record. The window's items are charged to the counts before they are popped.
 -- Assumes nothing.
-use Rattle.std.specs.Prelude.{Bool, true, false, cond, ◌||◌, List, ℕ, ◌+◌, ◌-◌, ◌≤◌, min, eqb}
+use Rattle.std.specs.Prelude.{Bool, true, false, cond, ◌||◌, List, ℕ, ◌+◌, ◌-◌, min, eqb}
 use Rattle.model.specs.declared.LaneKey.{LaneKey}
 use Rattle.yring.specs.Cursor.{after, distance}
 use Rattle.yring.specs.Ring.{item_at, items, push_item, push}
@@ -9,17 +9,13 @@ use Rattle.yring.specs.declared.ring.Ring.{Ring}
 use Rattle.yring.specs.declared.ring.Push.{Push}
 use Rattle.yring.specs.declared.ring.Push.TheVariants.{Pushed, Full}
 use Rattle.lane.specs.declared.producer.Sent.{Sent}
-use Rattle.lane.specs.declared.producer.Sent.TheVariants as Sent
 use Rattle.lane.specs.declared.consumer.Taken.{Taken}
 use Rattle.lane.specs.declared.lane.Lane.{Lane}
 use Rattle.lane.specs.declared.lane.Popped.{Popped}
-use Rattle.lane.specs.declared.lane.Popped.TheVariants as Popped
 use Rattle.lane.specs.declared.lane.Released.{Released}
 use Rattle.lane.specs.declared.lane.EmptyLane.{EmptyLane}
 use Rattle.lane.specs.declared.lane.Refill.{Refill}
-use Rattle.lane.specs.declared.lane.Refill.TheVariants as Refill
 use Rattle.lane.specs.declared.lane.LanePoll.{LanePoll}
-use Rattle.lane.specs.declared.lane.LanePoll.TheVariants as LanePoll
 use Rattle.lane.specs.declared.lane.Targeted.{Targeted}
 use Rattle.lane.specs.declared.lane.BurstEnd.{BurstEnd}
 use Rattle.lane.specs.declared.lane.Reloaded.{Reloaded}

@@ -4,14 +4,10 @@ use Rattle.std.specs.Prelude.{◌≡◌, ℕ, ◌+◌, ◌^◌, ◌≤◌, ◌<�
 use Rattle.yring.specs.Cursor.{distance}
 use Rattle.model.specs.State.{release_batch}
 use Rattle.lane.specs.declared.producer.Sent.{Sent}
-use Rattle.lane.specs.declared.producer.Sent.TheVariants as Sent
 use Rattle.lane.specs.declared.lane.Lane.{Lane}
 use Rattle.lane.specs.declared.lane.Popped.{Popped}
-use Rattle.lane.specs.declared.lane.Popped.TheVariants as Popped
 use Rattle.lane.specs.declared.lane.Refill.{Refill}
-use Rattle.lane.specs.declared.lane.Refill.TheVariants as Refill
 use Rattle.lane.specs.declared.lane.LanePoll.{LanePoll}
-use Rattle.lane.specs.declared.lane.LanePoll.TheVariants as LanePoll
 
 -- the cursors, from the released head to the head, on to the known tail, on to the tail
 pub record Cursors (C tail released head known : ℕ) : Type 0 where

@@ -1,6 +1,6 @@
 -- A lane's record as words of the table store.
 -- Assumes nothing.
-use Rattle.std.specs.Prelude.{List, [], ◌∷◌, ℕ, ◌+◌, ◌*◌, ◌/◌, ◌%◌, ◌≤◌, ◌<◌, length, get_or, set}
+use Rattle.std.specs.Prelude.{List, [], ◌∷◌, ℕ, ◌+◌, ◌*◌, ◌/◌, ◌%◌, ◌≤◌, ◌<◌, get_or, set}
 use Rattle.yring.specs.Lists.{scatter}
 use Rattle.lane.specs.declared.lane.Lane.{Lane}
 

@@ -3,7 +3,7 @@
 use mathlib.Core.Path.{◌≡◌, refl, sym, ◌∙◌, subst}
 use mathlib.Core.Bool.{Bool, true, false}
 use mathlib.Core.List.{List}
-use Prim.Native.Nat.{ℕ, zero, suc, ◌+◌, ◌-◌, ◌*◌, ◌/◌, ◌%◌, ◌≤◌, ◌<◌}
+use Prim.Native.Nat.{ℕ, zero, suc, ◌+◌, ◌*◌, ◌/◌, ◌%◌, ◌≤◌, ◌<◌}
 use native.Mathlib.Omega.{arith}
 use borrow.Author.Tests.{eqb-true, eqb-false, eq-eqb, ne_eqb, ltb-true, ltb-false}
 use lib.Dec.{ltb}
@@ -19,7 +19,7 @@ use Rattle.queues.specs.Header.{Shaped, issued, budget, capacity, fast_slot}
 use Rattle.queues.specs.Queue.{queue_of}
 use Rattle.queues.specs.Registry.{free_of}
 use Rattle.ready.specs.Ready.{Linked}
-use Rattle.store.specs.View.{flag, slot_of, slot_at, view}
+use Rattle.store.specs.View.{flag, slot_at, view}
 use Rattle.store.specs.Order.{Flag, Flags, Fast, MarkWords, Stores, StoreInOrder}
 use Rattle.store.proofs.ViewLaws.{slot_in, slot_out}
 use Rattle.store.proofs.CountLaws.{passing_same}

@@ -8,7 +8,6 @@ use native.Mathlib.Omega.{arith}
 use borrow.Author.Tests.{ltb-true, le-leb, eqb-true}
 use lib.Dec.{ltb, leb, eqb}
 use lib.ListN.{length}
-use Rattle.model.specs.Lists as rules
 use Rattle.demands.proofs.Counting.{equal, other, same?}
 use Rattle.lane.specs.Table.{header_words, row_words, lane_words, head, cell_at, cell, narrowed, lane_at, put_lane}
 use Rattle.lane.proofs.TableLaws.{frames, slot_of_lane, narrow_same, loaded_narrow}

@@ -11,7 +11,6 @@ use Rattle.yring.specs.declared.ring.Ring.{Ring}
 use Rattle.lane.specs.declared.consumer.Taken.{Taken}
 use Rattle.lane.specs.declared.lane.Lane.{Lane}
 use Rattle.lane.specs.declared.lane.Popped.{Popped}
-use Rattle.lane.specs.declared.lane.Popped.TheVariants as Popped
 use Rattle.yring.specs.Ring.{Within, new_ring}
 use Rattle.lane.specs.Lane.{pop_window, fair_window, pop_fair, pop_fast, pop_lone}
 use Rattle.lane.specs.Table.{lane_at, put_lane}
@@ -19,7 +18,6 @@ use Rattle.lane.proofs.WindowLaws.{pop_fast_none, pop_fast_some, pop_fair_none, 
 use Rattle.queues.specs.Header.{Shaped, issued, slots, queue_count, budget, capacity, channel, fast_slot, set_budget}
 use Rattle.queues.specs.Queue.{front_slot}
 use Rattle.turns.specs.declared.turn.Took.{Took}
-use Rattle.turns.specs.declared.turn.Took.TheVariants as Took
 use Rattle.turns.specs.Drained.{Rests}
 use Rattle.turns.specs.Turn.{Turning, front_lane}
 use Rattle.receive.specs.Receive.{else_take, take_from_window, fast_took, take_fast, FastOpen, take_if_popped, try_recv_refill, take_one, take_lone}

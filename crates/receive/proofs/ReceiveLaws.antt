@@ -13,9 +13,7 @@ use Rattle.model.specs.declared.LaneKey.{LaneKey}
 use Rattle.yring.specs.declared.ring.Ring.{Ring}
 use Rattle.lane.specs.declared.lane.Lane.{Lane}
 use Rattle.lane.specs.declared.lane.Popped.{Popped}
-use Rattle.lane.specs.declared.lane.Popped.TheVariants as Popped
 use Rattle.lane.specs.declared.lane.LanePoll.{LanePoll}
-use Rattle.lane.specs.declared.lane.LanePoll.TheVariants as LanePoll
 use Rattle.yring.specs.Ring.{new_ring}
 use Rattle.lane.specs.Order.{InOrder, popped_lane}
 use Rattle.lane.specs.Lane.{pop_fast, grant_fast, open_for, close_fast, reload, pop_lone}
@@ -29,11 +27,9 @@ use Rattle.queues.specs.Queue.{front_slot}
 use Rattle.ready.specs.Ready.{collect_ready}
 use Rattle.store.specs.Order.{StoreInOrder, but_held}
 use Rattle.turns.specs.declared.turn.Took.{Took}
-use Rattle.turns.specs.declared.turn.Took.TheVariants as Took
 use Rattle.turns.specs.declared.turn.Turn.{Turn}
-use Rattle.turns.specs.declared.turn.Turn.TheVariants as Turn
 use Rattle.turns.specs.Turn.{Turning, front_lane, turn_by, poll_front, after_turn, turns_within, turns}
-use Rattle.turns.specs.Drained.{Idle, Rests}
+use Rattle.turns.specs.Drained.{Rests}
 use Rattle.receive.specs.Receive.{else_take, take_from_window, fast_took, Affords, take_fast, take_if_popped, take_front_window, poll_loop, try_recv_refill, take_lone, take_fair}
 use Rattle.store.proofs.LaneFields.{Flagged, flagged_pop_fast, flagged_grant, flagged_pop_fair}
 use Rattle.turns.proofs.TurnLaws.{slot_below, front_issued, front_ordered, turning_budget}

@@ -6,7 +6,6 @@ use Rattle.model.specs.declared.Answer.{Answer}
 use Rattle.model.specs.declared.Answer.TheVariants.{Item}
 use Rattle.lane.specs.declared.lane.Lane.{Lane}
 use Rattle.lane.specs.declared.lane.Popped.{Popped}
-use Rattle.lane.specs.declared.lane.Popped.TheVariants as Popped
 use Rattle.yring.specs.Ring.{new_ring}
 use Rattle.lane.specs.Lane.{pop_fast, grant_fast, pop_lone}
 use Rattle.lane.specs.Table.{lane_at, put_lane}
@@ -14,7 +13,6 @@ use Rattle.queues.specs.Header.{set_budget, set_fast_slot, issued, queue_count, 
 use Rattle.queues.specs.Queue.{front_slot}
 use Rattle.ready.specs.Ready.{collect_ready}
 use Rattle.turns.specs.declared.turn.Took.{Took}
-use Rattle.turns.specs.declared.turn.Took.TheVariants as Took
 use Rattle.store.specs.Refusal.{receiver_verdict}
 use Rattle.store.specs.Order.{StoreInOrder}
 use Rattle.store.specs.Words.{Words, unless_refused, with_rings}

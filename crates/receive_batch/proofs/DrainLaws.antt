@@ -14,7 +14,6 @@ use Rattle.lane.specs.declared.lane.Lane.{Lane}
 use Rattle.yring.specs.Lists.{tab, written}
 use Rattle.yring.specs.Ring.{items}
 use Rattle.receive_batch.specs.declared.batch.Front.{Front}
-use Rattle.receive_batch.specs.declared.batch.Front.TheVariants as Front
 use Rattle.turns.specs.Turn.{Turning}
 use Rattle.turns.specs.Drained.{Idle}
 use Rattle.receive_batch.specs.Batch.{refresh_active, Fronts, chunk_size, chunk_items, chunk_given, give_chunk, HandsAndTable, chunk_then, drained_within, drained, drain_into}

@@ -10,7 +10,6 @@ use lib.Dec.{eqb}
 use Rattle.lane.specs.declared.lane.Lane.{Lane}
 use Rattle.lane.specs.declared.lane.EmptyLane.{EmptyLane}
 use Rattle.lane.specs.declared.lane.Refill.{Refill}
-use Rattle.lane.specs.declared.lane.Refill.TheVariants as Refill
 use Rattle.lane.specs.Order.{InOrder, Refundable, refilled_lane}
 use Rattle.lane.specs.Lane.{refill}
 use Rattle.lane.specs.Table.{lane_at}
@@ -19,12 +18,9 @@ use Rattle.queues.specs.Header.{Shaped, slots, queue_count, free_count, capacity
 use Rattle.queues.specs.Queue.{front_slot}
 use Rattle.ready.specs.Ready.{collect_ready}
 use Rattle.receive_batch.specs.declared.batch.Front.{Front}
-use Rattle.receive_batch.specs.declared.batch.Front.TheVariants as Front
 use Rattle.receive_batch.specs.declared.batch.Look.{Look}
-use Rattle.receive_batch.specs.declared.batch.Look.TheVariants as Look
 use Rattle.turns.specs.Turn.{Turning, front_lane, settle_empty_front}
 use Rattle.turns.specs.Due.{collect_if_due}
-use Rattle.turns.specs.Drained.{Idle}
 use Rattle.receive_batch.specs.Batch.{look_by, look_front, after_look, run_down_within, run_down, else_front, refresh_active, Reached}
 use Rattle.store.proofs.LaneFields.{Emptied, RefillKept, refill_kept}
 use Rattle.turns.proofs.TurnLaws.{slot_below, some_lane, free_room, front_issued, front_registered, front_ordered, turning_met}

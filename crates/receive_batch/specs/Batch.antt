@@ -8,7 +8,6 @@ use Rattle.model.specs.declared.Refusal.TheVariants.{OutputShort}
 use Rattle.model.specs.Receive as rules
 use Rattle.lane.specs.declared.lane.Lane.{Lane}
 use Rattle.lane.specs.declared.lane.Refill.{Refill}
-use Rattle.lane.specs.declared.lane.Refill.TheVariants as Refill
 use Rattle.yring.specs.Lists.{written}
 use Rattle.yring.specs.Ring.{new_ring, items}
 use Rattle.lane.specs.Lane.{refill, end_full_burst, chunk_limit, move_chunk}
@@ -18,9 +17,7 @@ use Rattle.ready.specs.Ready.{collect_ready}
 use Rattle.store.specs.declared.refusal.Verdict.{Verdict}
 use Rattle.store.specs.declared.refusal.Verdict.TheVariants.{Pass, Refuse}
 use Rattle.receive_batch.specs.declared.batch.Front.{Front}
-use Rattle.receive_batch.specs.declared.batch.Front.TheVariants as Front
 use Rattle.receive_batch.specs.declared.batch.Look.{Look}
-use Rattle.receive_batch.specs.declared.batch.Look.TheVariants as Look
 use Rattle.store.specs.Refusal.{receiver_verdict, and_then}
 use Rattle.store.specs.Words.{Words, unless_refused, with_rings}
 use Rattle.turns.specs.Turn.{Turning, front_lane, settle_empty_front, meet_budget, rotate_if}

@@ -9,7 +9,6 @@ use Rattle.model.specs.declared.Answer.TheVariants.{Item, Empty, Disconnected}
 use Rattle.lane.specs.declared.lane.Lane.{Lane}
 use Rattle.lane.specs.declared.lane.EmptyLane.{EmptyLane}
 use Rattle.lane.specs.declared.lane.Refill.{Refill}
-use Rattle.lane.specs.declared.lane.Refill.TheVariants as Refill
 use Rattle.yring.specs.Cursor.{Capacity}
 use Rattle.yring.specs.Ring.{new_ring, Within}
 use Rattle.lane.specs.Order.{InOrder, Filled, Refundable}

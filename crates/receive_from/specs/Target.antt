@@ -7,7 +7,6 @@ use Rattle.model.specs.declared.Answer.TheVariants.{Item, Empty, Disconnected}
 use Rattle.lane.specs.declared.lane.Lane.{Lane}
 use Rattle.lane.specs.declared.lane.EmptyLane.{EmptyLane}
 use Rattle.lane.specs.declared.lane.Refill.{Refill}
-use Rattle.lane.specs.declared.lane.Refill.TheVariants as Refill
 use Rattle.yring.specs.Ring.{new_ring}
 use Rattle.lane.specs.Order.{Filled}
 use Rattle.lane.specs.Lane.{refill, pop_targeted}

@@ -3,7 +3,7 @@
 use mathlib.Core.Path.{◌≡◌, refl, sym, ap, ◌∙◌, subst}
 use mathlib.Core.Bool.{Bool, true, false, cond}
 use mathlib.Core.List.{List, [], ◌++◌}
-use Prim.Native.Nat.{ℕ, zero, suc, ◌+◌, ◌-◌, ◌<◌}
+use Prim.Native.Nat.{ℕ, zero, suc, ◌-◌, ◌<◌}
 use native.Mathlib.Omega.{arith}
 use borrow.Author.Tests.{ltb-false}
 use lib.Dec.{eqb, ltb}
@@ -21,7 +21,6 @@ use Rattle.turns.specs.Drained.{Idle}
 use Rattle.turns.proofs.FrontLaws.{Keeps, keeps_self, keeps_then}
 use Rattle.all_lanes.specs.AllLanes.{AllRefundable, release_all}
 use Rattle.receive_batch.specs.declared.batch.Front.{Front}
-use Rattle.receive_batch.specs.declared.batch.Front.TheVariants as Front
 use Rattle.receive_while.specs.declared.batch_while.Drained.{Drained}
 use Rattle.receive_batch.specs.Batch.{refresh_active, chunk_size, chunk_given, batch_verdict, RestsAt, handed_by}
 use Rattle.receive_while.specs.While.{chunk_admitted, DrainedWhile, while_then, drained_while_within, drained_while, drain_while, answer_while, while_answer, while_words, while_hands, try_recv_batch_into_while}

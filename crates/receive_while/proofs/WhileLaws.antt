@@ -14,7 +14,6 @@ use Rattle.lane.specs.declared.lane.Lane.{Lane}
 use Rattle.yring.specs.Lists.{written}
 use Rattle.yring.specs.Ring.{accepted_prefix}
 use Rattle.receive_batch.specs.declared.batch.Front.{Front}
-use Rattle.receive_batch.specs.declared.batch.Front.TheVariants as Front
 use Rattle.receive_while.specs.declared.batch_while.Drained.{Drained}
 use Rattle.turns.specs.Turn.{Turning}
 use Rattle.receive_batch.specs.Batch.{refresh_active, Fronts, chunk_size, chunk_items, chunk_given}

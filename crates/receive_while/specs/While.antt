@@ -13,7 +13,6 @@ use Rattle.yring.specs.Ring.{accepted_prefix}
 use Rattle.store.specs.Words.{Words, unless_refused, with_rings}
 use Rattle.all_lanes.specs.AllLanes.{release_all}
 use Rattle.receive_batch.specs.declared.batch.Front.{Front}
-use Rattle.receive_batch.specs.declared.batch.Front.TheVariants as Front
 use Rattle.receive_while.specs.declared.batch_while.Drained.{Drained}
 use Rattle.receive_batch.specs.Batch.{refresh_active, chunk_size, chunk_items, chunk_given, HandsAndTable, batch_verdict, answer_items, handed_by}
 

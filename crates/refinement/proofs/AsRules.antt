@@ -1,9 +1,8 @@
 -- Calls that on stores in order are the inner calls do what document 01's rules do (specs/AsRules.antt).
 -- Assumes nothing.
-use mathlib.Core.Path.{◌≡◌, refl, ap, sym, ◌∙◌, subst}
+use mathlib.Core.Path.{◌≡◌, refl, ap, ◌∙◌}
 use mathlib.Core.Bool.{true}
 use mathlib.Core.List.{List, [], ◌∷◌, map, tail}
-use mathlib.Core.Option.{some}
 use Prim.Native.Nat.{ℕ, ◌+◌, ◌-◌, ◌*◌, ◌≤◌}
 use native.Mathlib.Omega.{arith}
 use lib.ListN.{length}
@@ -11,7 +10,6 @@ use lib.Dec.{leb}
 use borrow.Author.Tests.{leb-true, le-leb, le-ltb}
 use Rattle.model.specs.declared.Opening.{Opening}
 use Rattle.model.specs.declared.Call.{Call}
-use Rattle.model.specs.declared.Call.TheVariants.{Sender, Receive, Control}
 use Rattle.model.specs.declared.Answer.{Answer}
 use Rattle.model.specs.declared.Answer.TheVariants.{Done}
 use Rattle.model.specs.Lists.{both, Each}
@@ -28,9 +26,7 @@ use Rattle.model.proofs.Examples.Calls.{Found, expected, table_computed, sizes_t
 use Rattle.demands.proofs.Counting.{both_true}
 use Rattle.demands.proofs.Simulation.{same_after, opened_trace, opened_after}
 use Rattle.demands.proofs.Credit.{credit_after_lem}
-use Rattle.yring.specs.Release.{entries, entry_for}
 use Rattle.yring.proofs.ReleaseLaws.{as_the_table}
-use Rattle.queues.specs.Header.{budget}
 use Rattle.store.specs.View.{view}
 use Rattle.store.specs.Order.{StoreInOrder}
 use Rattle.opening.specs.Opening.{open_store}

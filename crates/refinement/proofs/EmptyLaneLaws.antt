@@ -10,9 +10,7 @@ use lib.Dec.{eqb}
 use Rattle.model.specs.State.{Slot}
 use Rattle.lane.specs.declared.lane.EmptyLane.{EmptyLane}
 use Rattle.lane.specs.declared.lane.Refill.{Refill}
-use Rattle.lane.specs.declared.lane.Refill.TheVariants as Refill
 use Rattle.lane.specs.declared.lane.LanePoll.{LanePoll}
-use Rattle.lane.specs.declared.lane.LanePoll.TheVariants as LanePoll
 use Rattle.yring.specs.Ring.{new_ring}
 use Rattle.lane.specs.Lane.{reload, close_fast, settle_empty, ready_or_idle, refill, poll}
 use Rattle.lane.specs.Order.{InOrder, refilled_lane, polled_lane}

@@ -15,7 +15,6 @@ use Rattle.model.specs.Turn as rules
 use Rattle.demands.proofs.OrderKept as kept
 use Rattle.lane.specs.declared.lane.Lane.{Lane}
 use Rattle.lane.specs.declared.lane.LanePoll.{LanePoll}
-use Rattle.lane.specs.declared.lane.LanePoll.TheVariants as LanePoll
 use Rattle.yring.specs.Ring.{new_ring}
 use Rattle.lane.specs.Lane.{held_items, poll}
 use Rattle.lane.specs.Order.{InOrder, polled_lane}

@@ -18,11 +18,8 @@ use Rattle.demands.proofs.Counting.{no}
 use Rattle.demands.proofs.LaneIds.{channel_path}
 use Rattle.lane.specs.declared.lane.Lane.{Lane}
 use Rattle.lane.specs.declared.lane.Popped.{Popped}
-use Rattle.lane.specs.declared.lane.Popped.TheVariants as Popped
 use Rattle.lane.specs.declared.lane.Refill.{Refill}
-use Rattle.lane.specs.declared.lane.Refill.TheVariants as Refill
 use Rattle.lane.specs.declared.lane.LanePoll.{LanePoll}
-use Rattle.lane.specs.declared.lane.LanePoll.TheVariants as LanePoll
 use Rattle.lane.specs.declared.lane.EmptyLane.{EmptyLane}
 use Rattle.yring.specs.Ring.{new_ring}
 use Rattle.lane.specs.Lane.{reload_is_empty, refill, pop_targeted, poll, end_full_burst, move_chunk}
@@ -35,13 +32,9 @@ use Rattle.queues.proofs.QueueLaws.{head_rotated}
 use Rattle.all_lanes.specs.AllLanes.{release_all}
 use Rattle.control.specs.Control.{with_turn}
 use Rattle.turns.specs.declared.turn.Took.{Took}
-use Rattle.turns.specs.declared.turn.Took.TheVariants as Took
 use Rattle.turns.specs.declared.turn.Turn.{Turn}
-use Rattle.turns.specs.declared.turn.Turn.TheVariants as Turn
 use Rattle.receive_batch.specs.declared.batch.Front.{Front}
-use Rattle.receive_batch.specs.declared.batch.Front.TheVariants as Front
 use Rattle.receive_batch.specs.declared.batch.Look.{Look}
-use Rattle.receive_batch.specs.declared.batch.Look.TheVariants as Look
 use Rattle.turns.specs.Turn.{front_lane, retire_if, settle_empty_front, meet_budget, rotate_if, turn_by, poll_front, after_turn, turns_within, turns}
 use Rattle.turns.specs.Drained.{retire_empty_paused, retire_empty_paused_lanes, empty_or_drained, nothing_taken}
 use Rattle.receive.specs.Receive.{else_take, take_from_window, fast_took, take_fast, take_if_popped, take_front_window, poll_loop, try_recv_refill, take_one, take_lone, take_fair, answer_one, try_recv, try_recv_fair}

@@ -14,7 +14,6 @@ use Rattle.model.specs.declared.ControlCall.{ControlCall}
 use Rattle.model.specs.declared.ControlCall.TheVariants.{Pause, Resume, CloseLane, ReleaseConsumed, PollAllLanes, CloseReceiver, CountHeld}
 use Rattle.lane.specs.declared.lane.Lane.{Lane}
 use Rattle.lane.specs.declared.producer.Sent.{Sent}
-use Rattle.lane.specs.declared.producer.Sent.TheVariants as Sent
 use Rattle.lane.specs.Lane.{new_lane}
 use Rattle.lane.specs.Table.{head, set_head, set_cell, lane_at, put_lane}
 use Rattle.lane.proofs.OrderLaws.{cond_holds}

@@ -29,9 +29,7 @@ use Rattle.model.specs.Rules.{outcome}
 use Rattle.demands.proofs.HeldCalls.{sender_hands, control_hands}
 use Rattle.lane.specs.declared.lane.EmptyLane.{EmptyLane}
 use Rattle.lane.specs.declared.lane.Refill.{Refill}
-use Rattle.lane.specs.declared.lane.Refill.TheVariants as Refill
 use Rattle.lane.specs.declared.producer.Sent.{Sent}
-use Rattle.lane.specs.declared.producer.Sent.TheVariants as Sent
 use Rattle.yring.specs.Cursor.{after, distance}
 use Rattle.yring.specs.Ring.{new_ring}
 use Rattle.lane.specs.Lane.{held_items, refill, pop_targeted}
@@ -48,7 +46,6 @@ use Rattle.store.specs.Refusal.{receiver_verdict, send_verdict, id_verdict}
 use Rattle.store.specs.Registry.{retire_lane}
 use Rattle.store.specs.Words.{Words, unless_refused, with_rings}
 use Rattle.turns.specs.declared.turn.Took.{Took}
-use Rattle.turns.specs.declared.turn.Took.TheVariants as Took
 use Rattle.turns.specs.Drained.{retire_empty_paused_lanes, empty_or_drained, nothing_taken}
 use Rattle.sender.specs.Sender.{take_signaled, send_signaled, send_unsignaled, pushed, try_send, try_send_unsignaled, drop_sender, register_slot, register_sender, sender_words}
 use Rattle.all_lanes.specs.AllLanes.{release_all, release_consumed, poll_all_lanes, count_held}

@@ -14,7 +14,6 @@ use Rattle.model.specs.Turn as rules
 use Rattle.lane.specs.declared.lane.Lane.{Lane}
 use Rattle.lane.specs.declared.lane.EmptyLane.{EmptyLane}
 use Rattle.lane.specs.declared.lane.Refill.{Refill}
-use Rattle.lane.specs.declared.lane.Refill.TheVariants as Refill
 use Rattle.yring.specs.Ring.{new_ring, item_at}
 use Rattle.lane.specs.Order.{Counts, Filled}
 use Rattle.lane.specs.Lane.{advance, held_items, refill}
@@ -26,7 +25,6 @@ use Rattle.queues.specs.Queue.{queue_of, front_slot}
 use Rattle.ready.specs.Ready.{collect_ready}
 use Rattle.queues.proofs.QueueLaws.{length_queue, front_is}
 use Rattle.receive_batch.specs.declared.batch.Front.{Front}
-use Rattle.receive_batch.specs.declared.batch.Front.TheVariants as Front
 use Rattle.receive_batch.specs.declared.batch.Look.{Look}
 use Rattle.store.specs.View.{slot_at, view}
 use Rattle.store.specs.Order.{Stores, InOrderButHeld}

@@ -22,7 +22,6 @@ use Rattle.model.specs.Runs.{accepted}
 use Rattle.demands.proofs.Counting.{no}
 use Rattle.yring.specs.Cursor.{distance}
 use Rattle.lane.specs.declared.lane.Refill.{Refill}
-use Rattle.lane.specs.declared.lane.Refill.TheVariants as Refill
 use Rattle.yring.specs.Ring.{push_item}
 use Rattle.lane.specs.Lane.{sent, push_and_flush_item, refill}
 use Rattle.lane.specs.Table.{lane_at}
@@ -30,7 +29,6 @@ use Rattle.queues.specs.Header.{capacity, channel, lane_count, living_count, hel
 use Rattle.store.specs.declared.refusal.Verdict.{Verdict}
 use Rattle.store.specs.declared.refusal.Verdict.TheVariants.{Pass, Refuse}
 use Rattle.turns.specs.declared.turn.Took.{Took}
-use Rattle.turns.specs.declared.turn.Took.TheVariants as Took
 use Rattle.store.specs.Words.{Words, unless_refused, with_rings}
 use Rattle.opening.specs.Opening.{open_sized, open_store}
 use Rattle.sender.specs.Sender.{pushed, send_signaled, take_signaled, send_unsignaled, register_slot, register_sender, try_send, try_send_unsignaled, drop_sender, sender_words}

@@ -15,7 +15,6 @@ use Rattle.model.specs.Turn as rules
 use Rattle.demands.proofs.Counting.{no}
 use Rattle.lane.specs.declared.lane.Lane.{Lane}
 use Rattle.lane.specs.declared.lane.Popped.{Popped}
-use Rattle.lane.specs.declared.lane.Popped.TheVariants as Popped
 use Rattle.yring.specs.Ring.{new_ring}
 use Rattle.lane.specs.Lane.{held_items, pop_lone}
 use Rattle.lane.specs.Order.{Counts, InOrder, popped_lane}

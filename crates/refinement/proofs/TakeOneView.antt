@@ -18,7 +18,6 @@ use Rattle.queues.specs.Queue.{queue_of}
 use Rattle.ready.specs.Ready.{collect_ready}
 use Rattle.queues.proofs.QueueLaws.{length_queue}
 use Rattle.turns.specs.declared.turn.Took.{Took}
-use Rattle.turns.specs.declared.turn.Took.TheVariants as Took
 use Rattle.store.specs.View.{view}
 use Rattle.store.specs.Order.{InOrderButHeld}
 use Rattle.turns.specs.Turn.{turns}

@@ -13,7 +13,6 @@ use Rattle.model.specs.Turn as rules_turn
 use Rattle.model.specs.Receive as rules
 use Rattle.queues.specs.Header.{channel}
 use Rattle.turns.specs.declared.turn.Took.{Took}
-use Rattle.turns.specs.declared.turn.Took.TheVariants as Took
 use Rattle.store.specs.View.{view}
 use Rattle.store.specs.Order.{InOrderButHeld}
 use Rattle.store.specs.Refusal.{receiver_verdict}

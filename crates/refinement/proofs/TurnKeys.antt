@@ -13,9 +13,7 @@ use Rattle.demands.proofs.Counting.{equal, other, same?}
 use Rattle.lane.specs.declared.lane.Lane.{Lane}
 use Rattle.lane.specs.declared.lane.EmptyLane.{EmptyLane}
 use Rattle.lane.specs.declared.lane.LanePoll.{LanePoll}
-use Rattle.lane.specs.declared.lane.LanePoll.TheVariants as LanePoll
 use Rattle.lane.specs.declared.lane.Refill.{Refill}
-use Rattle.lane.specs.declared.lane.Refill.TheVariants as Refill
 use Rattle.yring.specs.Ring.{new_ring}
 use Rattle.lane.specs.Lane.{refill}
 use Rattle.lane.specs.Table.{HasRow, lane_at, put_lane}
@@ -30,10 +28,8 @@ use Rattle.store.proofs.RetireFrames.{freed_unless_last_is}
 use Rattle.store.proofs.LaneFields.{Fixed, Flagged, Emptied, PollKept, poll_kept, RefillKept, refill_kept}
 use Rattle.turns.specs.declared.turn.Took.TheVariants as Took
 use Rattle.turns.specs.declared.turn.Turn.{Turn}
-use Rattle.turns.specs.declared.turn.Turn.TheVariants as Turn
 use Rattle.receive_batch.specs.declared.batch.Front.TheVariants as Front
 use Rattle.receive_batch.specs.declared.batch.Look.{Look}
-use Rattle.receive_batch.specs.declared.batch.Look.TheVariants as Look
 use Rattle.turns.specs.Turn.{Turning, front_lane, retire_if, settle_empty_front, meet_budget, rotate_if, gave_front, turn_by, poll_front}
 use Rattle.receive_batch.specs.Batch.{look_by, look_front}
 use Rattle.turns.proofs.TurnLaws.{slot_below, front_issued}

@@ -16,7 +16,6 @@ use Rattle.demands.proofs.OrderKept.{settle_empty_queue, before_next_turn_queue}
 use Rattle.lane.specs.declared.lane.Lane.{Lane}
 use Rattle.lane.specs.declared.lane.EmptyLane.{EmptyLane}
 use Rattle.lane.specs.declared.lane.LanePoll.{LanePoll}
-use Rattle.lane.specs.declared.lane.LanePoll.TheVariants as LanePoll
 use Rattle.yring.specs.Ring.{new_ring}
 use Rattle.lane.specs.Lane.{held_items, poll}
 use Rattle.lane.specs.Table.{lane_at}
@@ -24,7 +23,6 @@ use Rattle.queues.specs.Header.{queue_count, capacity}
 use Rattle.queues.specs.Queue.{queue_of}
 use Rattle.queues.proofs.QueueLaws.{length_queue, front_is}
 use Rattle.turns.specs.declared.turn.Took.{Took}
-use Rattle.turns.specs.declared.turn.Took.TheVariants as Took
 use Rattle.turns.specs.declared.turn.Turn.{Turn}
 use Rattle.store.specs.View.{slot_at, view}
 use Rattle.store.specs.Order.{InOrderButHeld}

@@ -19,7 +19,6 @@ use Rattle.lane.specs.Lane.{chunk_limit}
 use Rattle.queues.specs.Header.{budget, capacity}
 use Rattle.queues.specs.Queue.{queue_of, front_slot, pop_front}
 use Rattle.receive_batch.specs.declared.batch.Front.{Front}
-use Rattle.receive_batch.specs.declared.batch.Front.TheVariants as Front
 use Rattle.store.specs.View.{view}
 use Rattle.store.specs.Order.{InOrderButHeld}
 use Rattle.receive_batch.specs.Batch.{refresh_active, Reached, full_budget, chunk_size, chunk_items, chunk_given}

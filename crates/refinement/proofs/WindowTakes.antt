@@ -14,7 +14,6 @@ use Rattle.demands.proofs.FrontItem.{take_one_front}
 use Rattle.yring.specs.declared.ring.Ring.{Ring}
 use Rattle.lane.specs.declared.lane.Lane.{Lane}
 use Rattle.lane.specs.declared.lane.Popped.{Popped}
-use Rattle.lane.specs.declared.lane.Popped.TheVariants as Popped
 use Rattle.yring.specs.Ring.{new_ring, item_at}
 use Rattle.lane.specs.Lane.{held_items, window_pop, pop_fast, grant_fast}
 use Rattle.lane.specs.Order.{InOrder, popped_lane}
@@ -25,7 +24,6 @@ use Rattle.queues.specs.Header.{issued, queue_count, budget, capacity, fast_slot
 use Rattle.queues.specs.Queue.{queue_of, front_slot, pop_front}
 use Rattle.queues.proofs.QueueLaws.{queue_front_lem}
 use Rattle.turns.specs.declared.turn.Took.{Took}
-use Rattle.turns.specs.declared.turn.Took.TheVariants as Took
 use Rattle.store.specs.View.{slot_at, view}
 use Rattle.store.specs.Order.{Stores, InOrderButHeld}
 use Rattle.turns.specs.Turn.{front_lane}

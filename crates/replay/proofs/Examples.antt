@@ -23,7 +23,7 @@ use Rattle.replay_serve.proofs.ProgramLaws.{before_opening}
 use Rattle.replay.specs.declared.round.Next.TheVariants.{Stop}
 use Rattle.replay.specs.declared.round.Next.TheVariants as Next
 use Rattle.replay.specs.Rounds.{Rounds, none, more, again, end}
-use Rattle.replay.specs.Parts.{joined, ending_line, answers}
+use Rattle.replay.specs.Parts.{joined, answers}
 use Rattle.replay.specs.Place.{between}
 use Rattle.replay.proofs.RoundLaws.{parts_answered}
 

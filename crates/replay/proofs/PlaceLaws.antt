@@ -4,7 +4,7 @@ use mathlib.Core.Bool.{Bool, true, false, cond}
 use mathlib.Core.Logic.{◌⊎◌, inl, inr}
 use mathlib.Core.Option.{Option, none, some}
 use mathlib.Core.Path.{◌≡◌, refl, sym, ap, ◌∙◌, subst}
-use mathlib.Core.List.{List, [], ◌∷◌, ◌++◌, append-nil}
+use mathlib.Core.List.{List, [], ◌∷◌, ◌++◌}
 use Prim.Native.Nat.{ℕ, zero, suc, ◌+◌, ◌-◌, ◌*◌, ◌≤◌, ◌<◌}
 use native.Mathlib.Omega.{arith}
 use borrow.Author.Tests.{ltb-true}
@@ -13,7 +13,6 @@ use lib.ListN.{length, take, drop, length-drop}
 use lib.Seq.{take-add, take-nil, take_at, drop-drop, length-take-le, sets-eq}
 use Rattle.wire_record.specs.declared.record.Record.{Record}
 use Rattle.wire_record.specs.declared.record.Parsed.{Parsed}
-use Rattle.wire_record.specs.declared.record.Parsed.TheVariants as Parsed
 use Rattle.wire_record.specs.Record.{Kind, most_fields, number, size, kind_of, fields_by, fields_of, parse_as, parse}
 use Rattle.wire_record.specs.Stream.{Reads}
 use Rattle.wire_record.proofs.KindLaws.{fields_listed, few_fields}
@@ -22,7 +21,7 @@ use Rattle.wire_line.proofs.PutLaws.{puts_as, puts_none}
 use Rattle.replay_serve.specs.declared.serve.Found.{Found}
 use Rattle.replay_serve.specs.declared.serve.Found.TheVariants.{Incomplete, Malformed, Answered}
 use Rattle.replay_serve.specs.declared.serve.Reached.{Reached}
-use Rattle.replay_serve.specs.Calls.{Stores, lines_of, stores_after, started}
+use Rattle.replay_serve.specs.Calls.{Stores, lines_of}
 use Rattle.replay_serve.specs.Serve.{malformed_line, StopsAt, Served}
 use Rattle.replay_serve.specs.Serve as Serve
 use denote.Enum.Declared.{tag_of}
@@ -32,8 +31,7 @@ use Rattle.replay.specs.declared.round.Next.{Next}
 use Rattle.replay.specs.contracts.round.Next as Next
 use Rattle.replay.specs.declared.round.Next.TheVariants.{Read, Answer, End, Stop}
 use Rattle.replay.specs.declared.round.Place.{Place}
-use Rattle.replay.specs.Rounds.{cut_line, last_line, GoesOn, Round, Last, Rounds}
-use Rattle.replay.specs.Rounds as Rounds
+use Rattle.replay.specs.Rounds.{cut_line, last_line, GoesOn, Round}
 use Rattle.replay.specs.Place.{Sized, between, InBuffer, after_read, Received, FetchedBy, Fetched, Flushed, LeftBy, Left, Finished, RoundBy, Rounded}
 
 -- ---- the text

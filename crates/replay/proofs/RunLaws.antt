@@ -5,10 +5,9 @@ use mathlib.Core.Path.{◌≡◌, refl, sym, ap, ◌∙◌, subst}
 use mathlib.Core.List.{List, [], ◌∷◌, ◌++◌, append-nil}
 use Prim.Native.Nat.{ℕ, ◌+◌, ◌-◌, ◌≤◌, ◌<◌, ◌^◌}
 use native.Mathlib.Omega.{arith}
-use lib.ListN.{length, take, drop, length-drop}
+use lib.ListN.{take, drop, length-drop}
 use lib.Seq.{length-take-le}
 use denote.Enum.Declared.{tag_of}
-use types.Run.{OneOf}
 use Rattle.replay_serve.specs.Calls.{Stores, started}
 use Rattle.replay.specs.declared.round.Next.{Next}
 use Rattle.replay.specs.contracts.round.Next as Next
@@ -17,7 +16,6 @@ use Rattle.replay.specs.declared.round.Place.{Place}
 use Rattle.replay.specs.declared.Outcome.{Outcome}
 use Rattle.replay.specs.declared.Outcome.TheVariants.{Answered, ReadFailed, WriteFailed, TurnsOver}
 use Rattle.replay.specs.Rounds.{Round, Last, Rounds}
-use Rattle.replay.specs.Rounds as Rounds
 use Rattle.replay.specs.Place.{Sized, between, InBuffer, FetchedBy, Fetched, Flushed, RoundBy, Rounded}
 use Rattle.replay.specs.Ran.{came_in, TurnsAdd, EndsAs, Ran, RunsAnswer}
 use Rattle.replay.proofs.RoundLaws.{no_end, parts_answered}

@@ -15,7 +15,6 @@ use Rattle.model.specs.declared.Call.TheVariants.{Sender, Receive, Control}
 use Rattle.model.specs.declared.LaneId.{LaneId}
 use Rattle.model.specs.declared.Answer.{Answer}
 use Rattle.wire_record.specs.declared.record.Record.{Record}
-use Rattle.wire_record.specs.declared.record.Record.TheVariants as Record
 use Rattle.wire_record.specs.Record.{room}
 use Rattle.order.specs.InOrder.{in_order}
 use Rattle.refinement.specs.Runs.{output_words}

@@ -11,7 +11,6 @@ use lib.ListN.{length, get_or, get_elem?}
 use Rattle.model.specs.Lists.{Each}
 use Rattle.model.specs.Simulation.{numbers_of_id, numbers_of_call, Fits}
 use Rattle.wire_record.specs.declared.record.Record.{Record}
-use Rattle.wire_record.specs.declared.record.Record.TheVariants as Record
 use Rattle.wire_record.specs.declared.record.Parsed.TheVariants.{Incomplete, Malformed, Whole}
 use Rattle.wire_record.specs.Record.{Kind, kinds, number, field, size, kind_of, parse_as, parse}
 use Rattle.replay_serve.specs.Calls.{lent_call}

@@ -1,18 +1,14 @@
 -- Laws of records one after the other, of turns and of runs of turns.
 -- Assumes nothing.
-use mathlib.Core.Logic.{inl, inr}
 use mathlib.Core.Path.{◌≡◌, refl, sym, ap, ◌∙◌, subst}
 use mathlib.Core.List.{List, [], ◌∷◌, ◌++◌, append-nil, append_assoc}
 use Prim.Native.Nat.{ℕ, ◌+◌, ◌-◌, ◌≤◌, ◌<◌}
 use native.Mathlib.Omega.{arith}
 use lib.ListN.{length, drop, take, length-drop}
 use lib.Seq.{take_all, drop-drop}
-use denote.Enum.Declared.{tag_of}
-use types.Run.{OneOf}
 use Rattle.model.specs.declared.Answer.{Answer}
 use Rattle.wire_record.specs.declared.record.Record.{Record}
 use Rattle.wire_record.specs.declared.record.Parsed.{Parsed}
-use Rattle.wire_record.specs.declared.record.Parsed.TheVariants as Parsed
 use Rattle.wire_record.specs.Record.{parse}
 use Rattle.wire_line.specs.Text.{Puts, answer_text, longest}
 use Rattle.wire_line.proofs.PutLaws.{puts_then, puts_as, puts_none}
@@ -21,7 +17,6 @@ use Rattle.wire_record.specs.Stream as Stream
 use Rattle.wire_record.proofs.StreamLaws.{reads_one_more}
 use Rattle.wire_record.proofs.ParseLaws.{parse_inside}
 use Rattle.replay_serve.specs.declared.serve.Found.{Found}
-use Rattle.replay_serve.specs.contracts.serve.Found as Found
 use Rattle.replay_serve.specs.declared.serve.Found.TheVariants.{Incomplete, Malformed, Answered}
 use Rattle.replay_serve.specs.declared.serve.Reached.{Reached}
 use Rattle.replay_serve.specs.Calls.{Stores, answered, line_of, lines_of, stores_after}

@@ -7,7 +7,6 @@ use Rattle.model.specs.declared.Call.{Call}
 use Rattle.model.specs.declared.Call.TheVariants.{Sender, Receive, Control}
 use Rattle.model.specs.declared.Answer.{Answer}
 use Rattle.wire_record.specs.declared.record.Record.{Record}
-use Rattle.wire_record.specs.declared.record.Record.TheVariants as Record
 use Rattle.wire_record.specs.Record.{room}
 use Rattle.wire_line.specs.Text.{answer_text}
 use Rattle.fanring.specs.Runs.{the_calls}

@@ -11,7 +11,6 @@ use Rattle.model.specs.Opening.{opened_state}
 use Rattle.model.specs.Runs.{after_list}
 use Rattle.model.specs.Simulation.{Fits, CallFits}
 use Rattle.wire_record.specs.declared.record.Record.{Record}
-use Rattle.wire_record.specs.declared.record.Record.TheVariants as Record
 use Rattle.wire_record.specs.declared.record.Parsed.TheVariants.{Whole}
 use Rattle.wire_record.specs.Record.{parse}
 use Rattle.wire_record.specs.Stream.{Reads}

@@ -2,11 +2,9 @@
 -- Assumes nothing.
 use Rattle.std.specs.Prelude.{List, [], ◌++◌, ◌≡◌, ℕ, ◌+◌, ◌≤◌, ◌<◌, length, drop}
 use Rattle.model.specs.declared.Answer.{Answer}
-use Rattle.model.specs.declared.Answer.TheVariants as Answer
 use Rattle.model.specs.declared.Refusal.TheVariants as Refusal
 use Rattle.wire_record.specs.declared.record.Record.{Record}
 use Rattle.wire_record.specs.declared.record.Parsed.{Parsed}
-use Rattle.wire_record.specs.declared.record.Parsed.TheVariants as Parsed
 use Rattle.wire_record.specs.Record.{parse}
 use Rattle.wire_record.specs.Stream.{Reads}
 use Rattle.wire_line.specs.Text.{Puts, answer_text, longest}

@@ -13,7 +13,6 @@ use Rattle.yring.specs.declared.ring.Push.{Push}
 use Rattle.yring.specs.declared.ring.Push.TheVariants.{Pushed, Full}
 use Rattle.yring.specs.declared.ring.Ring.{Ring}
 use Rattle.lane.specs.declared.producer.Sent.{Sent}
-use Rattle.lane.specs.declared.producer.Sent.TheVariants as Sent
 use Rattle.yring.specs.Ring.{new_ring, push, put}
 use Rattle.lane.specs.Lane.{push_and_flush_item, sent_by, push_and_flush}
 use Rattle.lane.specs.Order.{sent_lane}

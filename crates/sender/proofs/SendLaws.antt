@@ -4,7 +4,7 @@ use mathlib.Core.Path.{◌≡◌, refl, sym, ap, ◌∙◌, subst}
 use mathlib.Core.Logic.{◌≢◌}
 use mathlib.Core.Bool.{Bool, true, false, not}
 use mathlib.Core.List.{List, [], ◌∷◌, ◌++◌}
-use Prim.Native.Nat.{ℕ, ◌+◌, ◌*◌, ◌-◌, ◌≤◌, ◌<◌}
+use Prim.Native.Nat.{ℕ, ◌*◌, ◌≤◌, ◌<◌}
 use native.Mathlib.Omega.{arith}
 use borrow.Author.Tests.{eq-eqb, ne_eqb, eqb-true, eqb-false, le-leb, lt-leb}
 use lib.Dec.{eqb, leb}
@@ -23,7 +23,6 @@ use Rattle.model.specs.Sender as rules_sender
 use Rattle.lane.specs.declared.lane.Lane.{Lane}
 use Rattle.yring.specs.declared.ring.Ring.{Ring}
 use Rattle.lane.specs.declared.producer.Sent.{Sent}
-use Rattle.lane.specs.declared.producer.Sent.TheVariants as Sent
 use Rattle.yring.specs.Cursor.{after, distance}
 use Rattle.yring.specs.Ring.{Within, new_ring, index, free_after, push_item}
 use Rattle.lane.specs.Lane.{with_cursors, held_items, sent, push_and_flush_item}

@@ -9,7 +9,6 @@ use Rattle.model.specs.declared.Answer.{Answer}
 use Rattle.model.specs.declared.Answer.TheVariants.{Done, Registered, Taken, Refused}
 use Rattle.lane.specs.declared.lane.Lane.{Lane}
 use Rattle.lane.specs.declared.producer.Sent.{Sent}
-use Rattle.lane.specs.declared.producer.Sent.TheVariants as Sent
 use Rattle.lane.specs.Lane.{with_flags, new_lane, push_and_flush_item}
 use Rattle.yring.specs.Ring.{Within, new_ring}
 use Rattle.lane.specs.Table.{lane_at, put_lane}

@@ -15,7 +15,7 @@ use lib.Count.{count_trailing_zeros}
 use lib.Bits.{bit_and}
 use lib.ListN.{length, take}
 use Rattle.model.specs.Lists.{if, both, non_empty, count, keep, from}
-use Rattle.model.specs.State.{State, vacant, queued, may_queue}
+use Rattle.model.specs.State.{State, vacant, may_queue}
 use Rattle.model.specs.Changes.{with_slots, with_queue, with_cursor, unmarked}
 use Rattle.model.specs.Ready as rules
 use Rattle.model.specs.Ready.{group_of, groups_in, marks, is_ready, collect_marks, start_group, groups_round, collect_first, collect_each, collect_ready_group}
@@ -25,13 +25,13 @@ use Rattle.demands.proofs.LaneIds.{channel_path}
 use Rattle.lane.specs.declared.lane.Lane.{Lane}
 use Rattle.yring.specs.Ring.{new_ring}
 use Rattle.lane.specs.Lane.{held_items}
-use Rattle.lane.specs.Table.{header_words, row_words, head, cell_at, cell, set_cell, lane_at}
+use Rattle.lane.specs.Table.{header_words, head, cell, set_cell, lane_at}
 use Rattle.yring.proofs.ListLaws.{tab_ext}
 use Rattle.lane.proofs.TableLaws.{frames, has_row}
-use Rattle.queues.specs.Header.{Shaped, issued, slots, group_cursor, capacity, free_count, set_group_cursor}
+use Rattle.queues.specs.Header.{Shaped, issued, group_cursor, capacity, free_count, set_group_cursor}
 use Rattle.queues.specs.Queue.{QueueNames, queue_of}
 use Rattle.queues.specs.Registry.{free_column, free_of}
-use Rattle.ready.specs.Bits.{bit, bits_from}
+use Rattle.ready.specs.Bits.{bits_from}
 use Rattle.ready.specs.Ready.{page_column, group_column, page_word, group_word, page_bit, group_bit, non_zero, Linked, wanted_lane, wanted, queued_lane, enqueue, offer, collect_page, collect_group, group_count, group_at, collected_from, collect_ready}
 use Rattle.ready.proofs.BitLaws.{bits_next, bits_zero, bit_zero, tz_lt, tz_set}
 use Rattle.queues.proofs.QueueLaws.{queue_frames, header_in}

@@ -12,11 +12,8 @@ use Rattle.lane.specs.declared.lane.Lane.{Lane}
 use Rattle.lane.specs.declared.lane.Released.{Released}
 use Rattle.lane.specs.declared.lane.EmptyLane.{EmptyLane}
 use Rattle.lane.specs.declared.lane.Popped.{Popped}
-use Rattle.lane.specs.declared.lane.Popped.TheVariants as Popped
 use Rattle.lane.specs.declared.lane.Refill.{Refill}
-use Rattle.lane.specs.declared.lane.Refill.TheVariants as Refill
 use Rattle.lane.specs.declared.lane.LanePoll.{LanePoll}
-use Rattle.lane.specs.declared.lane.LanePoll.TheVariants as LanePoll
 use Rattle.yring.specs.Ring.{item_at}
 use Rattle.lane.specs.Order.{popped_lane}
 use Rattle.lane.specs.Lane.{prefetch, reload, release, advance, close_fast, open_for, grant_fast, window_pop, pop_fast, release_at_batch, release_any, release_pending, emptied, settle_empty, ready_or_idle, refill, charge, add_burst, end_burst, targeted, pop_targeted, polled, poll_item, poll_refilled, poll, fair_window, fairly, pop_lone, reload_is_empty}

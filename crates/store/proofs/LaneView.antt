@@ -15,11 +15,8 @@ use Rattle.lane.specs.declared.lane.Lane.{Lane}
 use Rattle.lane.specs.declared.lane.Released.{Released}
 use Rattle.lane.specs.declared.lane.EmptyLane.{EmptyLane}
 use Rattle.lane.specs.declared.lane.Refill.{Refill}
-use Rattle.lane.specs.declared.lane.Refill.TheVariants as Refill
 use Rattle.lane.specs.declared.lane.LanePoll.{LanePoll}
-use Rattle.lane.specs.declared.lane.LanePoll.TheVariants as LanePoll
 use Rattle.lane.specs.declared.lane.Popped.{Popped}
-use Rattle.lane.specs.declared.lane.Popped.TheVariants as Popped
 use Rattle.lane.specs.Lane.{held_items, close_fast, prefetch, reload, open_for, grant_fast, window_pop, pop_fast, advance, charge, add_burst, end_burst, release, release_at_batch, targeted, pop_targeted, polled, poll_item, poll_refilled, poll, ready_or_idle, refill, release_any, release_pending, emptied, settle_empty, fair_window, burst_of_window, fairly, pop_lone}
 use Rattle.lane.specs.Order.{Counts, InOrder}
 use Rattle.yring.specs.Cursor.{distance}

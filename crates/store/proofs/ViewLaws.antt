@@ -4,7 +4,7 @@ use mathlib.Core.Path.{◌≡◌, refl, sym, ap, ap₂, ◌∙◌}
 use mathlib.Core.Logic.{◌≢◌}
 use mathlib.Core.Bool.{Bool, true, false, cond, not}
 use mathlib.Core.List.{List, [], ◌∷◌, ◌++◌}
-use Prim.Native.Nat.{ℕ, ◌+◌, ◌-◌, ◌/◌, ◌<◌}
+use Prim.Native.Nat.{ℕ, ◌-◌, ◌/◌, ◌<◌}
 use native.Mathlib.Omega.{arith}
 use borrow.Author.Tests.{lt-ltb, ltb-true, eq-eqb, ne_eqb}
 use lib.Dec.{eqb, ltb}
@@ -22,7 +22,7 @@ use Rattle.yring.specs.Cursor.{distance}
 use Rattle.yring.specs.Ring.{new_ring, index, Within, push_item}
 use Rattle.lane.specs.Lane.{held_items, push_and_flush_item, sent}
 use Rattle.lane.specs.Order.{InOrder, sent_lane}
-use Rattle.lane.specs.Table.{HasRow, head, set_head, header_words, NarrowLane, lane_at, put_lane}
+use Rattle.lane.specs.Table.{HasRow, set_head, header_words, NarrowLane, lane_at, put_lane}
 use Rattle.lane.proofs.TableLaws.{frames, lane_own_narrow, loaded_narrow, other_lane_kept, slot_of_lane, has_row}
 use Rattle.yring.proofs.RingLaws.{other_ring_kept}
 use Rattle.lane.proofs.HeldLaws.{held_by_ends, push_and_flush_appends}

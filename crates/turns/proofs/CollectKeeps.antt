@@ -21,7 +21,7 @@ use Rattle.queues.specs.Registry.{free_column, free_of}
 use Rattle.ready.specs.Bits.{bits_from}
 use Rattle.ready.specs.Ready.{page_column, group_column, page_word, group_word, Linked, queued_lane, enqueue, offer, collect_page, collect_group, group_count, group_at, collected_from, collect_ready}
 use Rattle.queues.proofs.QueueLaws.{queue_frames}
-use Rattle.ready.proofs.OfferLaws.{Wants, wants, Rest, rest_offered, offered_case, queue_enqueued}
+use Rattle.ready.proofs.OfferLaws.{Wants, wants, rest_offered, offered_case, queue_enqueued}
 use Rattle.ready.proofs.CollectLaws.{Kept, kept_self, kept_then, kept_set_cell, kept_offered, kept_page, kept_group, linked_group, kept_cursor, linked_cursor}
 use Rattle.turns.specs.Turn.{Turning}
 use Rattle.turns.proofs.TurnLaws.{turning_by}

@@ -15,7 +15,6 @@ use Rattle.demands.proofs.OrderKept.{first_own, first_other}
 use Rattle.lane.specs.declared.lane.Lane.{Lane}
 use Rattle.lane.specs.declared.lane.EmptyLane.{EmptyLane}
 use Rattle.lane.specs.declared.lane.LanePoll.{LanePoll}
-use Rattle.lane.specs.declared.lane.LanePoll.TheVariants as LanePoll
 use Rattle.yring.specs.Ring.{new_ring}
 use Rattle.lane.specs.Order.{InOrder, polled_lane}
 use Rattle.lane.specs.Lane.{poll}
@@ -31,9 +30,7 @@ use Rattle.queues.proofs.RegistryLaws.{registry_frames, length_free, free_freed}
 use Rattle.store.specs.View.{flag}
 use Rattle.store.specs.Registry.{retired, retire_lane}
 use Rattle.turns.specs.declared.turn.Took.{Took}
-use Rattle.turns.specs.declared.turn.Took.TheVariants as Took
 use Rattle.turns.specs.declared.turn.Turn.{Turn}
-use Rattle.turns.specs.declared.turn.Turn.TheVariants as Turn
 use Rattle.turns.specs.Turn.{Turning, Ringed, retire_if, settle_empty_front, meet_budget, less_one, rotate_if, gave_front, turn_by, poll_front, after_turn, turns_within, turns}
 use Rattle.store.proofs.CountLaws.{one}
 use Rattle.store.proofs.HeaderWords.{place_of, with_word}

@@ -7,7 +7,6 @@ use Rattle.lane.specs.Lane.{reload_is_empty}
 use Rattle.lane.specs.Table.{lane_at}
 use Rattle.queues.specs.Header.{issued, queue_count, lane_count, living_count}
 use Rattle.turns.specs.declared.turn.Took.{Took}
-use Rattle.turns.specs.declared.turn.Took.TheVariants as Took
 use Rattle.all_lanes.specs.AllLanes.{for_slots}
 use Rattle.turns.specs.Turn.{Turning, retire_if}
 

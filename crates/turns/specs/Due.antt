@@ -1,6 +1,6 @@
 -- A look for ready lanes when the budget is used up, as words.
 -- Assumes nothing.
-use Rattle.std.specs.Prelude.{true, false, cond, List, ℕ, eqb}
+use Rattle.std.specs.Prelude.{false, cond, List, ℕ, eqb}
 use Rattle.queues.specs.Header.{set_budget, queue_count, budget}
 use Rattle.ready.specs.Ready.{collect_ready}
 

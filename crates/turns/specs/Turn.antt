@@ -5,7 +5,6 @@ use Rattle.model.specs.Lists.{count, keep, from}
 use Rattle.lane.specs.declared.lane.Lane.{Lane}
 use Rattle.lane.specs.declared.lane.EmptyLane.{EmptyLane}
 use Rattle.lane.specs.declared.lane.LanePoll.{LanePoll}
-use Rattle.lane.specs.declared.lane.LanePoll.TheVariants as LanePoll
 use Rattle.yring.specs.Cursor.{Capacity}
 use Rattle.lane.specs.Order.{InOrder}
 use Rattle.yring.specs.Ring.{new_ring}
@@ -16,9 +15,7 @@ use Rattle.queues.specs.Queue.{QueueNames, queue_of, front_slot, pop_front, rota
 use Rattle.queues.specs.Registry.{free_of}
 use Rattle.ready.specs.Ready.{Linked}
 use Rattle.turns.specs.declared.turn.Took.{Took}
-use Rattle.turns.specs.declared.turn.Took.TheVariants as Took
 use Rattle.turns.specs.declared.turn.Turn.{Turn}
-use Rattle.turns.specs.declared.turn.Turn.TheVariants as Turn
 use Rattle.store.specs.View.{flag}
 use Rattle.store.specs.Registry.{retire_lane}
 

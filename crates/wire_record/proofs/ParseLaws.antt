@@ -10,7 +10,6 @@ use borrow.Author.Tests.{ltb-false}
 use lib.Dec.{ltb, eqb}
 use lib.ListN.{length}
 use Rattle.wire_record.specs.declared.record.Record.{Record}
-use Rattle.wire_record.specs.declared.record.Parsed.{Parsed}
 use Rattle.wire_record.specs.declared.record.Parsed.TheVariants.{Incomplete, Malformed, Whole}
 use Rattle.wire_record.specs.Record.{Kind, number, size, kind_of, parse_as, parse}
 

@@ -19,11 +19,8 @@ use Rattle.lane.specs.declared.lane.Lane.{Lane}
 use Rattle.lane.specs.declared.lane.Released.{Released}
 use Rattle.lane.specs.declared.lane.EmptyLane.{EmptyLane}
 use Rattle.lane.specs.declared.lane.Refill.{Refill}
-use Rattle.lane.specs.declared.lane.Refill.TheVariants as Refill
 use Rattle.lane.specs.declared.lane.LanePoll.{LanePoll}
-use Rattle.lane.specs.declared.lane.LanePoll.TheVariants as LanePoll
 use Rattle.lane.specs.declared.producer.Sent.{Sent}
-use Rattle.lane.specs.declared.producer.Sent.TheVariants as Sent
 use Rattle.yring.proofs.CursorLaws.{behind_after, ahead_after}
 use Rattle.lane.proofs.CursorOrder.{held_adds}
 use Rattle.lane.proofs.OrderLaws.{closed_reload_keeps, reload_window, refill_fills, push_and_flush_keeps, poll_keeps, refill_keeps, move_chunk_keeps, chunk_within}

@@ -1,6 +1,6 @@
 -- The ring as a list, past 2^64 as before it: push appends, pop takes the first, and no word outside the live places matters.
 -- Assumes nothing.
-use Rattle.std.proofs.Common.{◌≡◌, ℕ, zero, suc, ◌+◌, ◌-◌, ◌*◌, ◌/◌, ◌%◌, ◌^◌, ◌<◌, ◌≤◌, Bool, true, false, cond, leb, List, [], ◌∷◌, ◌++◌, length, get_or, drop, set, sym, refl, ap, ◌∙◌, ap₂, mod-lt, mod-eq_of_lt, zero-add, arith, le-leb}
+use Rattle.std.proofs.Common.{◌≡◌, ℕ, zero, suc, ◌+◌, ◌-◌, ◌/◌, ◌%◌, ◌^◌, ◌<◌, ◌≤◌, Bool, true, false, cond, leb, List, [], ◌∷◌, ◌++◌, length, get_or, drop, set, sym, refl, ap, ◌∙◌, ap₂, mod-lt, mod-eq_of_lt, zero-add, arith, le-leb}
 use native.Mathlib.Nat.{mod-add-mod, add-mod_left}
 use lib.Arith.{digits_div}
 use borrow.Author.Tests.{lt-leb}

@@ -1,7 +1,7 @@
 -- Rules of which `FreePlaces` or `NotFullBefore` does not hold (specs/ShutOut.antt), each by a computed run. Runs with much in them, so that a claim about runs with
 -- less would not be broken here; and with little, so that neither would one about runs with more.
 -- Assumes nothing.
-use Rattle.std.specs.Prelude.{◌≡◌, refl, true, false, List, [], ◌∷◌, ◌++◌, ℕ, ◌+◌, ◌-◌, ◌≤◌, length, take}
+use Rattle.std.specs.Prelude.{refl, true, false, List, [], ◌∷◌, ◌++◌, ℕ, ◌+◌, ◌-◌, ◌≤◌, length, take}
 use Rattle.std.proofs.Common.{sym, ap, arith}
 use Rattle.model.specs.declared.LaneKey.{LaneKey}
 use Rattle.model.specs.declared.LaneId.{LaneId}

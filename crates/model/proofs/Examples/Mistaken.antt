@@ -16,7 +16,7 @@ use Rattle.model.specs.declared.ControlCall.TheVariants.{Pause, Resume, CloseLan
 use Rattle.model.specs.declared.Call.{Call}
 use Rattle.model.specs.declared.Call.TheVariants.{Sender, Receive, Control}
 use Rattle.model.specs.declared.Answer.{Answer}
-use Rattle.model.specs.declared.Answer.TheVariants.{Done, Registered, Item, Refused}
+use Rattle.model.specs.declared.Answer.TheVariants.{Done, Registered, Item}
 use Rattle.model.specs.State.{State}
 use Rattle.model.specs.Outcome.{Outcome}
 use Rattle.model.specs.Runs.{Lent, Rules, all_runs, accepted, Tick, ends, handed, ticks, trace, after_list}

@@ -1,6 +1,6 @@
 -- Demand 3's "items of other lanes", on what can happen in a stretch of lane 1.
 -- Assumes nothing.
-use Rattle.std.specs.Prelude.{◌≡◌, refl, true, false, [], ◌∷◌, ℕ}
+use Rattle.std.specs.Prelude.{refl, true, false, [], ◌∷◌, ℕ}
 use Rattle.model.specs.declared.LaneKey.{LaneKey}
 use Rattle.model.specs.declared.ReceiveCall.TheVariants.{TryRecv, TryRecvFair, TryRecvFrom, TryRecvBatchInto, TryRecvBatchIntoWhile}
 use Rattle.model.specs.declared.Call.TheVariants.{Receive}

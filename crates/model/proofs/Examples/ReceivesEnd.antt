@@ -1,6 +1,6 @@
 -- Where receives end: what each asks for, and how many items it hands out beside what is then queued and ready.
 -- Assumes nothing.
-use Rattle.std.specs.Prelude.{◌≡◌, refl, Bool, List, [], ◌∷◌, ℕ, length}
+use Rattle.std.specs.Prelude.{refl, Bool, List, [], ◌∷◌, ℕ, length}
 use Rattle.std.proofs.Common.{ap, arith}
 use Rattle.model.specs.declared.LaneKey.{LaneKey}
 use Rattle.model.specs.declared.LaneId.{LaneId}

@@ -1,10 +1,9 @@
 -- `wraparound::numbered` meets its contract.
 -- Assumes nothing.
 use mathlib.Core.Path.{◌≡◌, ◌∙◌}
-use Prim.Native.Nat.{ℕ, ◌-◌}
+use Prim.Native.Nat.{ℕ}
 use native.Mathlib.Omega.{arith}
 use borrow.Author.Count.{below_more}
-use Rattle.yring.specs.Cursor.{after}
 use borrow.Author.Rules.{rules}
 use Rattle.wraparound.proofs.numbered.Goals as goal
 

@@ -1,7 +1,6 @@
 -- `all_lanes::all_lanes::poll_slots` meets its contract.
 -- Assumes nothing.
 use Rattle.all_lanes.proofs.SlotLoops.{polling_start, polling_next, polling_end}
-use Prim.Native.Nat.{◌-◌}
 use Rattle.all_lanes.proofs.all_lanes.poll_slots.Goals as goal
 
 pub loop-slot-init : goal.loop-slot-init

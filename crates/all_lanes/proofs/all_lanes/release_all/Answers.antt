@@ -1,7 +1,6 @@
 -- `all_lanes::all_lanes::release_all` meets its contract.
 -- Assumes nothing.
 use Rattle.all_lanes.proofs.SlotLoops.{releasing_start, releasing_next, releasing_end}
-use Prim.Native.Nat.{◌-◌}
 use native.Mathlib.Omega.{arith}
 use Rattle.all_lanes.proofs.all_lanes.release_all.Goals as goal
 

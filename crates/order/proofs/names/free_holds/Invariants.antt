@@ -1,7 +1,6 @@
 -- `order::names::free_holds` meets its contract.
 -- Assumes nothing.
 use Prim.Native.Nat.{◌-◌}
-use Rattle.demands.proofs.Counting as counting
 use Rattle.order.proofs.NamesLaws.{FreeScan}
 use Rattle.order.proofs.names.free_holds.Given as goal
 

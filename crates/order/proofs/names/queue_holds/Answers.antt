@@ -1,6 +1,5 @@
 -- `order::names::queue_holds` meets its contract.
 -- Assumes nothing.
-use Prim.Native.Nat.{◌-◌}
 use mathlib.Core.Path.{refl}
 use Rattle.demands.proofs.Counting as counting
 use Rattle.order_slot.specs.Tells.{yes, no}

@@ -1,7 +1,6 @@
 -- `order::names::queue_holds` meets its contract.
 -- Assumes nothing.
 use Prim.Native.Nat.{◌-◌}
-use Rattle.demands.proofs.Counting as counting
 use Rattle.order.proofs.NamesLaws.{QueueScan}
 use Rattle.order.proofs.names.queue_holds.Given as goal
 

@@ -1,6 +1,5 @@
 -- `order::slots::slots_hold` meets its contract.
 -- Assumes nothing.
-use Prim.Native.Nat.{◌-◌}
 use native.Mathlib.Omega.{arith}
 use Rattle.order_slot.specs.Tells.{yes, no}
 use Rattle.order_slot.proofs.TellsLaws.{told, untold}

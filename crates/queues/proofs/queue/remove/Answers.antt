@@ -1,7 +1,6 @@
 -- `queues::queue::remove` meets its contract.
 -- Assumes nothing.
 use native.Mathlib.Omega.{arith}
-use Prim.Native.Nat.{◌-◌}
 use lib.ListN.{length-set}
 use Rattle.queues.proofs.Sift.{sift_start, sift_skip, sift_keep, sift_end}
 use Rattle.queues.proofs.queue.remove.Goals as goal

@@ -1,7 +1,7 @@
 -- `queues::queue::row_of` meets its contract.
 -- Assumes nothing.
 use mathlib.Core.Path.{◌≡◌, sym, ◌∙◌}
-use Prim.Native.Nat.{ℕ, ◌+◌, ◌-◌, ◌%◌, ◌<◌}
+use Prim.Native.Nat.{ℕ, ◌+◌, ◌%◌, ◌<◌}
 use native.Mathlib.Nat.{mod-eq_of_lt, add-mod_left}
 use native.Mathlib.Omega.{arith}
 use Rattle.queues.proofs.queue.row_of.Goals as goal

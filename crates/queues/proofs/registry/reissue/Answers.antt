@@ -1,7 +1,6 @@
 -- `queues::registry::reissue` meets its contract.
 -- Assumes nothing.
 use mathlib.Core.Path.{refl}
-use Prim.Native.Nat.{◌-◌}
 use native.Mathlib.Omega.{arith}
 use lib.ListN.{length-set}
 use Rattle.queues.proofs.MovedDown.{move_one_more, move_end}

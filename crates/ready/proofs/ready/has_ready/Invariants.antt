@@ -1,7 +1,7 @@
 -- `ready::ready::has_ready` meets its contract.
 -- Assumes nothing.
 use mathlib.Core.Path.{◌≡◌}
-use Prim.Native.Nat.{◌-◌, ◌≤◌}
+use Prim.Native.Nat.{◌≤◌}
 use Rattle.queues.specs.Header.{issued}
 use Rattle.ready.specs.Ready.{group_count, has_ready}
 use Rattle.ready.proofs.ready.has_ready.Given as goal

@@ -3,7 +3,7 @@
 use Rattle.receive_batch.proofs.DrainLaws.{draining_start, draining_full, draining_none, drain_long, drain_front, drain_kept, drain_some, drain_within, draining_next}
 use Rattle.turns.proofs.FrontLaws.{keeps_ringed}
 use Rattle.receive_batch.specs.Batch.{give_chunk}
-use Prim.Native.Nat.{ℕ, ◌-◌}
+use Prim.Native.Nat.{ℕ}
 use mathlib.Core.List.{List}
 use native.Mathlib.Omega.{arith}
 use mathlib.Core.Path.{ap}

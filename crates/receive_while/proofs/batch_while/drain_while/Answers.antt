@@ -2,7 +2,7 @@
 -- Assumes nothing.
 use Rattle.receive_while.proofs.WhileLaws.{admitting_start, admitting_full, admitting_none, admitting_next, admitting_stops, admit_long, admit_front, admit_kept, admit_within, admit_more, stop_long, stop_output_long}
 use Rattle.turns.proofs.FrontLaws.{keeps_ringed}
-use Prim.Native.Nat.{ℕ, ◌-◌, ◌^◌, ◌≤◌, ◌<◌}
+use Prim.Native.Nat.{ℕ, ◌^◌, ◌≤◌, ◌<◌}
 use native.Mathlib.Omega.{arith}
 use Rattle.receive_while.proofs.batch_while.drain_while.Goals as goal
 

@@ -2,7 +2,6 @@
 -- Assumes nothing.
 use native.Mathlib.Omega.{arith}
 use mathlib.Core.Path.{◌∙◌, ap, sym}
-use Prim.Native.Nat.{◌-◌}
 use Rattle.lane.specs.Table.{lane_at}
 use Rattle.lane.specs.declared.lane.Lane.{Lane}
 use Rattle.sender.proofs.PassedLaws.{passing_start, passing_next, passing_found, passing_end}

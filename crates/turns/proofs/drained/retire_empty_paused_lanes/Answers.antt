@@ -1,7 +1,6 @@
 -- `turns::drained::retire_empty_paused_lanes` meets its contract.
 -- Assumes nothing.
 use Rattle.turns.proofs.DrainedLaws.{retiring_start, retiring_next, retiring_end}
-use Prim.Native.Nat.{◌-◌}
 use Rattle.turns.proofs.drained.retire_empty_paused_lanes.Goals as goal
 
 pub loop-slot-init : goal.loop-slot-init

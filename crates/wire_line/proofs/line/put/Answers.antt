@@ -1,6 +1,5 @@
 -- `wire_line::line::put` meets its contract.
 -- Assumes nothing.
-use Prim.Native.Nat.{◌-◌}
 use native.Mathlib.Omega.{arith}
 use Rattle.wire_line.proofs.PutLaws.{put_start, put_more, put_end}
 use Rattle.wire_line.proofs.line.put.Goals as goal

@@ -1,6 +1,5 @@
 -- `wire_line::line::put_numbers` meets its contract.
 -- Assumes nothing.
-use Prim.Native.Nat.{◌-◌}
 use native.Mathlib.Omega.{arith}
 use Rattle.wire_line.proofs.PutLaws.{numbers_start, numbers_more, numbers_end}
 use Rattle.wire_line.proofs.line.put_numbers.Goals as goal

@@ -1,6 +1,6 @@
 -- `yring::ring::copy_words` meets its contract. The loop's invariant: the words moved so far stand in the output.
 -- Assumes nothing.
-use Rattle.std.proofs.Common.{◌≡◌, ◌-◌, sym, refl, arith, length-set}
+use Rattle.std.proofs.Common.{◌≡◌, sym, refl, arith, length-set}
 use Rattle.yring.specs.Ring.{run}
 use Rattle.yring.proofs.ListLaws.{written_none}
 use Rattle.yring.proofs.RingLaws.{run_written_step}

@@ -1,7 +1,6 @@
 -- `lane::lane::Lane::store` meets its contract.
 -- Assumes nothing.
 use native.Mathlib.Omega.{arith}
-use Prim.Native.Nat.{◌-◌}
 use mathlib.Core.Path.{◌≡◌, ◌∙◌, refl, ap}
 use lib.ListN.{length-set, take}
 use lib.Seq.{take_all}

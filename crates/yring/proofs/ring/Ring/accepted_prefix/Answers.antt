@@ -1,6 +1,6 @@
 -- `yring::ring::Ring::accepted_prefix` meets its contract. The loop's invariant: all items passed so far are admitted.
 -- Assumes nothing.
-use Rattle.std.proofs.Common.{◌≡◌, ℕ, ◌-◌, sym, ap, ◌∙◌, arith}
+use Rattle.std.proofs.Common.{◌≡◌, ℕ, sym, ap, ◌∙◌, arith}
 use Rattle.yring.specs.Cursor.{after}
 use Rattle.yring.specs.Ring.{item_at, items, accepted_prefix}
 use Rattle.yring.proofs.RingLaws.{admits_none, admits_more, admits_no_more}
