@@ -12,7 +12,7 @@ use Rattle.model.specs.Events.{Event, any_marked, run_events, collects, finds_no
 
 -- "while a page bit is set no more than 64 go out between two collections, however plain receives and batches mix"
 -- `part` is any part of a run's events without a collection, and in which no look for one finds that no page bit is set.
--- Without that it is false: see `nothing_to_collect` in Examples/Events.antt, where 65 items go out after the only collection.
+-- Without that it is false: see `nothing_to_collect` in proofs/Examples/Events.antt, where 65 items go out after the only collection.
 unfoldable pub AtMost64BetweenCollections : Viewed → Type 0
 AtMost64BetweenCollections W =
     (o : Opening) (lent : W.rules.Stores) → opening_answer W o lent ≡ Done

@@ -219,7 +219,7 @@ send_unwoken s (DropSender k) = sender_outcome s (DropSender k)
 abbrev pub send_never_wakes : Rules
 send_never_wakes = rules_by send_unwoken receive_outcome control_outcome
 
--- `EqualTurns` shuts out a targeted receive that sends the lane in front to the back, by one such call (specs/Examples/Uneven.antt).
+-- `EqualTurns` shuts out a targeted receive that sends the lane in front to the back, by one such call (proofs/Examples/Uneven.antt).
 unfoldable pub front_to_back : List ℕ → List ℕ
 front_to_back [] = []
 front_to_back (x ∷ q) = q ++ (x ∷ [])
@@ -237,7 +237,7 @@ receive_turns_round s (TryRecvBatchIntoWhile limit bound room) = receive_outcome
 abbrev pub targeted_turns_round : Rules
 targeted_turns_round = rules_by sender_outcome receive_turns_round control_outcome
 
--- `FreePlaces` shuts out sends that say another number (specs/Examples/Miscounted.antt). What they leave is right; the number goes by whether the send marks, the
+-- `FreePlaces` shuts out sends that say another number (proofs/Examples/Miscounted.antt). What they leave is right; the number goes by whether the send marks, the
 -- state after it, and the slot.
 abbrev pub Said : Type 0
 Said = (marks : Bool) (after : State) (slot : ℕ) → ℕ
@@ -301,7 +301,7 @@ register_unreleased s (DropSender k) = sender_outcome s (DropSender k)
 abbrev pub new_lane_unreleased : Rules
 new_lane_unreleased = rules_by register_unreleased receive_outcome control_outcome
 
--- The claims of specs/LaneIds.antt shut out the following (specs/Examples/Mistaken.antt).
+-- The claims of specs/LaneIds.antt shut out the following (proofs/Examples/Mistaken.antt).
 -- Calls that take an id for another, by the state.
 abbrev pub TakenFor : Type 0
 TakenFor = State → LaneId → LaneId
@@ -412,7 +412,7 @@ receives_lose_number = rules_by sender_outcome (λ s r. number_lost (receive_out
 abbrev pub controls_lose_number : Rules
 controls_lose_number = rules_by sender_outcome receive_outcome (λ s c. number_lost (control_outcome s c))
 
--- `NumberOnlyTellsIds` shuts out rules in which the opening number does something else (specs/Examples/Renumbered.antt).
+-- `NumberOnlyTellsIds` shuts out rules in which the opening number does something else (proofs/Examples/Renumbered.antt).
 -- Where it is not 0, a send is refused as full, a fair receive serves only the front lane, the held count is 0, as above.
 unfoldable pub if_numbered : {C : Type 0} → (State → C → Outcome) → (State → C → Outcome) → State → C → Outcome
 if_numbered wrong right s c = if (eqb s.channel.opening 0) (right s c) (wrong s c)

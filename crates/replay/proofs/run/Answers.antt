@@ -33,7 +33,7 @@ returns-in-Stop g c = ran_stopped c.loop-turns.invariant c.fetch-place.ensures.f
 pub loop-turns-preserved : goal.loop-turns-preserved
 loop-turns-preserved g c =
     running_on c.loop-turns.invariant c.fetch-place.ensures.fetched c.in_default.not-Read c.round-place.ensures c.flush-place.ensures.place
-    c.loop-turns-test.true refl c.in_default-next.not-Stop (omega (arith, c.if-place-gt0.false))
+    c.loop-turns-test.true refl c.in_default-next.not-Stop (omega arith)
 
 pub returns : goal.returns
 returns g c = turns_over c.loop-turns.invariant (omega arith)

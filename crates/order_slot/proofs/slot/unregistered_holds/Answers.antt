@@ -14,4 +14,4 @@ pub returns-then-generation-eq18446744073709551615 : goal.returns-then-generatio
 returns-then-generation-eq18446744073709551615 c = no (λ p. p.generation_below (omega (arith, c.if-free-eq0.false)) (omega (arith, c.if-generation-eq18446744073709551615.true)))
 
 pub returns : goal.returns
-returns c = yes (record { unqueued = omega (arith, c.if-named-ne0.false); generation_below = λ h g. omega (arith, g, c.if-generation-eq18446744073709551615.false) })
+returns c = yes (record { unqueued = omega (arith, c.if-named-ne0.false); generation_below = λ h g. omega (arith, g) })

@@ -1,5 +1,6 @@
 -- `sender::sender::try_send` meets its contract.
 -- Assumes nothing.
+use borrow.Author.Rules.{rules}
 use mathlib.Core.Path.{◌∙◌, sym}
 use Rattle.store.specs.Words.{unless_refused}
 use Rattle.sender.specs.Sender.{try_send}
@@ -15,4 +16,4 @@ returns-in-Refuse c = rw (sym c.send_verdict.ensures ∙ c.in-Refuse.is)
 
 pub returns-in-Pass : goal.returns-in-Pass
 unfolding try_send unless_refused
-returns-in-Pass c = rw (sym c.send_verdict.ensures ∙ c.in-Pass.is) c.send_signaled.ensures
+returns-in-Pass c = rw (sym c.send_verdict.ensures ∙ c.in-Pass.is) (search rules)
