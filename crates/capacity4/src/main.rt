@@ -7,8 +7,7 @@ ghost use Rattle.yring.specs.Ring.{new_ring};
 ghost use Rattle.lane.specs.Lane.{new_lane, push_and_flush_item, poll};
 ghost use Rattle.lane.specs.Order.{InOrder, sent_lane, polled_lane};
 
-use lane::lane::{Lane, LanePoll};
-use lane::producer::Sent;
+use lane::lane::Lane;
 use model::LaneKey;
 use yring::ring::Ring;
 
@@ -28,21 +27,18 @@ fn start() -> Lane
 // Sends an item and says whether it was taken. That a line cannot be written is passed over, here as below.
 fn send(rt: &impl Print, lane: Lane, store: &mut [u64; 4], item: u64) -> Lane
     requires { InOrder 4 lane }
-    ensures { (result ≡ sent_lane (push_and_flush_item (new_ring 0 4) store.old item lane).0) × (store.new ≡ (push_and_flush_item (new_ring 0 4) store.old item lane).1) × InOrder 4 result }
+    ensures { (result ≡ sent_lane lane (push_and_flush_item (new_ring 0 4) store.old item lane).0) × (store.new ≡ (push_and_flush_item (new_ring 0 4) store.old item lane).1) × InOrder 4 result }
 {
     let ring = Ring::new(0, 4);
     match lane.push_and_flush(ring) {
-        Sent::Full { lane: full } => {
+        None => {
             let _ = println!(rt; "send {item}: refused 11");
-            full
+            lane
         }
-        Sent::Taken {
-            lane: next,
-            free: _,
-        } => {
+        Some(sent) => {
             ring.put(store, lane.tail, item);
             let _ = println!(rt; "send {item}: taken");
-            next
+            sent.lane
         }
     }
 }
@@ -53,18 +49,14 @@ fn receive(rt: &impl Print, lane: Lane, store: &[u64; 4]) -> Lane
     ensures { (result ≡ polled_lane (poll (new_ring 0 4) store.now false lane)) × InOrder 4 result }
 {
     match lane.poll(Ring::new(0, 4), store, false) {
-        LanePoll::Idle { found } => {
+        Err(found) => {
             let _ = println!(rt; "receive: empty");
             found.lane
         }
-        LanePoll::Item {
-            item,
-            rotate,
-            released,
-            lane: next,
-        } => {
+        Ok(polled) => {
+            let item = polled.item;
             let _ = println!(rt; "receive: item {item}");
-            next
+            polled.lane
         }
     }
 }

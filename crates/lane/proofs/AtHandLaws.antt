@@ -1,5 +1,6 @@
 -- An item at hand: with no window to close, nothing to look for and no credit due, `poll` only counts.
 -- Assumes nothing.
+use Rattle.std.specs.Prelude.{Ok}
 use mathlib.Core.Path.{◌≡◌, refl, ap, ◌∙◌}
 use mathlib.Core.Bool.{true, false}
 use mathlib.Core.List.{List}
@@ -8,8 +9,6 @@ use native.Mathlib.Omega.{arith}
 use borrow.Author.Tests.{ne_eqb}
 use Rattle.model.specs.State.{release_batch}
 use Rattle.lane.specs.declared.lane.Lane.{Lane}
-use Rattle.lane.specs.declared.lane.LanePoll.TheVariants as LanePoll
-use Rattle.lane.specs.declared.lane.Refill.TheVariants as Refill
 use Rattle.yring.specs.declared.ring.Ring.{Ring}
 use Rattle.yring.specs.Ring.{item_at}
 use Rattle.lane.specs.Lane.{
@@ -45,24 +44,24 @@ reload_some : (l : Lane) → (l.cached ≡ 0 → ⊥) → reload l ≡ l
 unfolding reload
 reload_some l n = simp (ne_eqb l.cached 0 n)
 
-ready_some : (l : Lane) → (l.cached ≡ 0 → ⊥) → ready_or_idle l ≡ Refill.Ready l
+ready_some : (l : Lane) → (l.cached ≡ 0 → ⊥) → ready_or_idle l ≡ Ok l
 unfolding ready_or_idle
 ready_some l n = simp (ne_eqb l.cached 0 n)
 
 -- so a look finds what is there
-pub refill_filled : (C : ℕ) (l : Lane) → Filled C l → refill l ≡ Refill.Ready l
+pub refill_filled : (C : ℕ) (l : Lane) → Filled C l → refill l ≡ Ok l
 unfolding refill
 refill_filled C l h =
     ap (λ m. ready_or_idle (reload m)) (close_closed l h.closed) ∙ ap ready_or_idle (reload_some l (λ e. omega arith)) ∙ ready_some l (λ e. omega arith)
 
 module _ (ring : Ring) (store : List ℕ) (l : Lane) where
   fair_counted : (l.unreleased + 1 ≡ release_batch ring.capacity → ⊥)
-      → poll_item ring store true l ≡ LanePoll.Item (item_at ring store l.head) true false (end_burst true (charge 1 (advance 1 l)))
+      → poll_item ring store true l ≡ Ok (record { item = item_at ring store l.head; rotate = true; released = false; lane = end_burst true (charge 1 (advance 1 l)) })
   unfolding poll_item polled pop_targeted targeted release_at_batch
   fair_counted n = simp (ne_eqb (l.unreleased + 1) (release_batch ring.capacity) n)
 
   pub poll_at_hand_lem : Filled ring.capacity l → (l.unreleased + 1 ≡ release_batch ring.capacity → ⊥)
-      → poll ring store true l ≡ LanePoll.Item (item_at ring store l.head) true false (end_burst true (charge 1 (advance 1 l)))
+      → poll ring store true l ≡ Ok (record { item = item_at ring store l.head; rotate = true; released = false; lane = end_burst true (charge 1 (advance 1 l)) })
   unfolding poll poll_refilled
   poll_at_hand_lem h n = ap (poll_refilled ring store true) (refill_filled ring.capacity l h) ∙ fair_counted n
 

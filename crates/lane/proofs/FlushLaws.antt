@@ -1,5 +1,6 @@
 -- A send in two steps, the lane and then the item's word, is the send of the definition.
 -- Assumes nothing.
+use Rattle.std.specs.Prelude.{Option, Some, None}
 use mathlib.Core.Bool.{Bool, true, false}
 use mathlib.Core.List.{List}
 use mathlib.Core.Path.{◌≡◌, refl, sym, ap, ◌∙◌}
@@ -13,9 +14,9 @@ use Rattle.lane.specs.declared.lane.Lane.{Lane}
 use Rattle.lane.specs.declared.producer.Sent.{Sent}
 
 -- the ring store that goes with what a send answers
-abbrev pub stored_by : Ring → List ℕ → ℕ → Lane → Sent → List ℕ
-stored_by ring store item l (Sent.Taken m free) = put ring store l.tail item
-stored_by ring store item l (Sent.Full m) = store
+abbrev pub stored_by : Ring → List ℕ → ℕ → Lane → Option Sent → List ℕ
+stored_by ring store item l (Some s) = put ring store l.tail item
+stored_by ring store item l None = store
 
 pub flushed_then_put : (ring : Ring) (store : List ℕ) (item : ℕ) (l : Lane)
     → push_and_flush_item ring store item l ≡ (push_and_flush ring l, stored_by ring store item l (push_and_flush ring l))
@@ -27,12 +28,12 @@ flushed_then_put ring store item l = go (eqb (distance l.tail l.released) ring.c
     go true e = simp e
     go false e = simp e
 
-pub flush_taken : (ring : Ring) (store : List ℕ) (item : ℕ) (l m : Lane) {free : ℕ} → Sent.Taken m free ≡ push_and_flush ring l
-    → push_and_flush_item ring store item l ≡ (Sent.Taken m free, put ring store l.tail item)
+pub flush_taken : (ring : Ring) (store : List ℕ) (item : ℕ) (l m : Lane) {free : ℕ} → Some (record { lane = m; free = free }) ≡ push_and_flush ring l
+    → push_and_flush_item ring store item l ≡ (Some (record { lane = m; free = free }), put ring store l.tail item)
 flush_taken ring store item l m e =
-    flushed_then_put ring store item l ∙ ap (λ (s : Sent). (s, stored_by ring store item l s)) (sym e)
+    flushed_then_put ring store item l ∙ ap (λ (s : Option Sent). (s, stored_by ring store item l s)) (sym e)
 
-pub flush_full : (ring : Ring) (store : List ℕ) (item : ℕ) (l m : Lane) → Sent.Full m ≡ push_and_flush ring l
-    → push_and_flush_item ring store item l ≡ (Sent.Full m, store)
-flush_full ring store item l m e =
-    flushed_then_put ring store item l ∙ ap (λ (s : Sent). (s, stored_by ring store item l s)) (sym e)
+pub flush_full : (ring : Ring) (store : List ℕ) (item : ℕ) (l : Lane) → None ≡ push_and_flush ring l
+    → push_and_flush_item ring store item l ≡ (None, store)
+flush_full ring store item l e =
+    flushed_then_put ring store item l ∙ ap (λ (s : Option Sent). (s, stored_by ring store item l s)) (sym e)

@@ -1,5 +1,6 @@
 -- What a lane holds, as a list: a send appends to it, and every way of popping takes its first items, in order.
 -- Assumes nothing.
+use Rattle.std.specs.Prelude.{Option, Some, None, Result, Ok, Err}
 use mathlib.Core.Path.{◌≡◌, refl, sym, ap, ap₂, ◌∙◌}
 use mathlib.Core.Bool.{Bool, true, false, cond, ◌||◌}
 use mathlib.Core.List.{List, [], ◌∷◌, ◌++◌}
@@ -15,13 +16,13 @@ use Rattle.lane.specs.Order.{Counts, InOrder, Filled, sent_lane}
 use Rattle.yring.specs.declared.ring.Ring.{Ring}
 use Rattle.lane.specs.declared.lane.Lane.{Lane}
 use Rattle.lane.specs.declared.lane.Targeted.{Targeted}
-use Rattle.lane.specs.declared.lane.LanePoll.TheVariants as LanePoll
-use Rattle.lane.specs.declared.lane.Refill.{Refill}
-use Rattle.lane.specs.declared.lane.Popped.{Popped}
 use Rattle.yring.proofs.CursorLaws.{behind_after, ahead_after, after_distance}
 use Rattle.lane.proofs.CursorOrder.{held_adds, span_adds}
 use Rattle.yring.proofs.RingLaws.{push_appends, pop_takes_first, items_split}
 use Rattle.lane.proofs.OrderLaws.{cond_holds, at_batch_is, fair_window_keeps, refill_fills, chunk_within}
+use Rattle.lane.specs.declared.consumer.Taken.{Taken}
+use Rattle.lane.specs.declared.lane.EmptyLane.{EmptyLane}
+use Rattle.lane.specs.declared.lane.LanePoll.{LanePoll}
 
 -- only the head and the tail tell what a lane holds
 pub held_by_ends : (ring : Ring) (store : List ℕ) (l m : Lane) → l.head ≡ m.head → l.tail ≡ m.tail → held_items ring store l ≡ held_items ring store m
@@ -55,24 +56,25 @@ module _ (ring : Ring) (store : List ℕ) (l : Lane) (w : Within ring (length st
       (sym (ahead_after l.tail l.head 1 o.cursors.tail_u64 o.cursors.head_u64 (known_held h)))
 
   -- a plain receive's fast window
-  pub pop_fast_takes_first : (item : ℕ) (m : Lane) → pop_fast ring store l ≡ Popped.Item item m → held_items ring store l ≡ item ∷ held_items ring store m
+  pub pop_fast_takes_first : (item : ℕ) (m : Lane) → pop_fast ring store l ≡ Some (record { item = item; lane = m }) → held_items ring store l ≡ item ∷ held_items ring store m
   unfolding pop_fast held_items
   pop_fast_takes_first item m e = go (eqb l.window 0) refl e
     where
       some : {B d a c u b v : ℕ} → Counts B d a c u b v → (v ≡ 0 → ⊥) → 0 < a
       some k f = omega arith
 
-      go : (t : Bool) → eqb l.window 0 ≡ t → cond t (Popped.Nothing l) (Popped.Item (item_at ring store l.head) (window_pop l)) ≡ Popped.Item item m
+      go : (t : Bool) → eqb l.window 0 ≡ t → cond {A = Option Taken} t None (Some (record { item = item_at ring store l.head; lane = window_pop l })) ≡ Some (record { item = item; lane = m })
           → held_items ring store l ≡ item ∷ held_items ring store m
       go true s f = let z : ◌≡◌ {A = ℕ} 0 1 = cc in absurd (omega arith)
       go false s f =
-          let value : item_at ring store l.head ≡ item = cc in
-          let rest : window_pop l ≡ m = cc in
+          let same : ◌≡◌ {A = Taken} (record { item = item_at ring store l.head; lane = window_pop l }) (record { item = item; lane = m }) = cc in
+          let value : item_at ring store l.head ≡ item = ap (λ (x : Taken). x.item) same in
+          let rest : window_pop l ≡ m = ap (λ (x : Taken). x.lane) same in
           rw (← value, ← rest) (first_held (some o.counts (eqb-false l.window 0 s)))
 
   -- a send that is not refused
   pub push_and_flush_appends : (item : ℕ) → (distance l.tail l.released ≡ ring.capacity → ⊥)
-      → held_items ring (push_and_flush_item ring store item l).1 (sent_lane (push_and_flush_item ring store item l).0) ≡ held_items ring store l ++ (item ∷ [])
+      → held_items ring (push_and_flush_item ring store item l).1 (sent_lane l (push_and_flush_item ring store item l).0) ≡ held_items ring store l ++ (item ∷ [])
   unfolding held_items push_and_flush_item sent push_item
   push_and_flush_appends item f =
       rw (ne_eqb (distance l.tail l.released) ring.capacity f)
@@ -105,18 +107,19 @@ module _ (ring : Ring) (store : List ℕ) (l : Lane) (w : Within ring (length st
       cond_holds (λ m. held_items ring store m ≡ held_items ring store l) (eqb l.window 0) (grant_fast ring.capacity budget (end_burst true l)) l
       (λ e. reload_holds ring store (end_burst true l)) (λ e. refl)
 
-  pub pop_fair_takes_first : (item : ℕ) (m : Lane) → pop_lone ring store budget l ≡ Popped.Item item m → held_items ring store l ≡ item ∷ held_items ring store m
+  pub pop_fair_takes_first : (item : ℕ) (m : Lane) → pop_lone ring store budget l ≡ Some (record { item = item; lane = m }) → held_items ring store l ≡ item ∷ held_items ring store m
   unfolding pop_lone fairly held_items
   pop_fair_takes_first item m e = go (pop_fast ring store (fair_window ring.capacity budget l)) refl e
     where
-      go : (p : Popped) → pop_fast ring store (fair_window ring.capacity budget l) ≡ p → fairly p ≡ Popped.Item item m → held_items ring store l ≡ item ∷ held_items ring store m
-      go (Popped.Item v k) s f =
-          let value : v ≡ item = cc in
-          let rest : burst_of_window k ≡ m = cc in
+      go : (p : Option Taken) → pop_fast ring store (fair_window ring.capacity budget l) ≡ p → fairly p ≡ Some (record { item = item; lane = m }) → held_items ring store l ≡ item ∷ held_items ring store m
+      go (Some taken) s f =
+          let same : ◌≡◌ {A = Taken} (record { item = taken.item; lane = burst_of_window taken.lane }) (record { item = item; lane = m }) = cc in
+          let value : taken.item ≡ item = ap (λ (x : Taken). x.item) same in
+          let rest : burst_of_window taken.lane ≡ m = ap (λ (x : Taken). x.lane) same in
           rw (← value, ← rest)
           (sym fair_window_holds
-          ∙ pop_fast_takes_first ring store (fair_window ring.capacity budget l) w (fair_window_keeps ring w.power.most store l o budget) v k s)
-      go (Popped.Nothing k) s f = let z : ◌≡◌ {A = ℕ} 0 1 = cc in absurd (omega arith)
+          ∙ pop_fast_takes_first ring store (fair_window ring.capacity budget l) w (fair_window_keeps ring w.power.most store l o budget) taken.item taken.lane s)
+      go None s f = let z : ◌≡◌ {A = ℕ} 0 1 = cc in absurd (omega arith)
 
 -- the item that a counted pop gives
 item_is : (ring : Ring) (store : List ℕ) (l : Lane) → (pop_targeted ring store l).item ≡ item_at ring store l.head
@@ -124,11 +127,11 @@ unfolding pop_targeted targeted
 item_is ring store l = refl
 
 -- a lane that is ready is the one that was looked at
-pub refill_is : (l m : Lane) → refill l ≡ Refill.Ready m → reload (close_fast l) ≡ m
+pub refill_is : (l m : Lane) → refill l ≡ Ok m → reload (close_fast l) ≡ m
 unfolding refill ready_or_idle
 refill_is l m e = go (eqb (reload (close_fast l)).cached 0) e
   where
-    go : (t : Bool) → cond t (Refill.Idle (settle_empty (reload (close_fast l)))) (Refill.Ready (reload (close_fast l))) ≡ Refill.Ready m → reload (close_fast l) ≡ m
+    go : (t : Bool) → cond t (Err (settle_empty (reload (close_fast l)))) (Ok (reload (close_fast l))) ≡ Ok m → reload (close_fast l) ≡ m
     go true f = let z : ◌≡◌ {A = ℕ} 0 1 = cc in absurd (omega arith)
     go false f = cc
 
@@ -180,25 +183,28 @@ module _ (ring : Ring) (store : List ℕ) (l : Lane) (w : Within ring (length st
   counted_holds true m = refl
   counted_holds false m = refl
 
-  pub poll_item_takes_first : (fair : Bool) (item : ℕ) (rotate released : Bool) (m : Lane) → poll_item ring store fair l ≡ LanePoll.Item item rotate released m
+  pub poll_item_takes_first : (fair : Bool) (item : ℕ) (rotate released : Bool) (m : Lane) → poll_item ring store fair l ≡ Ok (record { item = item; rotate = rotate; released = released; lane = m })
       → held_items ring store l ≡ item ∷ held_items ring store m
   unfolding poll_item polled
   poll_item_takes_first fair item rotate released m e =
       let t : Targeted = pop_targeted ring store l in
-      let value : t.item ≡ item = cc in
-      let rest : end_burst (fair || eqb (t.lane.burst + 1) 64) (add_burst 1 t.lane) ≡ m = cc in
+      let turned : Lane = end_burst (fair || eqb (t.lane.burst + 1) 64) (add_burst 1 t.lane) in
+      let same : ◌≡◌ {A = LanePoll} (record { item = t.item; rotate = fair || eqb (t.lane.burst + 1) 64; released = t.released; lane = turned })
+      (record { item = item; rotate = rotate; released = released; lane = m }) = cc in
+      let value : t.item ≡ item = ap (λ (p : LanePoll). p.item) same in
+      let rest : turned ≡ m = ap (λ (p : LanePoll). p.lane) same in
       pop_targeted_takes_first
       ∙ ap₂ ◌∷◌ (sym (item_is ring store l) ∙ value)
       (sym (counted_holds (fair || eqb (t.lane.burst + 1) 64) t.lane) ∙ ap (held_items ring store) rest)
 
 -- a poll gives the first item, or finds that there is none
 module _ (ring : Ring) (store : List ℕ) (l : Lane) (w : Within ring (length store)) (o : InOrder ring.capacity l) (fair : Bool) where
-  pub poll_takes_first : (item : ℕ) (rotate released : Bool) (m : Lane) → poll ring store fair l ≡ LanePoll.Item item rotate released m → held_items ring store l ≡ item ∷ held_items ring store m
+  pub poll_takes_first : (item : ℕ) (rotate released : Bool) (m : Lane) → poll ring store fair l ≡ Ok (record { item = item; rotate = rotate; released = released; lane = m }) → held_items ring store l ≡ item ∷ held_items ring store m
   unfolding poll poll_refilled
   poll_takes_first item rotate released m e = go (refill l) refl e
     where
-      go : (r : Refill) → refill l ≡ r → poll_refilled ring store fair r ≡ LanePoll.Item item rotate released m → held_items ring store l ≡ item ∷ held_items ring store m
-      go (Refill.Ready k) s f =
+      go : (r : Result Lane EmptyLane) → refill l ≡ r → poll_refilled ring store fair r ≡ Ok (record { item = item; rotate = rotate; released = released; lane = m }) → held_items ring store l ≡ item ∷ held_items ring store m
+      go (Ok k) s f =
           sym (reload_holds ring store l) ∙ ap (held_items ring store) (refill_is l k s)
           ∙ poll_item_takes_first ring store k w (refill_fills ring.capacity w.power.most l o k s) fair item rotate released m f
-      go (Refill.Idle found) s f = let z : ◌≡◌ {A = ℕ} 0 1 = cc in absurd (omega arith)
+      go (Err found) s f = let z : ◌≡◌ {A = ℕ} 0 1 = cc in absurd (omega arith)

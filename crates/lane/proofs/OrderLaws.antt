@@ -1,5 +1,6 @@
 -- A lane in order stays in order under every method; under `move_chunk` with the `end_full_burst` that follows it.
 -- Assumes nothing.
+use Rattle.std.specs.Prelude.{Option, Some, None, Result, Ok, Err}
 use mathlib.Core.Path.{◌≡◌, refl, ◌∙◌, sym, ap, ap₂}
 use mathlib.Core.Bool.{Bool, true, false, cond, ◌||◌}
 use mathlib.Core.List.{List}
@@ -17,12 +18,12 @@ use Rattle.yring.specs.Ring.{push_item, item_at}
 use Rattle.model.specs.declared.LaneKey.{LaneKey}
 use Rattle.yring.specs.declared.ring.Ring.{Ring}
 use Rattle.lane.specs.declared.lane.Lane.{Lane}
-use Rattle.lane.specs.declared.lane.Popped.{Popped}
 use Rattle.lane.specs.declared.lane.Released.{Released}
-use Rattle.lane.specs.declared.lane.Refill.{Refill}
 use Rattle.yring.proofs.CursorLaws.{some, behind_after, ahead_after, distance_self, distance_none}
 use Rattle.lane.proofs.CursorOrder.{held_adds, head_goes_on, tail_goes_on, known_is_tail, released_is_head}
 use Rattle.lane.proofs.CountOrder.{counts_close, counts_narrow, counts_look, counts_open, counts_pop, counts_charge, counts_credit, counts_release, counts_burst}
+use Rattle.lane.specs.declared.consumer.Taken.{Taken}
+use Rattle.lane.specs.declared.lane.EmptyLane.{EmptyLane}
 
 -- what holds of both sides of a test holds
 pub cond_holds : {A : Type 0} (P : A → Type 0) (t : Bool) (x y : A) → (t ≡ true → P x) → (t ≡ false → P y) → P (cond t x y)
@@ -120,10 +121,10 @@ module _ (C : ℕ) (small : C ≤ 65536) (l : Lane) (o : InOrder C l) where
       room : {a : ℕ} → a ≤ C → a + 1 < 2 ^ 64
       room h = omega arith
 
-  pub pop_fast_keeps : (ring : Ring) (store : List ℕ) → InOrder C (popped_lane (pop_fast ring store l))
+  pub pop_fast_keeps : (ring : Ring) (store : List ℕ) → InOrder C (popped_lane l (pop_fast ring store l))
   unfolding pop_fast
   pop_fast_keeps ring store =
-      cond_holds (λ p. InOrder C (popped_lane p)) (eqb l.window 0) (Popped.Nothing l) (Popped.Item (item_at ring store l.head) (window_pop l))
+      cond_holds (λ p. InOrder C (popped_lane l p)) (eqb l.window 0) None (Some (record { item = item_at ring store l.head; lane = window_pop l }))
       (λ e. o) (λ e. window_pop_keeps (positive (eqb-false l.window 0 e)))
 
   -- another burst
@@ -207,18 +208,18 @@ module _ (C : ℕ) (small : C ≤ 65536) (l : Lane) (o : InOrder C l) where
   refill_keeps =
       let m : Lane = reload (close_fast l) in
       let k : InOrder C m = closed_reload_keeps C small l o in
-      cond_holds (λ r. InOrder C (refilled_lane r)) (eqb m.cached 0) (Refill.Idle (settle_empty m)) (Refill.Ready m)
+      cond_holds (λ r. InOrder C (refilled_lane r)) (eqb m.cached 0) (Err (settle_empty m)) (Ok m)
       (λ t. settle_empty_keeps C small m k) (λ t. k)
 
   -- a lane that is ready is in order, its window closed, with an item at hand
-  pub refill_fills : (m : Lane) → refill l ≡ Refill.Ready m → Filled C m
+  pub refill_fills : (m : Lane) → refill l ≡ Ok m → Filled C m
   unfolding refill ready_or_idle
   refill_fills m e = go (eqb n.cached 0) refl e
     where
       n : Lane
       n = reload (close_fast l)
 
-      go : (t : Bool) → eqb n.cached 0 ≡ t → cond t (Refill.Idle (settle_empty n)) (Refill.Ready n) ≡ Refill.Ready m → Filled C m
+      go : (t : Bool) → eqb n.cached 0 ≡ t → cond t (Err (settle_empty n)) (Ok n) ≡ Ok m → Filled C m
       go true s f = let z : ◌≡◌ {A = ℕ} 0 1 = cc in absurd (omega arith)
       go false s f =
           let same : n ≡ m = cc in
@@ -280,9 +281,9 @@ module _ (ring : Ring) (small : ring.capacity ≤ 65536) (store : List ℕ) (l :
   unfolding poll poll_refilled
   poll_keeps fair = go (refill l) refl
     where
-      go : (r : Refill) → refill l ≡ r → InOrder ring.capacity (polled_lane (poll_refilled ring store fair r))
-      go (Refill.Ready m) e = poll_item_keeps ring small store m (refill_fills ring.capacity small l o m e) fair
-      go (Refill.Idle found) e = rw (ap refilled_lane e) at (refill_keeps ring.capacity small l o)
+      go : (r : Result Lane EmptyLane) → refill l ≡ r → InOrder ring.capacity (polled_lane (poll_refilled ring store fair r))
+      go (Ok m) e = poll_item_keeps ring small store m (refill_fills ring.capacity small l o m e) fair
+      go (Err found) e = rw (ap refilled_lane e) at (refill_keeps ring.capacity small l o)
 
   pub fair_window_keeps : (budget : ℕ) → InOrder ring.capacity (fair_window ring.capacity budget l)
   unfolding fair_window
@@ -293,7 +294,7 @@ module _ (ring : Ring) (small : ring.capacity ≤ 65536) (store : List ℕ) (l :
       (burst_keeps ring.capacity small l o 0 (rw (eqb-true l.window 0 t) (omega arith)) (omega arith)) budget)
       (λ t. o)
 
-  pub pop_fair_keeps : (budget : ℕ) → InOrder ring.capacity (popped_lane (pop_lone ring store budget l))
+  pub pop_fair_keeps : (budget : ℕ) → InOrder ring.capacity (popped_lane (fair_window ring.capacity budget l) (pop_lone ring store budget l))
   unfolding pop_lone fairly
   pop_fair_keeps budget =
       go (pop_fast ring store (fair_window ring.capacity budget l))
@@ -302,9 +303,9 @@ module _ (ring : Ring) (small : ring.capacity ≤ 65536) (store : List ℕ) (l :
       most : {B d m c u b w : ℕ} → Counts B d m c u b w → w ≤ 63
       most n = omega arith
 
-      go : (p : Popped) → InOrder ring.capacity (popped_lane p) → InOrder ring.capacity (popped_lane (fairly p))
-      go (Popped.Item item m) k = burst_keeps ring.capacity small m k m.window (omega arith) (most k.counts)
-      go (Popped.Nothing m) k = k
+      go : (p : Option Taken) → let w = fair_window ring.capacity budget l in InOrder ring.capacity (popped_lane w p) → InOrder ring.capacity (popped_lane w (fairly p))
+      go (Some taken) k = burst_keeps ring.capacity small taken.lane k taken.lane.window (omega arith) (most k.counts)
+      go None k = k
 
 -- credit at the batch and the count of the turn do not meet
 at_batch_adds : (C n : ℕ) (l : Lane) → (release_at_batch C (add_burst n l)).lane ≡ add_burst n (release_at_batch C l).lane
@@ -350,11 +351,11 @@ module _ (C : ℕ) (small : C ≤ 65536) (l : Lane) (f : Filled C l) (take : ℕ
 
 -- a send keeps the lane in order
 module _ (ring : Ring) (small : ring.capacity ≤ 65536) (store : List ℕ) (item : ℕ) (l : Lane) (o : InOrder ring.capacity l) where
-  pub push_and_flush_keeps : InOrder ring.capacity (sent_lane (push_and_flush_item ring store item l).0)
+  pub push_and_flush_keeps : InOrder ring.capacity (sent_lane l (push_and_flush_item ring store item l).0)
   unfolding push_and_flush_item sent push_item
   push_and_flush_keeps = go (eqb (distance l.tail l.released) ring.capacity) refl
     where
-      go : (t : Bool) → eqb (distance l.tail l.released) ring.capacity ≡ t → InOrder ring.capacity (sent_lane (push_and_flush_item ring store item l).0)
+      go : (t : Bool) → eqb (distance l.tail l.released) ring.capacity ≡ t → InOrder ring.capacity (sent_lane l (push_and_flush_item ring store item l).0)
       go true e = rw e o
       go false e =
           rw e

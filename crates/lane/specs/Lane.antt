@@ -1,24 +1,21 @@
 -- What each method of a lane does to its record. The window's items are charged to the counts before they are popped.
 -- Assumes nothing.
-use Rattle.std.specs.Prelude.{Bool, true, false, cond, ◌||◌, List, ℕ, ◌+◌, ◌-◌, min, eqb}
+use Rattle.std.specs.Prelude.{Bool, true, false, cond, ◌||◌, List, ℕ, ◌+◌, ◌-◌, min, eqb, Option, Some, None, Result, Ok, Err}
 use Rattle.model.specs.declared.LaneKey.{LaneKey}
 use Rattle.yring.specs.Cursor.{after, distance}
 use Rattle.yring.specs.Ring.{item_at, items, push_item, push}
 use Rattle.model.specs.State.{release_batch}
 use Rattle.yring.specs.declared.ring.Ring.{Ring}
-use Rattle.yring.specs.declared.ring.Push.{Push}
-use Rattle.yring.specs.declared.ring.Push.TheVariants.{Pushed, Full}
 use Rattle.lane.specs.declared.producer.Sent.{Sent}
 use Rattle.lane.specs.declared.consumer.Taken.{Taken}
 use Rattle.lane.specs.declared.lane.Lane.{Lane}
-use Rattle.lane.specs.declared.lane.Popped.{Popped}
 use Rattle.lane.specs.declared.lane.Released.{Released}
 use Rattle.lane.specs.declared.lane.EmptyLane.{EmptyLane}
-use Rattle.lane.specs.declared.lane.Refill.{Refill}
 use Rattle.lane.specs.declared.lane.LanePoll.{LanePoll}
 use Rattle.lane.specs.declared.lane.Targeted.{Targeted}
 use Rattle.lane.specs.declared.lane.BurstEnd.{BurstEnd}
 use Rattle.lane.specs.declared.lane.Reloaded.{Reloaded}
+use Rattle.yring.specs.declared.ring.Pushed.{Pushed}
 
 -- a lane with other cursors
 abbrev pub with_cursors : ℕ → ℕ → ℕ → ℕ → Lane → Lane
@@ -108,19 +105,19 @@ held_items ring store l = items ring store l.head (distance l.tail l.head)
 -- THE RING'S TWO ENDS
 
 -- a send: "push refuses exactly if .."; else the item is stored and published
-unfoldable pub sent : Lane → Push × List ℕ → Sent × List ℕ
-sent l (Pushed cursor free, store) = (Sent.Taken (with_cursors cursor l.released l.head l.known l) free, store)
-sent l (Full, store) = (Sent.Full l, store)
+unfoldable pub sent : Lane → Option Pushed × List ℕ → Option Sent × List ℕ
+sent l (Some p, store) = (Some (record { lane = with_cursors p.cursor l.released l.head l.known l; free = p.free }), store)
+sent l (None, store) = (None, store)
 
-unfoldable pub push_and_flush_item : Ring → List ℕ → ℕ → Lane → Sent × List ℕ
+unfoldable pub push_and_flush_item : Ring → List ℕ → ℕ → Lane → Option Sent × List ℕ
 push_and_flush_item ring store item l = sent l (push_item ring store l.tail l.released item)
 
 -- the lane that a send leaves, or the full one: a send but for the item's word
-unfoldable pub sent_by : Lane → Push → Sent
-sent_by l (Pushed cursor free) = Sent.Taken (with_cursors cursor l.released l.head l.known l) free
-sent_by l Full = Sent.Full l
+unfoldable pub sent_by : Lane → Option Pushed → Option Sent
+sent_by l (Some p) = Some (record { lane = with_cursors p.cursor l.released l.head l.known l; free = p.free })
+sent_by l None = None
 
-unfoldable pub push_and_flush : Ring → Lane → Sent
+unfoldable pub push_and_flush : Ring → Lane → Option Sent
 push_and_flush ring l = sent_by l (push ring l.tail l.released)
 
 -- what was published since the last look is counted, and known
@@ -169,8 +166,8 @@ abbrev pub pop_window : Ring → List ℕ → Lane → Taken
 pop_window ring store l = record { item = item_at ring store l.head; lane = window_pop l }
 
 -- "first the open fast window": its next item, with no other count changed
-unfoldable pub pop_fast : Ring → List ℕ → Lane → Popped
-pop_fast ring store l = cond (eqb l.window 0) (Popped.Nothing l) (Popped.Item (item_at ring store l.head) (window_pop l))
+unfoldable pub pop_fast : Ring → List ℕ → Lane → Option Taken
+pop_fast ring store l = cond (eqb l.window 0) None (Some (record { item = item_at ring store l.head; lane = window_pop l }))
 
 -- CREDIT
 
@@ -203,10 +200,10 @@ emptied r = record { lane = settled r.lane; disconnected = eqb r.lane.living 0; 
 unfoldable pub settle_empty : Lane → EmptyLane
 settle_empty l = emptied (release_pending l)
 
-unfoldable pub ready_or_idle : Lane → Refill
-ready_or_idle l = cond (eqb l.cached 0) (Refill.Idle (settle_empty l)) (Refill.Ready l)
+unfoldable pub ready_or_idle : Lane → Result Lane EmptyLane
+ready_or_idle l = cond (eqb l.cached 0) (Err (settle_empty l)) (Ok l)
 
-unfoldable pub refill : Lane → Refill
+unfoldable pub refill : Lane → Result Lane EmptyLane
 refill l = ready_or_idle (reload (close_fast l))
 
 unfoldable pub reload_is_empty : Lane → Reloaded
@@ -231,20 +228,20 @@ unfoldable pub pop_targeted : Ring → List ℕ → Lane → Targeted
 pop_targeted ring store l = targeted (item_at ring store l.head) (release_at_batch ring.capacity (charge 1 (advance 1 l)))
 
 -- the turn ends with every item of a fair receive, else at a burst of 64
-unfoldable pub polled : Bool → Targeted → LanePoll
+unfoldable pub polled : Bool → Targeted → Result LanePoll EmptyLane
 polled fair t =
     let l = add_burst 1 t.lane in
     let rotate = fair || eqb l.burst 64 in
-    LanePoll.Item t.item rotate t.released (end_burst rotate l)
+    Ok (record { item = t.item; rotate = rotate; released = t.released; lane = end_burst rotate l })
 
-unfoldable pub poll_item : Ring → List ℕ → Bool → Lane → LanePoll
+unfoldable pub poll_item : Ring → List ℕ → Bool → Lane → Result LanePoll EmptyLane
 poll_item ring store fair l = polled fair (pop_targeted ring store l)
 
-unfoldable pub poll_refilled : Ring → List ℕ → Bool → Refill → LanePoll
-poll_refilled ring store fair (Refill.Ready l) = poll_item ring store fair l
-poll_refilled ring store fair (Refill.Idle found) = LanePoll.Idle found
+unfoldable pub poll_refilled : Ring → List ℕ → Bool → Result Lane EmptyLane → Result LanePoll EmptyLane
+poll_refilled ring store fair (Ok l) = poll_item ring store fair l
+poll_refilled ring store fair (Err found) = Err found
 
-unfoldable pub poll : Ring → List ℕ → Bool → Lane → LanePoll
+unfoldable pub poll : Ring → List ℕ → Bool → Lane → Result LanePoll EmptyLane
 poll ring store fair l = poll_refilled ring store fair (refill l)
 
 -- "A lone lane takes `pop_fair`": through the window that is open, or one opened at burst 0
@@ -258,11 +255,11 @@ burst_of_window l = with_counts l.cached l.unreleased l.window l.window l
 abbrev pub pop_fair : Ring → List ℕ → Lane → Taken
 pop_fair ring store l = record { item = item_at ring store l.head; lane = burst_of_window (window_pop l) }
 
-unfoldable pub fairly : Popped → Popped
-fairly (Popped.Item item l) = Popped.Item item (burst_of_window l)
-fairly (Popped.Nothing l) = Popped.Nothing l
+unfoldable pub fairly : Option Taken → Option Taken
+fairly (Some taken) = Some (record { item = taken.item; lane = burst_of_window taken.lane })
+fairly None = None
 
-unfoldable pub pop_lone : Ring → List ℕ → ℕ → Lane → Popped
+unfoldable pub pop_lone : Ring → List ℕ → ℕ → Lane → Option Taken
 pop_lone ring store budget l = fairly (pop_fast ring store (fair_window ring.capacity budget l))
 
 -- CHUNKS

@@ -1,13 +1,13 @@
 -- A lane in order: document 01's 'A store in order', its clauses "Per registered lane, in wrapped distances, each at most C, and sums that do not wrap".
 -- Assumes nothing.
-use Rattle.std.specs.Prelude.{◌≡◌, ℕ, ◌+◌, ◌^◌, ◌≤◌, ◌<◌}
+use Rattle.std.specs.Prelude.{◌≡◌, ℕ, ◌+◌, ◌^◌, ◌≤◌, ◌<◌, Option, Some, None, Result, Ok, Err}
 use Rattle.yring.specs.Cursor.{distance}
 use Rattle.model.specs.State.{release_batch}
 use Rattle.lane.specs.declared.producer.Sent.{Sent}
 use Rattle.lane.specs.declared.lane.Lane.{Lane}
-use Rattle.lane.specs.declared.lane.Popped.{Popped}
-use Rattle.lane.specs.declared.lane.Refill.{Refill}
 use Rattle.lane.specs.declared.lane.LanePoll.{LanePoll}
+use Rattle.lane.specs.declared.consumer.Taken.{Taken}
+use Rattle.lane.specs.declared.lane.EmptyLane.{EmptyLane}
 
 -- the cursors, from the released head to the head, on to the known tail, on to the tail
 pub record Cursors (C tail released head known : ℕ) : Type 0 where
@@ -57,19 +57,19 @@ pub record Refundable (l : Lane) : Type 0 where
   pub credit : l.window ≤ l.unreleased
   pub turn : l.window ≤ l.burst
 
--- the lane that an answer hands back
-abbrev pub sent_lane : Sent → Lane
-sent_lane (Sent.Taken l free) = l
-sent_lane (Sent.Full l) = l
+-- the lane that an answer hands back; where it has none, the lane stays as it is
+abbrev pub sent_lane : Lane → Option Sent → Lane
+sent_lane l (Some s) = s.lane
+sent_lane l None = l
 
-abbrev pub popped_lane : Popped → Lane
-popped_lane (Popped.Item item l) = l
-popped_lane (Popped.Nothing l) = l
+abbrev pub popped_lane : Lane → Option Taken → Lane
+popped_lane l (Some taken) = taken.lane
+popped_lane l None = l
 
-abbrev pub refilled_lane : Refill → Lane
-refilled_lane (Refill.Ready l) = l
-refilled_lane (Refill.Idle found) = found.lane
+abbrev pub refilled_lane : Result Lane EmptyLane → Lane
+refilled_lane (Ok l) = l
+refilled_lane (Err found) = found.lane
 
-abbrev pub polled_lane : LanePoll → Lane
-polled_lane (LanePoll.Item item rotate released l) = l
-polled_lane (LanePoll.Idle found) = found.lane
+abbrev pub polled_lane : Result LanePoll EmptyLane → Lane
+polled_lane (Ok p) = p.lane
+polled_lane (Err found) = found.lane

@@ -53,10 +53,7 @@ impl Lane {
     {
         let item = ring.item_at(store, self.head);
         self.head = ring::after(self.head, 1);
-        Taken {
-            item: item,
-            lane: self,
-        }
+        Taken { item, lane: self }
     }
 
     // The lane with the head `count` items on. The caller moves them to the output.

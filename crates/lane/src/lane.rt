@@ -1,8 +1,7 @@
 // A lane: one sender's cursors and the receiver's counts. Port of src/mpsc/receiver/lane.rs.
 // A method takes the lane and hands the next one back.
-ghost use Rattle.std.specs.Prelude.{◌≡◌, true, false, ◌+◌, ◌-◌, ◌≤◌, ◌<◌, length};
+ghost use Rattle.std.specs.Prelude.{◌≡◌, true, false, Ok, ◌+◌, ◌-◌, ◌≤◌, ◌<◌, length};
 ghost use Rattle.model.specs.State.{release_batch};
-ghost use Rattle.lane.specs.declared.lane.LanePoll.TheVariants as LanePoll;
 ghost use Rattle.yring.specs.Cursor.{Capacity};
 ghost use Rattle.yring.specs.Ring.{Within};
 ghost use Rattle.lane.specs.Order.{InOrder, Filled, FoundEmpty, Refundable};
@@ -37,7 +36,6 @@ use crate::consumer::Taken;
 use model::LaneKey;
 use yring::release::release_batch;
 use yring::ring::Ring;
-use yring::{num, ring};
 
 // Flags are words that hold 0 or 1, so that a record loaded and stored is the same words.
 #[derive(Clone, Copy)]
@@ -64,12 +62,7 @@ pub struct Lane {
     pub living: u64,
 }
 
-#[derive(Clone, Copy)]
-pub enum Popped {
-    Item { item: u64, lane: Lane },
-    Nothing { lane: Lane },
-}
-
+// Here and in the structs below a flag says one thing more of a lane that is there in any case, so there is no Option to it.
 #[derive(Clone, Copy)]
 pub struct Released {
     pub lane: Lane,
@@ -84,23 +77,13 @@ pub struct EmptyLane {
     pub released: bool,
 }
 
+// An item of a poll. `rotate`: the lane's turn at the front is over.
 #[derive(Clone, Copy)]
-pub enum Refill {
-    Ready { lane: Lane },
-    Idle { found: EmptyLane },
-}
-
-#[derive(Clone, Copy)]
-pub enum LanePoll {
-    Item {
-        item: u64,
-        rotate: bool,
-        released: bool,
-        lane: Lane,
-    },
-    Idle {
-        found: EmptyLane,
-    },
+pub struct LanePoll {
+    pub item: u64,
+    pub rotate: bool,
+    pub released: bool,
+    pub lane: Lane,
 }
 
 #[derive(Clone, Copy)]
@@ -131,7 +114,7 @@ impl Lane {
         ensures { result ≡ new_lane key cursor }
     {
         Lane {
-            key: key,
+            key,
             tail: cursor,
             released: cursor,
             head: cursor,
@@ -154,9 +137,9 @@ impl Lane {
         requires { Capacity capacity × InOrder capacity self }
         ensures { result ≡ window_for capacity budget self }
     {
-        let credit = num::saturating_sub(release_batch(capacity), self.unreleased + 1);
-        let turn = num::saturating_sub(Lane::PREFETCH_LIMIT, self.burst + 1);
-        num::least(num::least(num::least(self.cached, credit), turn), budget)
+        let credit = release_batch(capacity).saturating_sub(self.unreleased + 1);
+        let turn = Lane::PREFETCH_LIMIT.saturating_sub(self.burst + 1);
+        self.cached.min(credit).min(turn).min(budget)
     }
 
     // A window of `n` items, charged to the counts at once.
@@ -182,19 +165,14 @@ impl Lane {
     }
 
     // Pops the next item of the window, if one is open.
-    pub fn pop_fast(self, ring: Ring, store: &[u64]) -> Popped
+    pub fn pop_fast(self, ring: Ring, store: &[u64]) -> Option<Taken>
         requires { Within ring (length store.now) }
         ensures { result ≡ pop_fast ring store.now self }
     {
         if self.window == 0 {
-            return Popped::Nothing { lane: self };
+            return None;
         }
-        let taken = self.pop_window(ring, store);
-        let lane = taken.lane;
-        Popped::Item {
-            item: taken.item,
-            lane: lane,
-        }
+        Some(self.pop_window(ring, store))
     }
 
     // The next item of a window that has one.
@@ -207,7 +185,7 @@ impl Lane {
         lane.window -= 1;
         Taken {
             item: taken.item,
-            lane: lane,
+            lane,
         }
     }
 
@@ -272,14 +250,14 @@ impl Lane {
     // The next item of a lane that `refill` found ready, its turn at the front counted.
     fn poll_item(self, ring: Ring, store: &[u64], fair: bool) -> LanePoll
         requires { Within ring (length store.now) × Filled ring.capacity self }
-        ensures { result ≡ poll_item ring store.now fair self }
+        ensures { Ok result ≡ poll_item ring store.now fair self }
     {
         let taken = self.pop_targeted(ring, store);
         let lane = taken.lane.add_burst(1);
         let rotate = fair | (lane.burst == Lane::PREFETCH_LIMIT);
-        LanePoll::Item {
+        LanePoll {
             item: taken.item,
-            rotate: rotate,
+            rotate,
             released: taken.released,
             lane: lane.end_burst(rotate),
         }
@@ -287,14 +265,11 @@ impl Lane {
 
     // Pops one item with full counting: credit at the release batch, and the end of the turn at
     // the burst limit, or with every item where `fair`.
-    pub fn poll(self, ring: Ring, store: &[u64], fair: bool) -> LanePoll
+    pub fn poll(self, ring: Ring, store: &[u64], fair: bool) -> Result<LanePoll, EmptyLane>
         requires { Within ring (length store.now) × InOrder ring.capacity self }
         ensures { result ≡ poll ring store.now fair self }
     {
-        match self.refill() {
-            Refill::Idle { found } => LanePoll::Idle { found: found },
-            Refill::Ready { lane } => lane.poll_item(ring, store, fair),
-        }
+        Ok(self.refill()?.poll_item(ring, store, fair))
     }
 
     // Whether an item is at hand that only needs counting: no window is open, and no credit is due with it.
@@ -302,22 +277,13 @@ impl Lane {
         requires { Capacity capacity × InOrder capacity self }
         ensures { result ≡ true → Filled capacity self × (self.unreleased + 1 ≡ release_batch capacity → ⊥) }
     {
-        if self.window != 0 {
-            return false;
-        }
-        if self.cached == 0 {
-            return false;
-        }
-        if self.unreleased + 1 == release_batch(capacity) {
-            return false;
-        }
-        true
+        self.window == 0 && self.cached != 0 && self.unreleased + 1 != release_batch(capacity)
     }
 
     // `poll` of a fair receive, where an item is at hand.
     pub fn poll_at_hand(self, ring: Ring, store: &[u64]) -> Taken
         requires { Within ring (length store.now) × Filled ring.capacity self × (self.unreleased + 1 ≡ release_batch ring.capacity → ⊥) }
-        ensures { poll ring store.now true self ≡ LanePoll.Item result.item true false result.lane }
+        ensures { poll ring store.now true self ≡ Ok (record { item = result.item; rotate = true; released = false; lane = result.lane }) }
     {
         let taken = self.pop(ring, store);
         let lane = taken.lane;
@@ -370,7 +336,7 @@ impl Lane {
         let lane = done.lane;
         Targeted {
             item: taken.item,
-            lane: lane,
+            lane,
             released: done.released,
         }
     }
@@ -382,7 +348,7 @@ impl Lane {
         let ended = self.burst == Lane::PREFETCH_LIMIT;
         BurstEnd {
             lane: self.end_burst(ended),
-            ended: ended,
+            ended,
         }
     }
 
@@ -393,7 +359,7 @@ impl Lane {
     {
         let lane = self.close_fast().reload();
         Reloaded {
-            lane: lane,
+            lane,
             empty: lane.cached == 0,
         }
     }
@@ -406,7 +372,7 @@ impl Lane {
         let lane = self.close_fast();
         if lane.unreleased == 0 {
             return Released {
-                lane: lane,
+                lane,
                 released: false,
             };
         }
@@ -417,17 +383,15 @@ impl Lane {
     }
 
     // Closes the window and looks again where nothing is cached: ready, or found empty and settled.
-    pub fn refill(self) -> Refill
+    pub fn refill(self) -> Result<Lane, EmptyLane>
         requires { Refundable self }
         ensures { result ≡ refill self }
     {
         let lane = self.close_fast().reload();
         if lane.cached == 0 {
-            return Refill::Idle {
-                found: lane.settle_empty(),
-            };
+            return Err(lane.settle_empty());
         }
-        Refill::Ready { lane: lane }
+        Ok(lane)
     }
 
     // The most items that one move may take before credit is due or the turn ends.
@@ -435,10 +399,9 @@ impl Lane {
         requires { Capacity capacity × InOrder capacity self }
         ensures { result ≡ chunk_limit capacity self }
     {
-        num::least(
-            num::least(self.cached, Lane::PREFETCH_LIMIT - self.burst),
-            release_batch(capacity) - self.unreleased,
-        )
+        self.cached
+            .min(Lane::PREFETCH_LIMIT - self.burst)
+            .min(release_batch(capacity) - self.unreleased)
     }
 
     // The lane once `take` of its items are moved, of one that `refill` found ready. Every item is
@@ -468,7 +431,7 @@ impl Lane {
         lane.pending = 0;
         lane.queued = 0;
         EmptyLane {
-            lane: lane,
+            lane,
             disconnected: lane.living == 0,
             released: done.released,
         }

@@ -43,7 +43,7 @@ impl Lane {
     {
         Lane {
             key: LaneKey {
-                slot: slot,
+                slot,
                 generation: words[0],
             },
             tail: words[1],
@@ -75,12 +75,11 @@ impl Lane {
         requires { HasRow self.key.slot (length table.old) }
         ensures { table.new ≡ put_lane table.old self }
     {
+        // Word by word: `copy_from_slice` takes the record through memory, and then the words that did not change are stored too.
         let words = self.words();
         let at = Lane::HEADER_WORDS + Lane::ROW_WORDS * self.key.slot as usize;
-        let mut i = 0;
-        while i < Lane::LANE_WORDS {
+        for i in 0..Lane::LANE_WORDS {
             table[at + i] = words[i];
-            i += 1;
         }
     }
 }

@@ -4,14 +4,14 @@ ghost use Rattle.std.specs.Prelude.{◌≡◌};
 ghost use Rattle.model.specs.Answers.{number};
 
 // Names one lane of one opening: its slot, and which of that slot's lanes, one after the other.
-#[derive(Clone, Copy)]
+#[derive(Clone, Copy, PartialEq, Eq)]
 pub struct LaneKey {
     pub slot: u64,
     pub generation: u64,
 }
 
 // One opening of a channel: the channel's id, and the opening number that the host chose.
-#[derive(Clone, Copy)]
+#[derive(Clone, Copy, PartialEq, Eq)]
 pub struct OpenedChannel {
     pub id: u64,
     pub opening: u64,
@@ -19,7 +19,7 @@ pub struct OpenedChannel {
 
 // Names one lane among all openings of all channels, if the host gives no opening number of a channel
 // twice and goes on with one copy of the stores.
-#[derive(Clone, Copy)]
+#[derive(Clone, Copy, PartialEq, Eq)]
 pub struct LaneId {
     pub channel: OpenedChannel,
     pub key: LaneKey,
@@ -97,7 +97,7 @@ pub enum Refusal {
 }
 
 impl Refusal {
-    // Document 01's number of the refusal.
+    // Document 01's number of the refusal. The claims name this method, and so it is no `From`.
     #[tactic(auto, unfolding(crate::specs::Answers::number))]
     pub fn number(self) -> u64
         ensures { result ≡ number self }
@@ -122,7 +122,8 @@ impl Refusal {
     }
 }
 
-// What a call answers. The items of a batch are the first `count` words of its output; `Stopped` is a batch that stopped in front of an item.
+// What a call answers. A refusal is one of the answers, and no `Err` beside them: the rules and their theorems are about this enum.
+// The items of a batch are the first `count` words of its output; `Stopped` is a batch that stopped in front of an item.
 #[derive(Clone, Copy)]
 pub enum Answer {
     Done,

@@ -1,4 +1,6 @@
 // The header: the channel's own words, at the start of the table store.
+// The table is a lent slice in the crates of the calls, with `Shaped` and the like as clauses, and so are the ring store and an output with its place. A struct around them
+// would hold a `&mut`: each function would then promise also that the field keeps its reference, and a clause would read `self.new.words.now` for `t.new`.
 ghost use Rattle.std.specs.Prelude.{◌≡◌, ◌≤◌, length};
 ghost use Rattle.lane.specs.Table.{header_words};
 ghost use Rattle.queues.specs.Header.{channel, held_more, held_less, new_header, header_list, put_header};
@@ -92,7 +94,7 @@ impl Header {
             budget: Header::POLL_BUDGET,
             group: 0,
             alive: 1,
-            capacity: capacity,
+            capacity,
             channel: opening.channel,
             cursor: opening.cursor,
             generation: opening.generation,
@@ -161,11 +163,6 @@ impl Header {
         requires { header_words ≤ length table.old }
         ensures { table.new ≡ put_header table.old self }
     {
-        let words = self.words();
-        let mut i = 0;
-        while i < Header::WORDS {
-            table[i] = words[i];
-            i += 1;
-        }
+        table[..Header::WORDS].copy_from_slice(&self.words());
     }
 }

@@ -11,7 +11,7 @@ use lane::table;
 pub const COLUMN: usize = Lane::LANE_WORDS;
 
 // The row that is `n` past the front, round a ring of `slots`. A remainder would cost a division.
-fn row_of(front: u64, n: u64, slots: u64) -> usize
+pub fn row_of(front: u64, n: u64, slots: u64) -> usize
     requires { (front < slots) × (n ≤ slots) × (slots ≤ 8192) }
     ensures { (result ≡ (front + n) % slots) × (result < slots) }
 {
@@ -70,14 +70,13 @@ pub fn remove(t: &mut [u64], slot: u64)
     let n = t[Header::QUEUED];
     let slots = t[Header::SLOTS];
     let mut kept = 0;
-    let mut i = 0;
-    while i < n {
+    for i in 0..n {
         let x = table::cell(t, COLUMN, row_of(first, i, slots));
-        i += 1;
-        if x != slot {
-            table::set_cell(t, COLUMN, row_of(first, kept, slots), x);
-            kept += 1;
+        if x == slot {
+            continue;
         }
+        table::set_cell(t, COLUMN, row_of(first, kept, slots), x);
+        kept += 1;
     }
     t[Header::QUEUED] = kept;
 }

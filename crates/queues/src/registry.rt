@@ -35,11 +35,9 @@ pub fn reissue(t: &mut [u64], d: u64)
 {
     let last = t[Header::FREE] - 1;
     let gap = last - d;
-    let mut i = 0;
-    while i < d {
+    for i in 0..d {
         let above = table::cell(t, COLUMN, (gap + i + 1) as usize);
         table::set_cell(t, COLUMN, (gap + i) as usize, above);
-        i += 1;
     }
     t[Header::FREE] = last;
 }

@@ -1,4 +1,4 @@
--- The loop over the groups counts `left` down to 0, and so does the definition: `Round` is its invariant, that what is left to do from
+-- The definition counts the groups that are left down to 0: `Round` is the loop's invariant, that what is left to do from
 -- here gives what was to be done.
 -- Assumes nothing.
 use mathlib.Core.Path.{◌≡◌, refl, sym, ap, ◌∙◌, subst}
@@ -54,6 +54,10 @@ round_start n all t s q l e =
       most = le_refl n;
       same = ap (λ (m : ℕ). collected_from m m all t (group_cursor t)) e;
     }
+
+-- as many left, written otherwise
+pub round_left : {n : ℕ} {all : Bool} {t₀ t : List ℕ} {left left' next : ℕ} → left ≡ left' → Round n all t₀ t left next → Round n all t₀ t left' next
+round_left {n} {all} {t₀} {t} {left} {left'} {next} e k = subst (λ (x : ℕ). Round n all t₀ t x next) e k
 
 module _ {n : ℕ} {all : Bool} {t₀ t : List ℕ} {left next : ℕ} (k : Round n all t₀ t left next) where
   -- a group below n exists, and n is at most 2

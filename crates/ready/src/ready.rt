@@ -60,7 +60,7 @@ impl Page {
     pub fn new(id: usize) -> Self
         ensures { result ≡ new_page id }
     {
-        Page { id: id, bits: 0 }
+        Page { id, bits: 0 }
     }
 
     pub fn load(t: &[u64], id: usize) -> Self
@@ -68,7 +68,7 @@ impl Page {
         ensures { result ≡ read_page t.now id }
     {
         Page {
-            id: id,
+            id,
             bits: table::cell(t, Page::COLUMN, id),
         }
     }
@@ -89,7 +89,8 @@ impl Page {
     }
 }
 
-// A group: 64 pages, a bit for each (`ReadyGroup`).
+// A group: 64 pages, a bit for each (`ReadyGroup`). Pages and groups are two types, as in the Rust and as document 01 asks for; one type generic in its column
+// would have to be given the column as a bare number, as a const argument cannot be computed.
 #[derive(Clone, Copy)]
 pub struct Group {
     pub id: usize,
@@ -107,7 +108,7 @@ impl Group {
     pub fn new(id: usize) -> Self
         ensures { result ≡ new_group id }
     {
-        Group { id: id, bits: 0 }
+        Group { id, bits: 0 }
     }
 
     pub fn load(t: &[u64], id: usize) -> Self
@@ -115,7 +116,7 @@ impl Group {
         ensures { result ≡ read_group t.now id }
     {
         Group {
-            id: id,
+            id,
             bits: table::cell(t, Group::COLUMN, id),
         }
     }
@@ -180,16 +181,7 @@ fn open_group(t: &mut [u64], page: usize)
 fn wanted_lane(l: Lane) -> bool
     ensures { result ≡ wanted_lane l }
 {
-    if l.registered != 1 {
-        return false;
-    }
-    if l.pending != 1 {
-        return false;
-    }
-    if l.paused != 0 {
-        return false;
-    }
-    l.queued == 0
+    l.registered == 1 && l.pending == 1 && l.paused == 0 && l.queued == 0
 }
 
 // Whether a slot is issued and its lane to be queued.
@@ -197,10 +189,7 @@ fn wanted(t: &[u64], slot: u64) -> bool
     requires { Shaped t.now }
     ensures { result ≡ wanted t.now slot }
 {
-    if slot >= t[Header::ISSUED] {
-        return false;
-    }
-    wanted_lane(Lane::load(t, slot))
+    slot < t[Header::ISSUED] && wanted_lane(Lane::load(t, slot))
 }
 
 fn queued_lane(mut l: Lane) -> Lane
@@ -238,8 +227,8 @@ fn collect_page(t: &mut [u64], id: usize)
     let mut bits = Page::load(t, id).bits;
     Page::new(id).store(t);
     while bits != 0 {
-        let lane = u64::trailing_zeros(bits) as usize;
-        bits = bits & (bits - 1);
+        let lane = bits.trailing_zeros() as usize;
+        bits &= bits - 1;
         offer(t, (Page::LANES_PER_PAGE * id + lane) as u64);
     }
 }
@@ -252,8 +241,8 @@ fn collect_group(t: &mut [u64], id: usize)
     let mut bits = Group::load(t, id).bits;
     Group::new(id).store(t);
     while bits != 0 {
-        let page = u64::trailing_zeros(bits) as usize;
-        bits = bits & (bits - 1);
+        let page = bits.trailing_zeros() as usize;
+        bits &= bits - 1;
         collect_page(t, Group::PAGES_PER_GROUP * id + page);
     }
 }
@@ -263,7 +252,7 @@ fn group_count(issued: u64) -> u64
     requires { issued ≤ 8192 }
     ensures { result ≡ group_count issued }
 {
-    (issued + (Group::LANES_PER_GROUP - 1) as u64) / Group::LANES_PER_GROUP as u64
+    issued.div_ceil(Group::LANES_PER_GROUP as u64)
 }
 
 // The group that `next` stands at, of `n`: past the last it starts again.
@@ -280,18 +269,17 @@ pub fn collect_ready(t: &mut [u64], all: bool)
     ensures { t.new ≡ collect_ready all t.old }
 {
     let n = group_count(t[Header::ISSUED]);
-    let mut left = n;
     let mut next = t[Header::GROUP];
-    while left != 0 {
-        left = left - 1;
+    for _ in 0..n {
         let group = group_at(n, next);
         next = group + 1;
-        if Group::load(t, group as usize).bits != 0 {
-            collect_group(t, group as usize);
-            t[Header::GROUP] = next;
-            if !all {
-                return;
-            }
+        if Group::load(t, group as usize).bits == 0 {
+            continue;
+        }
+        collect_group(t, group as usize);
+        t[Header::GROUP] = next;
+        if !all {
+            return;
         }
     }
 }
@@ -301,10 +289,8 @@ fn has_ready(t: &[u64]) -> bool
     requires { Shaped t.now }
     ensures { result ≡ has_ready (group_count (issued t.now)) t.now }
 {
-    let mut left = group_count(t[Header::ISSUED]);
-    while left != 0 {
-        left = left - 1;
-        if Group::load(t, left as usize).bits != 0 {
+    for group in (0..group_count(t[Header::ISSUED])).rev() {
+        if Group::load(t, group as usize).bits != 0 {
             return true;
         }
     }

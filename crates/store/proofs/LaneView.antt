@@ -1,5 +1,6 @@
 -- What a lane's methods do to the counts that the rules see: the unreleased count and the burst, each less the window.
 -- Assumes nothing.
+use Rattle.std.specs.Prelude.{Option, Some, None, Ok, Err}
 use mathlib.Core.Path.{◌≡◌, refl, sym, ap, ◌∙◌}
 use mathlib.Core.Bool.{Bool, true, false, cond, ◌||◌}
 use mathlib.Core.List.{List, []}
@@ -14,9 +15,7 @@ use Rattle.yring.specs.declared.ring.Ring.{Ring}
 use Rattle.lane.specs.declared.lane.Lane.{Lane}
 use Rattle.lane.specs.declared.lane.Released.{Released}
 use Rattle.lane.specs.declared.lane.EmptyLane.{EmptyLane}
-use Rattle.lane.specs.declared.lane.Refill.{Refill}
 use Rattle.lane.specs.declared.lane.LanePoll.{LanePoll}
-use Rattle.lane.specs.declared.lane.Popped.{Popped}
 use Rattle.lane.specs.Lane.{held_items, close_fast, prefetch, reload, open_for, grant_fast, window_pop, pop_fast, advance, charge, add_burst, end_burst, release, release_at_batch, targeted, pop_targeted, polled, poll_item, poll_refilled, poll, ready_or_idle, refill, release_any, release_pending, emptied, settle_empty, fair_window, burst_of_window, fairly, pop_lone}
 use Rattle.lane.specs.Order.{Counts, InOrder}
 use Rattle.yring.specs.Cursor.{distance}
@@ -24,6 +23,7 @@ use Rattle.yring.specs.Ring.{item_at, items}
 use Rattle.yring.proofs.CursorLaws.{distance_self}
 use Rattle.lane.proofs.OrderLaws.{cond_holds, fair_window_keeps, found_empty}
 use Rattle.lane.proofs.HeldLaws.{reload_holds}
+use Rattle.lane.specs.declared.consumer.Taken.{Taken}
 
 abbrev pub unreleased_seen : Lane → ℕ
 unreleased_seen l = l.unreleased - l.window
@@ -87,13 +87,16 @@ window_more C l o n =
     turn b w h k = omega arith
 
 module _ (C : ℕ) (ring : Ring) (store : List ℕ) (l : Lane) (o : InOrder C l) where
-  pub pop_fast_more : (item : ℕ) (m : Lane) → pop_fast ring store l ≡ Popped.Item item m → OneMore C l m
+  pub pop_fast_more : (item : ℕ) (m : Lane) → pop_fast ring store l ≡ Some (record { item = item; lane = m }) → OneMore C l m
   unfolding pop_fast
   pop_fast_more item m e = go (eqb l.window 0) refl e
     where
-      go : (t : Bool) → eqb l.window 0 ≡ t → cond t (Popped.Nothing l) (Popped.Item (item_at ring store l.head) (window_pop l)) ≡ Popped.Item item m → OneMore C l m
+      go : (t : Bool) → eqb l.window 0 ≡ t → cond {A = Option Taken} t None (Some (record { item = item_at ring store l.head; lane = window_pop l })) ≡ Some (record { item = item; lane = m }) → OneMore C l m
       go true s f = let z : ◌≡◌ {A = ℕ} 0 1 = cc in absurd (omega arith)
-      go false s f = let same : window_pop l ≡ m = cc in rw (← same) (window_more C l o (pos_of_ne-zero (eqb-false l.window 0 s)))
+      go false s f =
+          let given : ◌≡◌ {A = Taken} (record { item = item_at ring store l.head; lane = window_pop l }) (record { item = item; lane = m }) = cc in
+          let same : window_pop l ≡ m = ap (λ (x : Taken). x.lane) given in
+          rw (← same) (window_more C l o (pos_of_ne-zero (eqb-false l.window 0 s)))
 
 -- ---- an item with full counting
 
@@ -133,14 +136,17 @@ pub record Polled (C : ℕ) (fair : Bool) (l : Lane) (rotate : Bool) (m : Lane) 
 
 module _ (ring : Ring) (store : List ℕ) (fair : Bool) where
   poll_item_counts : (l : Lane) → l.window ≡ 0 → l.burst ≤ 63 → (item : ℕ) (rotate gave : Bool) (m : Lane)
-      → poll_item ring store fair l ≡ LanePoll.Item item rotate gave m
+      → poll_item ring store fair l ≡ Ok (record { item = item; rotate = rotate; released = gave; lane = m })
       → (rotate ≡ either fair (leb 63 l.burst)) × (m.unreleased ≡ unreleased_after ring.capacity l.unreleased) × (m.burst ≡ if rotate 0 (l.burst + 1)) × (m.window ≡ 0)
   unfolding poll_item polled
   poll_item_counts l w h item rotate gave m e =
       let k : Lane = (pop_targeted ring store l).lane in
       let c = pop_targeted_counts ring store l w in
-      let over : (fair || eqb (k.burst + 1) 64) ≡ rotate = cc in
-      let rest : end_burst (fair || eqb (k.burst + 1) 64) (add_burst 1 k) ≡ m = cc in
+      let given : ◌≡◌ {A = LanePoll}
+      (record { item = (pop_targeted ring store l).item; rotate = fair || eqb (k.burst + 1) 64; released = (pop_targeted ring store l).released; lane = end_burst (fair || eqb (k.burst + 1) 64) (add_burst 1 k) })
+      (record { item = item; rotate = rotate; released = gave; lane = m }) = cc in
+      let over : (fair || eqb (k.burst + 1) 64) ≡ rotate = ap (λ (p : LanePoll). p.rotate) given in
+      let rest : end_burst (fair || eqb (k.burst + 1) 64) (add_burst 1 k) ≡ m = ap (λ (p : LanePoll). p.lane) given in
       let same : end_burst rotate (add_burst 1 k) ≡ m = sym (ap (λ (b : Bool). end_burst b (add_burst 1 k)) over) ∙ rest in
       let now = ended rotate k in (
         sym over ∙ ap (λ (n : ℕ). fair || eqb (n + 1) 64) c.1 ∙ turn_ends fair l.burst h,
@@ -154,7 +160,7 @@ module _ (ring : Ring) (store : List ℕ) (fair : Bool) where
       ended false k = (refl, refl, refl)
 
   -- a lane in order that gives an item
-  pub poll_counts : (l : Lane) → InOrder ring.capacity l → (item : ℕ) (rotate gave : Bool) (m : Lane) → poll ring store fair l ≡ LanePoll.Item item rotate gave m
+  pub poll_counts : (l : Lane) → InOrder ring.capacity l → (item : ℕ) (rotate gave : Bool) (m : Lane) → poll ring store fair l ≡ Ok (record { item = item; rotate = rotate; released = gave; lane = m })
       → Polled ring.capacity fair l rotate m
   unfolding poll poll_refilled refill ready_or_idle
   poll_counts l o item rotate gave m e = go (eqb (looked l).cached 0) e
@@ -162,7 +168,7 @@ module _ (ring : Ring) (store : List ℕ) (fair : Bool) where
       most : {B t m c u b w : ℕ} → Counts B t m c u b w → b - w ≤ 63
       most k = omega arith
 
-      go : (t : Bool) → poll_refilled ring store fair (cond t (Refill.Idle (settle_empty (looked l))) (Refill.Ready (looked l))) ≡ LanePoll.Item item rotate gave m
+      go : (t : Bool) → poll_refilled ring store fair (cond t (Err (settle_empty (looked l))) (Ok (looked l))) ≡ Ok (record { item = item; rotate = rotate; released = gave; lane = m })
           → Polled ring.capacity fair l rotate m
       go true f = let z : ◌≡◌ {A = ℕ} 0 1 = cc in absurd (omega arith)
       go false f =
@@ -237,11 +243,11 @@ module _ (ring : Ring) (small : ring.capacity ≤ 65536) (store : List ℕ) (l :
         dropped = c.6 ∙ ap (λ (n : ℕ). eqb n 0) (looked_living l);
       }
 
-  pub poll_idle : (fair : Bool) (found : EmptyLane) → poll ring store fair l ≡ LanePoll.Idle found → FoundIdle ring store l found
+  pub poll_idle : (fair : Bool) (found : EmptyLane) → poll ring store fair l ≡ Err found → FoundIdle ring store l found
   unfolding poll poll_refilled refill ready_or_idle poll_item polled
   poll_idle fair found e = go (eqb (looked l).cached 0) refl e
     where
-      go : (t : Bool) → eqb (looked l).cached 0 ≡ t → poll_refilled ring store fair (cond t (Refill.Idle (settle_empty (looked l))) (Refill.Ready (looked l))) ≡ LanePoll.Idle found
+      go : (t : Bool) → eqb (looked l).cached 0 ≡ t → poll_refilled ring store fair (cond t (Err (settle_empty (looked l))) (Ok (looked l))) ≡ Err found
           → FoundIdle ring store l found
       go true s f = let same : settle_empty (looked l) ≡ found = cc in rw (← same) (settled_idle (eqb-true (looked l).cached 0 s))
       go false s f = let z : ◌≡◌ {A = ℕ} 0 1 = cc in absurd (omega arith)
@@ -255,7 +261,7 @@ module _ (ring : Ring) (small : ring.capacity ≤ 65536) (store : List ℕ) (bud
       cond_holds (λ m. unreleased_seen m ≡ unreleased_seen l) (eqb l.window 0) (grant_fast ring.capacity budget (end_burst true l)) l
       (λ e. (grant_seen ring.capacity budget (end_burst true l)).0) (λ e. refl)
 
-  pub pop_fair_more : (item : ℕ) (m : Lane) → pop_lone ring store budget l ≡ Popped.Item item m
+  pub pop_fair_more : (item : ℕ) (m : Lane) → pop_lone ring store budget l ≡ Some (record { item = item; lane = m })
       → (unreleased_seen m ≡ unreleased_seen l + 1) × (burst_seen m ≡ 0) × (unreleased_seen l + 1 < release_batch ring.capacity)
   unfolding pop_lone fairly
   pop_fair_more item m e = go (pop_fast ring store (fair_window ring.capacity budget l)) refl e
@@ -263,13 +269,14 @@ module _ (ring : Ring) (small : ring.capacity ≤ 65536) (store : List ℕ) (bud
       none : (w : ℕ) → w - w ≡ 0
       none w = omega arith
 
-      go : (p : Popped) → pop_fast ring store (fair_window ring.capacity budget l) ≡ p → fairly p ≡ Popped.Item item m
+      go : (p : Option Taken) → pop_fast ring store (fair_window ring.capacity budget l) ≡ p → fairly p ≡ Some (record { item = item; lane = m })
           → (unreleased_seen m ≡ unreleased_seen l + 1) × (burst_seen m ≡ 0) × (unreleased_seen l + 1 < release_batch ring.capacity)
-      go (Popped.Item v k) s f =
-          let same : burst_of_window k ≡ m = cc in
-          let more = pop_fast_more ring.capacity ring store (fair_window ring.capacity budget l) (fair_window_keeps ring small store l o budget) v k s in (
+      go (Some taken) s f =
+          let given : ◌≡◌ {A = Taken} (record { item = taken.item; lane = burst_of_window taken.lane }) (record { item = item; lane = m }) = cc in
+          let same : burst_of_window taken.lane ≡ m = ap (λ (x : Taken). x.lane) given in
+          let more = pop_fast_more ring.capacity ring store (fair_window ring.capacity budget l) (fair_window_keeps ring small store l o budget) taken.item taken.lane s in (
             ap (λ (j : Lane). unreleased_seen j) (sym same) ∙ more.unreleased_more ∙ ap (λ (n : ℕ). n + 1) fair_window_seen,
-            ap (λ (j : Lane). burst_seen j) (sym same) ∙ none k.window,
+            ap (λ (j : Lane). burst_seen j) (sym same) ∙ none taken.lane.window,
             rw (← fair_window_seen) more.below_batch,
           )
-      go (Popped.Nothing k) s f = let z : ◌≡◌ {A = ℕ} 0 1 = cc in absurd (omega arith)
+      go None s f = let z : ◌≡◌ {A = ℕ} 0 1 = cc in absurd (omega arith)

@@ -19,8 +19,8 @@ use Rattle.model.specs.Outcome.{Outcome, unless}
 use Rattle.demands.proofs.LaneIds.{channel_path}
 use Rattle.lane.specs.Table.{lane_at}
 use Rattle.queues.specs.Header.{issued, alive, channel_id, opening_number, channel}
-use Rattle.store.specs.declared.refusal.Verdict.{Verdict}
-use Rattle.store.specs.declared.refusal.Verdict.TheVariants.{Pass, Refuse}
+use Rattle.store.specs.Refusal.{Verdict}
+use Rattle.std.specs.Prelude.{Ok, Err}
 use Rattle.store.specs.View.{flag, slot_at, view}
 use Rattle.store.specs.Refusal.{sender_verdict, closed_verdict, receiver_verdict, lane_verdict, and_then, send_verdict, id_verdict}
 use Rattle.store.specs.Words.{Words, unless_refused}
@@ -31,15 +31,15 @@ seen w = (w.0, view w.1 w.2)
 
 -- the rules' tests as a verdict: "The first that applies is given."
 unfoldable pub first_of : List (Bool × Refusal) → Verdict
-first_of [] = Pass
-first_of (c ∷ cs) = if c.0 (Refuse c.1) (first_of cs)
+first_of [] = Ok (tt {0})
+first_of (c ∷ cs) = if c.0 (Err c.1) (first_of cs)
 
 pub first_of_append : (a b : List (Bool × Refusal)) → first_of (a ++ b) ≡ and_then (first_of a) (first_of b)
 unfolding first_of and_then
 first_of_append [] b = refl
 first_of_append (c ∷ a) b = go c.0 (first_of_append a b)
   where
-    go : (x : Bool) → first_of (a ++ b) ≡ and_then (first_of a) (first_of b) → if x (Refuse c.1) (first_of (a ++ b)) ≡ and_then (if x (Refuse c.1) (first_of a)) (first_of b)
+    go : (x : Bool) → first_of (a ++ b) ≡ and_then (first_of a) (first_of b) → if x (Err c.1) (first_of (a ++ b)) ≡ and_then (if x (Err c.1) (first_of a)) (first_of b)
     go true e = refl
     go false e = e
 
@@ -56,37 +56,37 @@ unless_append (c ∷ a) b s o = go c.0 (unless_append a b s o)
 -- ---- a call after its refusals
 
 -- what holds of the words before, with the refusal as the answer, and of the words after where none applies, holds of the call's words
-pub unless_refused_case : (P : Words → Type 0) (v : Verdict) (t r : List ℕ) (w : Words) → ((why : Refusal) → v ≡ Refuse why → P (Refused why, t, r))
-    → (v ≡ Pass → P w) → P (unless_refused v t r w)
+pub unless_refused_case : (P : Words → Type 0) (v : Verdict) (t r : List ℕ) (w : Words) → ((why : Refusal) → v ≡ Err why → P (Refused why, t, r))
+    → (v ≡ Ok (tt {0}) → P w) → P (unless_refused v t r w)
 unfolding unless_refused
-unless_refused_case P Pass t r w f g = g refl
-unless_refused_case P (Refuse why) t r w f g = f why refl
+unless_refused_case P (Ok u) t r w f g = g refl
+unless_refused_case P (Err why) t r w f g = f why refl
 
 -- the rules refuse as the verdict says
-pub unless_by_verdict : (cs : List (Bool × Refusal)) (s : State) (o : Outcome) (why : Refusal) → first_of cs ≡ Refuse why → (unless cs s o).1 ≡ (Refused why, s)
+pub unless_by_verdict : (cs : List (Bool × Refusal)) (s : State) (o : Outcome) (why : Refusal) → first_of cs ≡ Err why → (unless cs s o).1 ≡ (Refused why, s)
 unfolding unless first_of
 unless_by_verdict [] s o why e = let z : ◌≡◌ {A = ℕ} 0 1 = cc in absurd (omega arith)
 unless_by_verdict (c ∷ cs) s o why e = go c.0 (unless_by_verdict cs s o why) e
   where
-    go : (x : Bool) → (first_of cs ≡ Refuse why → (unless cs s o).1 ≡ (Refused why, s)) → if x (Refuse c.1) (first_of cs) ≡ Refuse why
+    go : (x : Bool) → (first_of cs ≡ Err why → (unless cs s o).1 ≡ (Refused why, s)) → if x (Err c.1) (first_of cs) ≡ Err why
         → (if x ([], (Refused c.1, s)) (unless cs s o)).1 ≡ (Refused why, s)
     go true h e = let same : c.1 ≡ why = cc in ap (λ (y : Refusal). (Refused y, s)) same
     go false h e = h e
 
 -- and let through what it lets through
-pub unless_passed : (cs : List (Bool × Refusal)) (s : State) (o : Outcome) → first_of cs ≡ Pass → unless cs s o ≡ o
+pub unless_passed : (cs : List (Bool × Refusal)) (s : State) (o : Outcome) → first_of cs ≡ Ok (tt {0}) → unless cs s o ≡ o
 unfolding unless first_of
 unless_passed [] s o e = refl
 unless_passed (c ∷ cs) s o e = go c.0 (unless_passed cs s o) e
   where
-    go : (x : Bool) → (first_of cs ≡ Pass → unless cs s o ≡ o) → if x (Refuse c.1) (first_of cs) ≡ Pass
+    go : (x : Bool) → (first_of cs ≡ Ok (tt {0}) → unless cs s o ≡ o) → if x (Err c.1) (first_of cs) ≡ Ok (tt {0})
         → if x ([], (Refused c.1, s)) (unless cs s o) ≡ o
     go true h e = let z : ◌≡◌ {A = ℕ} 0 1 = cc in absurd (omega arith)
     go false h e = h e
 
 -- the call's law: with a verdict that is the rules' tests, what is left is the law of the call that is not refused
 pub refused_alike : (v : Verdict) (cs : List (Bool × Refusal)) (t r : List ℕ) (w : Words) (o : Outcome) → v ≡ first_of cs
-    → (v ≡ Pass → seen w ≡ o.1) → seen (unless_refused v t r w) ≡ (unless cs (view t r) o).1
+    → (v ≡ Ok (tt {0}) → seen w ≡ o.1) → seen (unless_refused v t r w) ≡ (unless cs (view t r) o).1
 refused_alike v cs t r w o e f =
     unless_refused_case (λ u. seen u ≡ (unless cs (view t r) o).1) v t r w
     (λ why h. sym (unless_by_verdict cs (view t r) o why (sym e ∙ h)))
@@ -99,7 +99,7 @@ module _ (t r : List ℕ) where
   unfolding receiver_verdict first_of view
   receiver_verdict_lem = go (flag (alive t))
     where
-      go : (a : Bool) → cond a Pass (Refuse ReceiverClosed) ≡ if (not a) (Refuse ReceiverClosed) Pass
+      go : (a : Bool) → cond a (Ok (tt {0})) (Err ReceiverClosed) ≡ if (not a) (Err ReceiverClosed) (Ok (tt {0}))
       go true = refl
       go false = refl
 
@@ -108,7 +108,7 @@ module _ (t r : List ℕ) where
     unfolding sender_verdict sender_lives first_of view slot_at vacant
     sender_verdict_lem = go (ltb k.slot (issued t)) refl
       where
-        both_alike : (a b : Bool) → cond a (cond b Pass (Refuse NoSuchSender)) (Refuse NoSuchSender) ≡ if (not (both a b)) (Refuse NoSuchSender) Pass
+        both_alike : (a b : Bool) → cond a (cond b (Ok (tt {0})) (Err NoSuchSender)) (Err NoSuchSender) ≡ if (not (both a b)) (Err NoSuchSender) (Ok (tt {0}))
         both_alike true true = refl
         both_alike true false = refl
         both_alike false b = refl
@@ -123,13 +123,13 @@ module _ (t r : List ℕ) where
     unfolding closed_verdict first_of view slot_at
     closed_verdict_lem e = rw e (go (flag (alive t)) (flag (lane_at t k.slot).registered))
       where
-        go : (a b : Bool) → cond a (cond b Pass (Refuse LaneClosed)) (Refuse LaneClosed) ≡ if (not (both a b)) (Refuse LaneClosed) Pass
+        go : (a b : Bool) → cond a (cond b (Ok (tt {0})) (Err LaneClosed)) (Err LaneClosed) ≡ if (not (both a b)) (Err LaneClosed) (Ok (tt {0}))
         go true true = refl
         go true false = refl
         go false b = refl
 
     -- of a slot that is not
-    unissued_refused : ltb k.slot (issued t) ≡ false → sender_verdict t k ≡ Refuse NoSuchSender
+    unissued_refused : ltb k.slot (issued t) ≡ false → sender_verdict t k ≡ Err NoSuchSender
     unfolding sender_verdict
     unissued_refused e = rw e
 
@@ -148,7 +148,7 @@ module _ (t r : List ℕ) where
             → and_then (sender_verdict t k) (closed_verdict t (lane_at t k.slot)) ≡ and_then (first_of (living ∷ [])) (first_of (open_lane ∷ []))
         go true e = rw (sender_verdict_lem, closed_verdict_lem e)
         go false e =
-            let z : first_of (living ∷ []) ≡ Refuse NoSuchSender = sym sender_verdict_lem ∙ unissued_refused e in
+            let z : first_of (living ∷ []) ≡ Err NoSuchSender = sym sender_verdict_lem ∙ unissued_refused e in
             rw (unissued_refused e, z)
 
   module _ (i : LaneId) where
@@ -156,15 +156,15 @@ module _ (t r : List ℕ) where
     unfolding lane_verdict has_lane_id has_lane first_of view slot_at vacant
     lane_verdict_lem = go (ltb i.key.slot (issued t)) refl
       where
-        four : (a b c d : Bool) → cond a (cond b (cond c (cond d Pass (Refuse NoSuchLane)) (Refuse NoSuchLane)) (Refuse NoSuchLane)) (Refuse NoSuchLane)
-            ≡ if (not (both (both a b) (both c d))) (Refuse NoSuchLane) Pass
+        four : (a b c d : Bool) → cond a (cond b (cond c (cond d (Ok (tt {0})) (Err NoSuchLane)) (Err NoSuchLane)) (Err NoSuchLane)) (Err NoSuchLane)
+            ≡ if (not (both (both a b) (both c d))) (Err NoSuchLane) (Ok (tt {0}))
         four true true true true = refl
         four true true true false = refl
         four true true false d = refl
         four true false c d = refl
         four false b c d = refl
 
-        none : (a b : Bool) → cond a (cond b (Refuse NoSuchLane) (Refuse NoSuchLane)) (Refuse NoSuchLane) ≡ if (not (both (both a b) false)) (Refuse NoSuchLane) Pass
+        none : (a b : Bool) → cond a (cond b (Err NoSuchLane) (Err NoSuchLane)) (Err NoSuchLane) ≡ if (not (both (both a b) false)) (Err NoSuchLane) (Ok (tt {0}))
         none true true = refl
         none true false = refl
         none false b = refl
@@ -198,35 +198,35 @@ pub record Knows (t : List ℕ) (i : LaneId) : Type 0 where
   pub registered : (lane_at t i.key.slot).registered ≡ 1
   pub generation : (lane_at t i.key.slot).key.generation ≡ i.key.generation
 
-pub passes : (b : Bool) (why : Refusal) (v : Verdict) → cond b v (Refuse why) ≡ Pass → (b ≡ true) × (v ≡ Pass)
+pub passes : (b : Bool) (why : Refusal) (v : Verdict) → cond b v (Err why) ≡ Ok (tt {0}) → (b ≡ true) × (v ≡ Ok (tt {0}))
 passes true why v e = (refl, e)
 passes false why v e = let z : ◌≡◌ {A = ℕ} 0 1 = cc in absurd (omega arith)
 
-pub and_then_passes : (v w : Verdict) → and_then v w ≡ Pass → (v ≡ Pass) × (w ≡ Pass)
+pub and_then_passes : (v w : Verdict) → and_then v w ≡ Ok (tt {0}) → (v ≡ Ok (tt {0})) × (w ≡ Ok (tt {0}))
 unfolding and_then
-and_then_passes Pass w e = (refl, e)
-and_then_passes (Refuse why) w e = let z : ◌≡◌ {A = ℕ} 0 1 = cc in absurd (omega arith)
+and_then_passes (Ok u) w e = (refl, e)
+and_then_passes (Err why) w e = let z : ◌≡◌ {A = ℕ} 0 1 = cc in absurd (omega arith)
 
-pub sender_passes : (t : List ℕ) (k : LaneKey) → sender_verdict t k ≡ Pass → Lives t k
+pub sender_passes : (t : List ℕ) (k : LaneKey) → sender_verdict t k ≡ Ok (tt {0}) → Lives t k
 unfolding sender_verdict
 sender_passes t k e =
     let a = passes (ltb k.slot (issued t)) NoSuchSender _ e in
     let b = passes (eqb (lane_at t k.slot).living 1) NoSuchSender _ a.1 in
-    let c = passes (eqb (lane_at t k.slot).key.generation k.generation) NoSuchSender Pass b.1 in
+    let c = passes (eqb (lane_at t k.slot).key.generation k.generation) NoSuchSender (Ok (tt {0})) b.1 in
     record { is_issued = ltb-true _ _ a.0; living = eqb-true _ _ b.0; generation = eqb-true _ _ c.0 }
 
-pub receiver_passes : (t : List ℕ) → receiver_verdict t ≡ Pass → alive t ≡ 1
+pub receiver_passes : (t : List ℕ) → receiver_verdict t ≡ Ok (tt {0}) → alive t ≡ 1
 unfolding receiver_verdict
-receiver_passes t e = eqb-true _ _ (passes (eqb (alive t) 1) ReceiverClosed Pass e).0
+receiver_passes t e = eqb-true _ _ (passes (eqb (alive t) 1) ReceiverClosed (Ok (tt {0})) e).0
 
-pub lane_passes : (t : List ℕ) (i : LaneId) → lane_verdict t i ≡ Pass → Knows t i
+pub lane_passes : (t : List ℕ) (i : LaneId) → lane_verdict t i ≡ Ok (tt {0}) → Knows t i
 unfolding lane_verdict
 lane_passes t i e =
     let a = passes (eqb i.channel.id (channel_id t)) NoSuchLane _ e in
     let n = passes (eqb i.channel.opening (opening_number t)) NoSuchLane _ a.1 in
     let b = passes (ltb i.key.slot (issued t)) NoSuchLane _ n.1 in
     let c = passes (eqb (lane_at t i.key.slot).registered 1) NoSuchLane _ b.1 in
-    let d = passes (eqb (lane_at t i.key.slot).key.generation i.key.generation) NoSuchLane Pass c.1 in
+    let d = passes (eqb (lane_at t i.key.slot).key.generation i.key.generation) NoSuchLane (Ok (tt {0})) c.1 in
     record { channel = channel_path _ _ (eqb-true _ _ a.0) (eqb-true _ _ n.0); is_issued = ltb-true _ _ b.0; registered = eqb-true _ _ c.0; generation = eqb-true _ _ d.0 }
 
 -- of a send
@@ -235,16 +235,16 @@ pub record Sends (t : List ℕ) (k : LaneKey) : Type 0 where
   pub alive_one : alive t ≡ 1
   pub registered : (lane_at t k.slot).registered ≡ 1
 
-pub send_passes : (t : List ℕ) (k : LaneKey) → send_verdict t k ≡ Pass → Sends t k
+pub send_passes : (t : List ℕ) (k : LaneKey) → send_verdict t k ≡ Ok (tt {0}) → Sends t k
 unfolding send_verdict closed_verdict
 send_passes t k e =
     let a = and_then_passes (sender_verdict t k) (closed_verdict t (lane_at t k.slot)) e in
     let b = passes (eqb (alive t) 1) LaneClosed _ a.1 in
-    let c = passes (eqb (lane_at t k.slot).registered 1) LaneClosed Pass b.1 in
+    let c = passes (eqb (lane_at t k.slot).registered 1) LaneClosed (Ok (tt {0})) b.1 in
     record { lives = sender_passes t k a.0; alive_one = eqb-true _ _ b.0; registered = eqb-true _ _ c.0 }
 
 -- of a call by lane id
-pub id_passes : (t : List ℕ) (i : LaneId) → id_verdict t i ≡ Pass → (alive t ≡ 1) × Knows t i
+pub id_passes : (t : List ℕ) (i : LaneId) → id_verdict t i ≡ Ok (tt {0}) → (alive t ≡ 1) × Knows t i
 unfolding id_verdict
 id_passes t i e =
     let a = and_then_passes (receiver_verdict t) (lane_verdict t i) e in

@@ -171,7 +171,7 @@ module _ (t r : List ℕ) (s : Shaped t) (x : ℕ) (h : x < issued t) (w : Withi
 
   module _ (v : ℕ) (o : InOrder (capacity t) (lane_at t x)) (f : distance (lane_at t x).tail (lane_at t x).released ≢ capacity t) where
     abbrev after : Lane
-    after = sent_lane (push_and_flush_item (new_ring x (capacity t)) r v (lane_at t x)).0
+    after = sent_lane (lane_at t x) (push_and_flush_item (new_ring x (capacity t)) r v (lane_at t x)).0
 
     -- the lane m stored has the key of the lane before and the ends of the lane after the push
     pub view_sent : (m : Lane) → m.key.slot ≡ x → NarrowLane m → m.head ≡ after.head → m.tail ≡ after.tail

@@ -1,31 +1,34 @@
 -- The first refusal that applies to a call, by the words of the store.
 -- Assumes nothing.
-use Rattle.std.specs.Prelude.{cond, List, ℕ, eqb, ltb}
+use Rattle.std.specs.Prelude.{cond, List, ℕ, eqb, ltb, Result, Ok, Err}
 use Rattle.model.specs.declared.LaneKey.{LaneKey}
 use Rattle.model.specs.declared.LaneId.{LaneId}
 use Rattle.model.specs.declared.Refusal.TheVariants.{ReceiverClosed, NoSuchSender, LaneClosed, NoSuchLane}
 use Rattle.lane.specs.declared.lane.Lane.{Lane}
 use Rattle.lane.specs.Table.{lane_at}
 use Rattle.queues.specs.Header.{issued, alive, channel_id, opening_number}
-use Rattle.store.specs.declared.refusal.Verdict.{Verdict}
-use Rattle.store.specs.declared.refusal.Verdict.TheVariants.{Pass, Refuse}
+use Rattle.model.specs.declared.Refusal.{Refusal}
+
+-- a test of a call: it passes, or a refusal applies
+abbrev pub Verdict : Type 0
+Verdict = Result (Unit {0}) Refusal
 
 -- "no living sender has this key"
 unfoldable pub sender_verdict : List ℕ → LaneKey → Verdict
 sender_verdict t k =
     cond (ltb k.slot (issued t))
     (cond (eqb (lane_at t k.slot).living 1)
-    (cond (eqb (lane_at t k.slot).key.generation k.generation) Pass (Refuse NoSuchSender))
-    (Refuse NoSuchSender))
-    (Refuse NoSuchSender)
+    (cond (eqb (lane_at t k.slot).key.generation k.generation) (Ok tt) (Err NoSuchSender))
+    (Err NoSuchSender))
+    (Err NoSuchSender)
 
 -- "lane closed, or the receiver"
 unfoldable pub closed_verdict : List ℕ → Lane → Verdict
-closed_verdict t l = cond (eqb (alive t) 1) (cond (eqb l.registered 1) Pass (Refuse LaneClosed)) (Refuse LaneClosed)
+closed_verdict t l = cond (eqb (alive t) 1) (cond (eqb l.registered 1) (Ok tt) (Err LaneClosed)) (Err LaneClosed)
 
 -- "receiver closed"
 unfoldable pub receiver_verdict : List ℕ → Verdict
-receiver_verdict t = cond (eqb (alive t) 1) Pass (Refuse ReceiverClosed)
+receiver_verdict t = cond (eqb (alive t) 1) (Ok tt) (Err ReceiverClosed)
 
 -- "no lane with this id": "channel, opening number, slot and generation all agree"
 unfoldable pub lane_verdict : List ℕ → LaneId → Verdict
@@ -34,16 +37,16 @@ lane_verdict t i =
     (cond (eqb i.channel.opening (opening_number t))
     (cond (ltb i.key.slot (issued t))
     (cond (eqb (lane_at t i.key.slot).registered 1)
-    (cond (eqb (lane_at t i.key.slot).key.generation i.key.generation) Pass (Refuse NoSuchLane))
-    (Refuse NoSuchLane))
-    (Refuse NoSuchLane))
-    (Refuse NoSuchLane))
-    (Refuse NoSuchLane)
+    (cond (eqb (lane_at t i.key.slot).key.generation i.key.generation) (Ok tt) (Err NoSuchLane))
+    (Err NoSuchLane))
+    (Err NoSuchLane))
+    (Err NoSuchLane))
+    (Err NoSuchLane)
 
 -- a second test, made where the first passes
 unfoldable pub and_then : Verdict → Verdict → Verdict
-and_then Pass w = w
-and_then (Refuse why) w = Refuse why
+and_then (Ok u) w = w
+and_then (Err why) w = Err why
 
 -- refusals 10 and 12
 unfoldable pub send_verdict : List ℕ → LaneKey → Verdict

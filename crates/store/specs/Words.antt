@@ -3,8 +3,8 @@
 use Rattle.std.specs.Prelude.{List, ℕ}
 use Rattle.model.specs.declared.Answer.{Answer}
 use Rattle.model.specs.declared.Answer.TheVariants.{Refused}
-use Rattle.store.specs.declared.refusal.Verdict.{Verdict}
-use Rattle.store.specs.declared.refusal.Verdict.TheVariants.{Pass, Refuse}
+use Rattle.store.specs.Refusal.{Verdict}
+use Rattle.std.specs.Prelude.{Ok, Err}
 
 -- the answer, the table store and the ring store
 abbrev pub Words : Type 0
@@ -12,8 +12,8 @@ Words = Answer × List ℕ × List ℕ
 
 -- "a refusal leaves state, both stores and the output unchanged"
 unfoldable pub unless_refused : Verdict → List ℕ → List ℕ → Words → Words
-unless_refused Pass t r w = w
-unless_refused (Refuse why) t r w = (Refused why, t, r)
+unless_refused (Ok u) t r w = w
+unless_refused (Err why) t r w = (Refused why, t, r)
 
 -- an answer with the ring store beside it, which the call does not change
 abbrev pub with_rings : List ℕ → Answer × List ℕ → Words

@@ -20,7 +20,7 @@ fn free_unless_last(t: &mut [u64], l: Lane)
     requires { Shaped t.old × (free_count t.old < slots t.old) }
     ensures { t.new ≡ free_unless_last t.old l }
 {
-    if l.key.generation == 18446744073709551615 {
+    if l.key.generation == u64::MAX {
         return;
     }
     registry::free(t, l.key.slot);

@@ -1,5 +1,6 @@
 -- How far the ends of a ring are apart after each call of a lane: why the program's loops end, and how they leave the ring.
 -- Assumes nothing.
+use Rattle.std.specs.Prelude.{Option, Some, None, Result, Ok, Err}
 use mathlib.Core.Path.{◌≡◌, refl, ◌∙◌, ap, sym}
 use mathlib.Core.Bool.{Bool, true, false, cond}
 use mathlib.Core.List.{List}
@@ -14,12 +15,9 @@ use Rattle.yring.specs.Ring.{index, free_after, push_item}
 use Rattle.lane.specs.Lane.{push_and_flush_item, sent, poll, poll_refilled, poll_item, polled, pop_targeted, targeted, refill, ready_or_idle, reload, prefetch, close_fast, settle_empty, emptied, settled, release_pending, release_any, release, release_at_batch, charge, advance, add_burst, end_burst, end_full_burst, chunk_limit, move_chunk}
 use Rattle.lane.specs.Order.{Counts, InOrder, Filled, sent_lane, polled_lane, refilled_lane}
 use Rattle.yring.specs.declared.ring.Ring.{Ring}
-use Rattle.yring.specs.declared.ring.Push.TheVariants.{Pushed, Full}
 use Rattle.lane.specs.declared.lane.Lane.{Lane}
 use Rattle.lane.specs.declared.lane.Released.{Released}
 use Rattle.lane.specs.declared.lane.EmptyLane.{EmptyLane}
-use Rattle.lane.specs.declared.lane.Refill.{Refill}
-use Rattle.lane.specs.declared.lane.LanePoll.{LanePoll}
 use Rattle.lane.specs.declared.producer.Sent.{Sent}
 use Rattle.yring.proofs.CursorLaws.{behind_after, ahead_after}
 use Rattle.lane.proofs.CursorOrder.{held_adds}
@@ -46,38 +44,38 @@ either P false x y f g = g
 
 module _ (ring : Ring) (small : ring.capacity ≤ 65536) (store : List ℕ) (item : ℕ) (l : Lane) (o : InOrder ring.capacity l) (m : Lane) (after_store : List ℕ) where
   -- a send keeps the lane in order
-  sent_keeps : (s : Sent) → (s, after_store) ≡ push_and_flush_item ring store item l → InOrder ring.capacity (sent_lane s)
-  sent_keeps s e = rw (ap (λ (p : Sent × List ℕ). p.0) e) (push_and_flush_keeps ring small store item l o)
+  sent_keeps : (s : Option Sent) → (s, after_store) ≡ push_and_flush_item ring store item l → InOrder ring.capacity (sent_lane l s)
+  sent_keeps s e = rw (ap (λ (p : Option Sent × List ℕ). p.0) e) (push_and_flush_keeps ring small store item l o)
 
   -- after a refused send the ring is full
-  pub refused : (Sent.Full m, after_store) ≡ push_and_flush_item ring store item l → InOrder ring.capacity m × (distance m.tail m.released ≡ ring.capacity)
+  pub refused : (None, after_store) ≡ push_and_flush_item ring store item l → distance l.tail l.released ≡ ring.capacity
   unfolding push_and_flush_item sent push_item
-  refused e = (sent_keeps (Sent.Full m) e, go (eqb (distance l.tail l.released) ring.capacity) refl e)
+  refused e = go (eqb (distance l.tail l.released) ring.capacity) refl e
     where
       go : (t : Bool) → eqb (distance l.tail l.released) ring.capacity ≡ t
-          → (Sent.Full m, after_store) ≡ sent l (cond t (Full, store) (Pushed (after l.tail 1) (free_after ring l.tail l.released), set store (index ring l.tail) item))
-          → distance m.tail m.released ≡ ring.capacity
-      go true s f = rw (ap (λ (p : Sent × List ℕ). sent_lane p.0) f) (eqb-true (distance l.tail l.released) ring.capacity s)
+          → (None, after_store) ≡ sent l (cond t (None, store) (Some (record { cursor = after l.tail 1; free = free_after ring l.tail l.released }), set store (index ring l.tail) item))
+          → distance l.tail l.released ≡ ring.capacity
+      go true s f = eqb-true (distance l.tail l.released) ring.capacity s
       go false s f =
-          let g = ap (λ (p : Sent × List ℕ). p.0) f in
+          let g = ap (λ (p : Option Sent × List ℕ). p.0) f in
           let z : ◌≡◌ {A = ℕ} 0 1 = cc in absurd (omega arith)
 
   -- a send that is taken leaves less room
-  pub taken : {free : ℕ} → (Sent.Taken m free, after_store) ≡ push_and_flush_item ring store item l → InOrder ring.capacity m × (room ring.capacity m < room ring.capacity l)
+  pub taken : {free : ℕ} → (Some (record { lane = m; free = free }), after_store) ≡ push_and_flush_item ring store item l → InOrder ring.capacity m × (room ring.capacity m < room ring.capacity l)
   unfolding push_and_flush_item sent push_item
-  taken {free} e = (sent_keeps (Sent.Taken m free) e, go (eqb (distance l.tail l.released) ring.capacity) refl e)
+  taken {free} e = (sent_keeps (Some (record { lane = m; free = free })) e, go (eqb (distance l.tail l.released) ring.capacity) refl e)
     where
       less : (C a b : ℕ) → C ≤ 65536 → a ≤ C → (a ≡ C → ⊥) → b ≡ a + 1 → C - b < C - a
       less C a b h k n f = omega arith
 
       go : (t : Bool) → eqb (distance l.tail l.released) ring.capacity ≡ t
-          → (Sent.Taken m free, after_store) ≡ sent l (cond t (Full, store) (Pushed (after l.tail 1) (free_after ring l.tail l.released), set store (index ring l.tail) item))
+          → (Some (record { lane = m; free = free }), after_store) ≡ sent l (cond t (None, store) (Some (record { cursor = after l.tail 1; free = free_after ring l.tail l.released }), set store (index ring l.tail) item))
           → room ring.capacity m < room ring.capacity l
       go true s f =
-          let g = ap (λ (p : Sent × List ℕ). p.0) f in
+          let g = ap (λ (p : Option Sent × List ℕ). p.0) f in
           let z : ◌≡◌ {A = ℕ} 0 1 = cc in absurd (omega arith)
       go false s f =
-          let g = ap (λ (p : Sent × List ℕ). sent_lane p.0) f in
+          let g = ap (λ (p : Option Sent × List ℕ). sent_lane l p.0) f in
           rw g
           (less ring.capacity (distance l.tail l.released) _ small o.cursors.tail_within (eqb-false (distance l.tail l.released) ring.capacity s)
           (behind_after l.tail l.released 1 o.cursors.tail_u64 o.cursors.released_u64 (short o.cursors.tail_within)))
@@ -108,19 +106,19 @@ found_nothing l e = go (eqb l.cached 0) refl e
 
 module _ (C : ℕ) (small : C ≤ 65536) (l : Lane) (o : InOrder C l) where
   -- a lane found ready has the same ends
-  pub ready_still : (m : Lane) → refill l ≡ Refill.Ready m → Still l m
+  pub ready_still : (m : Lane) → refill l ≡ Ok m → Still l m
   unfolding refill ready_or_idle
   ready_still m e = go (eqb n.cached 0) e
     where
       n : Lane
       n = reload (close_fast l)
 
-      go : (t : Bool) → cond t (Refill.Idle (settle_empty n)) (Refill.Ready n) ≡ Refill.Ready m → Still l m
+      go : (t : Bool) → cond t (Err (settle_empty n)) (Ok n) ≡ Ok m → Still l m
       go true f = let z : ◌≡◌ {A = ℕ} 0 1 = cc in absurd (omega arith)
       go false f = let same : n ≡ m = cc in rw (← same) (reload_still (close_fast l))
 
   -- a lane found empty is empty
-  pub idle_empty : (found : EmptyLane) → refill l ≡ Refill.Idle found → InOrder C found.lane × (found.lane.head ≡ found.lane.tail)
+  pub idle_empty : (found : EmptyLane) → refill l ≡ Err found → InOrder C found.lane × (found.lane.head ≡ found.lane.tail)
   unfolding refill ready_or_idle
   idle_empty found e = (rw (ap refilled_lane e) at (refill_keeps C small l o), go (eqb n.cached 0) refl e)
     where
@@ -136,7 +134,7 @@ module _ (C : ℕ) (small : C ≤ 65536) (l : Lane) (o : InOrder C l) where
       met : (a b : ℕ) → a < 2 ^ 64 → b < 2 ^ 64 → distance a b ≡ 0 → b ≡ a
       met a b h i f = omega arith
 
-      go : (t : Bool) → eqb n.cached 0 ≡ t → cond t (Refill.Idle (settle_empty n)) (Refill.Ready n) ≡ Refill.Idle found → found.lane.head ≡ found.lane.tail
+      go : (t : Bool) → eqb n.cached 0 ≡ t → cond t (Err (settle_empty n)) (Ok n) ≡ Err found → found.lane.head ≡ found.lane.tail
       go true s f =
           let same : settle_empty n ≡ found = cc in
           let z : n.cached ≡ 0 = eqb-true n.cached 0 s in
@@ -175,7 +173,7 @@ cached_ahead : {B d m c u b w : ℕ} → Counts B d m c u b w → (n : ℕ) → 
 cached_ahead q n h = omega arith
 
 module _ (ring : Ring) (small : ring.capacity ≤ 65536) (store : List ℕ) (l : Lane) (f : Filled ring.capacity l) where
-  item_less : (m : Lane) (item : ℕ) (rotate credit : Bool) → poll_item ring store false l ≡ LanePoll.Item item rotate credit m → held m < held l
+  item_less : (m : Lane) (item : ℕ) (rotate credit : Bool) → poll_item ring store false l ≡ Ok (record { item = item; rotate = rotate; released = credit; lane = m }) → held m < held l
   unfolding poll_item polled pop_targeted targeted
   item_less m item rotate credit e =
       let x : Lane = charge 1 (advance 1 l) in
@@ -216,23 +214,23 @@ module _ (ring : Ring) (small : ring.capacity ≤ 65536) (store : List ℕ) (l :
 
 module _ (ring : Ring) (small : ring.capacity ≤ 65536) (store : List ℕ) (l : Lane) (o : InOrder ring.capacity l) where
   -- a receive that hands out an item leaves fewer
-  pub polled_less : (m : Lane) (item : ℕ) (rotate credit : Bool) → poll ring store false l ≡ LanePoll.Item item rotate credit m → InOrder ring.capacity m × (held m < held l)
+  pub polled_less : (m : Lane) (item : ℕ) (rotate credit : Bool) → poll ring store false l ≡ Ok (record { item = item; rotate = rotate; released = credit; lane = m }) → InOrder ring.capacity m × (held m < held l)
   unfolding poll poll_refilled
   polled_less m item rotate credit e = (rw (ap polled_lane e) at (poll_keeps ring small store l o false), go (refill l) refl e)
     where
-      go : (r : Refill) → refill l ≡ r → poll_refilled ring store false r ≡ LanePoll.Item item rotate credit m → held m < held l
-      go (Refill.Ready n) s f =
+      go : (r : Result Lane EmptyLane) → refill l ≡ r → poll_refilled ring store false r ≡ Ok (record { item = item; rotate = rotate; released = credit; lane = m }) → held m < held l
+      go (Ok n) s f =
           let k : Still l n = ready_still ring.capacity small l o n s in
           rw (← k.0, ← k.1) (item_less ring small store n (refill_fills ring.capacity small l o n s) m item rotate credit f)
-      go (Refill.Idle found) s f = let z : ◌≡◌ {A = ℕ} 0 1 = cc in absurd (omega arith)
+      go (Err found) s f = let z : ◌≡◌ {A = ℕ} 0 1 = cc in absurd (omega arith)
 
   -- a receive that hands out nothing leaves the lane empty
-  pub polled_empty : (found : EmptyLane) → poll ring store false l ≡ LanePoll.Idle found → InOrder ring.capacity found.lane × (found.lane.head ≡ found.lane.tail)
+  pub polled_empty : (found : EmptyLane) → poll ring store false l ≡ Err found → InOrder ring.capacity found.lane × (found.lane.head ≡ found.lane.tail)
   unfolding poll poll_refilled poll_item polled
   polled_empty found e = (rw (ap polled_lane e) at (poll_keeps ring small store l o false), go (refill l) refl e)
     where
-      go : (r : Refill) → refill l ≡ r → poll_refilled ring store false r ≡ LanePoll.Idle found → found.lane.head ≡ found.lane.tail
-      go (Refill.Ready n) s f = let z : ◌≡◌ {A = ℕ} 0 1 = cc in absurd (omega arith)
-      go (Refill.Idle g) s f =
+      go : (r : Result Lane EmptyLane) → refill l ≡ r → poll_refilled ring store false r ≡ Err found → found.lane.head ≡ found.lane.tail
+      go (Ok n) s f = let z : ◌≡◌ {A = ℕ} 0 1 = cc in absurd (omega arith)
+      go (Err g) s f =
           let same : g ≡ found = cc in
           rw (← same) (idle_empty ring.capacity small l o g s).1

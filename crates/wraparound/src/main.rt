@@ -8,14 +8,13 @@ ghost use Rattle.yring.specs.Cursor.{after, distance, Capacity};
 ghost use Rattle.yring.specs.Ring.{Within};
 ghost use Rattle.lane.specs.Order.{InOrder, Filled};
 
-use lane::lane::{Lane, LanePoll, Refill};
-use lane::producer::Sent;
+use lane::lane::Lane;
 use model::LaneKey;
 use yring::ring;
 use yring::ring::Ring;
 
 // How far a lane has come: the next item to send, the next one due, and whether each item that came
-// out was the one due.
+// out was the one due: a flag of a run that goes on in any case.
 #[derive(Clone, Copy)]
 struct Run {
     lane: Lane,
@@ -31,26 +30,12 @@ fn fill(run: Run, ring: Ring, store: &mut [u64; 64]) -> Run
 {
     let mut lane = run.lane;
     let mut send = run.send;
-    loop {
-        match lane.push_and_flush(ring) {
-            Sent::Full { lane: full } => {
-                return Run {
-                    lane: full,
-                    send: send,
-                    due: run.due,
-                    good: run.good,
-                };
-            }
-            Sent::Taken {
-                lane: next,
-                free: _,
-            } => {
-                ring.put(store, lane.tail, send);
-                lane = next;
-                send = ring::after(send, 1);
-            }
-        }
+    while let Some(sent) = lane.push_and_flush(ring) {
+        ring.put(store, lane.tail, send);
+        lane = sent.lane;
+        send = ring::after(send, 1);
     }
+    Run { lane, send, ..run }
 }
 
 // Receives item by item until the lane is empty.
@@ -63,23 +48,17 @@ fn receive_items(run: Run, ring: Ring, store: &[u64; 64]) -> Run
     let mut good = run.good;
     loop {
         match lane.poll(ring, store, false) {
-            LanePoll::Idle { found } => {
-                let empty = found.lane;
+            Err(found) => {
                 return Run {
-                    lane: empty,
-                    send: run.send,
-                    due: due,
-                    good: good,
+                    lane: found.lane,
+                    due,
+                    good,
+                    ..run
                 };
             }
-            LanePoll::Item {
-                item,
-                rotate,
-                released,
-                lane: next,
-            } => {
-                lane = next;
-                good = good & (item == due);
+            Ok(polled) => {
+                lane = polled.lane;
+                good = good & (polled.item == due);
                 due = ring::after(due, 1);
             }
         }
@@ -91,12 +70,10 @@ fn numbered(items: &[u64; 64], count: usize, first: u64) -> bool
     requires { count ≤ 64 }
     ensures { result ≡ true → (i : ℕ) → i < count → get_or items.now i 0 ≡ after first i }
 {
-    let mut i = 0;
-    while i < count {
+    for i in 0..count {
         if items[i] != ring::after(first, i as u64) {
             return false;
         }
-        i += 1;
     }
     true
 }
@@ -112,13 +89,11 @@ fn receive_chunk(run: Run, lane: Lane, ring: Ring, store: &[u64; 64]) -> Run
     let moved = lane.move_chunk(ring.capacity, take);
     ring.pop_into(store, lane.head, take, &mut out, 0);
     let good = numbered(&out, take as usize, run.due);
-    let ended = moved.end_full_burst();
-    let next = ended.lane;
     Run {
-        lane: next,
-        send: run.send,
+        lane: moved.end_full_burst().lane,
         due: ring::after(run.due, take),
         good: run.good & good,
+        ..run
     }
 }
 
@@ -131,16 +106,13 @@ fn receive_chunks(run: Run, ring: Ring, store: &[u64; 64]) -> Run
     loop {
         let lane = run.lane;
         match lane.refill() {
-            Refill::Idle { found } => {
-                let empty = found.lane;
+            Err(found) => {
                 return Run {
-                    lane: empty,
-                    send: run.send,
-                    due: run.due,
-                    good: run.good,
+                    lane: found.lane,
+                    ..run
                 };
             }
-            Refill::Ready { lane: filled } => {
+            Ok(filled) => {
                 run = receive_chunk(run, filled, ring, store);
             }
         }
@@ -170,15 +142,13 @@ fn rounds(ring: Ring, chunks: bool) -> Run
         generation: 0,
     };
     let mut run = Run {
-        lane: Lane::new(key, 18446744073709551613),
+        lane: Lane::new(key, u64::MAX - 2),
         send: 0,
         due: 0,
         good: true,
     };
-    let mut left = 256 / ring.capacity;
-    while left != 0 {
+    for _ in 0..256 / ring.capacity {
         run = round(run, ring, &mut store, chunks);
-        left -= 1;
     }
     run
 }

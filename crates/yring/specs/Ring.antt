@@ -1,11 +1,10 @@
 -- A lane's ring: which word of the ring store a cursor names, and what push, pop and pop_into do.
 -- Assumes nothing.
-use Rattle.std.specs.Prelude.{ℕ, suc, ◌+◌, ◌-◌, ◌*◌, ◌%◌, ◌≤◌, cond, List, [], ◌∷◌, ◌==◌, nat_le, slice_index, slice_set}
+use Rattle.std.specs.Prelude.{ℕ, suc, Option, None, Some, ◌+◌, ◌-◌, ◌*◌, ◌%◌, ◌≤◌, cond, List, [], ◌∷◌, ◌==◌, nat_le, slice_index, slice_set}
 use Rattle.yring.specs.Lists.{tab, written}
 use Rattle.yring.specs.Cursor.{after, distance, Capacity}
 use Rattle.yring.specs.declared.ring.Ring.{Ring}
-use Rattle.yring.specs.declared.ring.Push.{Push}
-use Rattle.yring.specs.declared.ring.Push.TheVariants.{Pushed, Full}
+use Rattle.yring.specs.declared.ring.Pushed.{Pushed}
 
 -- the ring of a slot: "a ring store of at least S × C u64 words", C of them for each slot
 abbrev pub new_ring : ℕ → ℕ → Ring
@@ -34,15 +33,16 @@ abbrev pub free_after : Ring → ℕ → ℕ → ℕ
 free_after ring cursor released = distance ring.capacity (distance cursor released) - 1
 
 -- "push refuses exactly if the cursor's wrapped distance from the released head is C; flush publishes everything pushed"
-unfoldable pub push_item : Ring → List ℕ → ℕ → ℕ → ℕ → Push × List ℕ
+unfoldable pub push_item : Ring → List ℕ → ℕ → ℕ → ℕ → Option Pushed × List ℕ
 push_item ring store cursor released item =
     cond (distance cursor released == ring.capacity)
-    (Full, store)
-    (Pushed (after cursor 1) (free_after ring cursor released), slice_set store (index ring cursor) item)
+    (None, store)
+    (Some (record { cursor = after cursor 1; free = free_after ring cursor released }), slice_set store (index ring cursor) item)
 
 -- what a push answers, before the item's word is stored
-unfoldable pub push : Ring → ℕ → ℕ → Push
-push ring cursor released = cond (distance cursor released == ring.capacity) Full (Pushed (after cursor 1) (free_after ring cursor released))
+unfoldable pub push : Ring → ℕ → ℕ → Option Pushed
+push ring cursor released =
+    cond (distance cursor released == ring.capacity) None (Some (record { cursor = after cursor 1; free = free_after ring cursor released }))
 
 -- an item's word stored at a cursor
 abbrev pub put : Ring → List ℕ → ℕ → ℕ → List ℕ

@@ -3,8 +3,6 @@ ghost use Rattle.std.specs.Prelude.{◌≡◌};
 ghost use Rattle.yring.specs.Cursor.{Capacity};
 ghost use Rattle.model.specs.State.{release_batch};
 
-use crate::num;
-
 // The least batch, where the ring is not smaller.
 const MIN_RELEASE_BATCH: u64 = 64;
 
@@ -13,8 +11,5 @@ pub fn release_batch(capacity: u64) -> u64
     requires { Capacity capacity }
     ensures { result ≡ release_batch capacity }
 {
-    num::least(
-        num::greatest((capacity + 1) / 2, MIN_RELEASE_BATCH),
-        capacity,
-    )
+    capacity.div_ceil(2).max(MIN_RELEASE_BATCH).min(capacity)
 }

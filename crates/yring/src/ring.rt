@@ -11,25 +11,25 @@ pub struct Ring {
     pub capacity: u64,
 }
 
+// The cursor after an item, and how many places are free then.
 #[derive(Clone, Copy)]
-pub enum Push {
-    // The cursor after the item, and how many places are free then.
-    Pushed { cursor: u64, free: u64 },
-    Full,
+pub struct Pushed {
+    pub cursor: u64,
+    pub free: u64,
 }
 
 // How far `to` stands after `from`.
 pub fn distance(to: u64, from: u64) -> u64
     ensures { result ≡ distance to from }
 {
-    std::num::wrapping_sub_u64(to, from)
+    to.wrapping_sub(from)
 }
 
 // The cursor `n` further.
 pub fn after(cursor: u64, n: u64) -> u64
     ensures { result ≡ after cursor n }
 {
-    std::num::wrapping_add_u64(cursor, n)
+    cursor.wrapping_add(n)
 }
 
 // How many places are free where so many are in use; 0 exactly if all are. It wraps where more are.
@@ -47,7 +47,7 @@ impl Ring {
     {
         Ring {
             base: slot * capacity,
-            capacity: capacity,
+            capacity,
         }
     }
 
@@ -62,17 +62,17 @@ impl Ring {
     // The cursor after a push and the places that are left, unless the ring is full. A place is in use
     // until its credit is back. The item's word is `put` once the cursor is
     // stored: the compiler then sees which words of the lane did not change.
-    pub fn push(self, cursor: u64, released: u64) -> Push
+    pub fn push(self, cursor: u64, released: u64) -> Option<Pushed>
         ensures { result ≡ push self cursor released }
     {
         let free = free_places(self.capacity, distance(cursor, released));
         if free == 0 {
-            return Push::Full;
+            return None;
         }
-        Push::Pushed {
+        Some(Pushed {
             cursor: after(cursor, 1),
             free: free - 1,
-        }
+        })
     }
 
     // Stores an item at a cursor.
@@ -107,7 +107,8 @@ impl Ring {
         accepted
     }
 
-    // Moves the `count` items from the head on to the output: up to the ring's end, then from its start.
+    // Moves the `count` items from the head on to the output: up to the ring's end, then from its start. The output is lent, and the place stands beside it:
+    // crate `queues`, module `header`, has why.
     pub fn pop_into(self, store: &[u64], head: u64, count: u64, out: &mut [u64], at: usize)
         requires { Within self (length store.now) × (count ≤ self.capacity) × (count ≤ 64) × (at + count ≤ length out.old) }
         ensures { out.new ≡ pop_into self store.now head count out.old at }
@@ -134,25 +135,10 @@ pub fn put_at(store: &mut [u64], at: usize, item: u64)
     store[at] = item;
 }
 
-// Moves `len` words that stand together. They go through an array of this function, which overlaps
-// neither slice: the compiler then leaves the array out, and has the C library move them.
+// Moves `len` words that stand together.
 fn move_slots(src: &[u64], start: usize, len: usize, out: &mut [u64], at: usize)
-    requires { (start + len ≤ length src.now) × (len ≤ 64) × (at + len ≤ length out.old) }
-    ensures { out.new ≡ written out.old at (run src.now start len) }
-{
-    let mut block = [0; 64];
-    copy_words(src, start, len, &mut block, 0);
-    copy_words(&block, 0, len, out, at);
-}
-
-// Copies words one by one.
-fn copy_words(src: &[u64], start: usize, len: usize, out: &mut [u64], at: usize)
     requires { (start + len ≤ length src.now) × (at + len ≤ length out.old) }
     ensures { out.new ≡ written out.old at (run src.now start len) }
 {
-    let mut i = 0;
-    while i < len {
-        out[at + i] = src[start + i];
-        i += 1;
-    }
+    out[at..at + len].copy_from_slice(&src[start..start + len]);
 }

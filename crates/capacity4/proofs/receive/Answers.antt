@@ -9,8 +9,8 @@ use Rattle.capacity4.proofs.receive.Goals as goal
 pub poll-requires : goal.poll-requires
 poll-requires g c = rw c.new.ensures (record { power = four; fits = search rules }, c.requires)
 
-pub returns-in-Idle : goal.returns-in-Idle
-returns-in-Idle g c = receives _ _ c.requires c.new.result c.new.ensures _ _ c.poll.ensures (ap polled_lane c.in-Idle.is)
+pub returns-in-Err : goal.returns-in-Err
+returns-in-Err g c = receives _ _ c.requires c.new.result c.new.ensures _ _ c.poll.ensures (ap polled_lane c.in-Err.is)
 
-pub returns-in-Item : goal.returns-in-Item
-returns-in-Item g c = receives _ _ c.requires c.new.result c.new.ensures _ _ c.poll.ensures (ap polled_lane c.in-Item.is)
+pub returns-in-Ok : goal.returns-in-Ok
+returns-in-Ok g c = receives _ _ c.requires c.new.result c.new.ensures _ _ c.poll.ensures (ap polled_lane c.in-Ok.is)

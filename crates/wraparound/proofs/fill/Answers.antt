@@ -8,17 +8,17 @@ use borrow.Author.Rules.{rules}
 use Rattle.wraparound.proofs.fill.Goals as goal
 
 -- what is stored does not matter to the lane: an empty store and the item 0 will do
-pub returns-in-Full : goal.returns-in-Full
-returns-in-Full c =
-    refused _ c.requires.0.power.most [] 0 _ c.loop-full.invariant _ _ (sym (flush_full _ [] 0 _ _ (sym c.in-Full.is ∙ c.push_and_flush.ensures)))
+pub returns : goal.returns
+returns c =
+    (c.loop-sent.invariant, refused _ c.requires.0.power.most [] 0 _ c.loop-sent.invariant c.loop-sent.lane _ (sym (flush_full _ [] 0 _ (sym c.in_default.is ∙ c.push_and_flush.ensures))))
 
 pub put-requires : goal.put-requires
 put-requires c = record { power = c.requires.0.power; fits = search rules }
 
-pub loop-full-smaller : goal.loop-full-smaller
-loop-full-smaller c =
-    (taken _ c.requires.0.power.most [] 0 _ c.loop-full.invariant _ _ (sym (flush_taken _ [] 0 _ _ (sym c.in-Taken.is ∙ c.push_and_flush.ensures)))).1
+pub loop-sent-smaller : goal.loop-sent-smaller
+loop-sent-smaller c =
+    (taken _ c.requires.0.power.most [] 0 _ c.loop-sent.invariant _ _ (sym (flush_taken _ [] 0 _ _ (sym c.in-Some.is ∙ c.push_and_flush.ensures)))).1
 
-pub loop-full-preserved : goal.loop-full-preserved
-loop-full-preserved c =
-    (taken _ c.requires.0.power.most [] 0 _ c.loop-full.invariant _ _ (sym (flush_taken _ [] 0 _ _ (sym c.in-Taken.is ∙ c.push_and_flush.ensures)))).0
+pub loop-sent-preserved : goal.loop-sent-preserved
+loop-sent-preserved c =
+    (taken _ c.requires.0.power.most [] 0 _ c.loop-sent.invariant _ _ (sym (flush_taken _ [] 0 _ _ (sym c.in-Some.is ∙ c.push_and_flush.ensures)))).0

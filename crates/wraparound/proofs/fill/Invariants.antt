@@ -4,8 +4,8 @@ use Rattle.lane.specs.Order.{InOrder}
 use Rattle.wraparound.proofs.Ends.{room}
 use Rattle.wraparound.proofs.fill.Given as goal
 
-abbrev pub invariant-loop-full : goal.invariant-loop-full
-invariant-loop-full l = InOrder l.ring.capacity l.lane
+abbrev pub invariant-loop-sent : goal.invariant-loop-sent
+invariant-loop-sent l = InOrder l.ring.capacity l.lane
 
-abbrev pub decreases-loop-full : goal.decreases-loop-full
-decreases-loop-full l = room l.ring.capacity l.lane
+abbrev pub decreases-loop-sent : goal.decreases-loop-sent
+decreases-loop-sent l = room l.ring.capacity l.lane

@@ -20,4 +20,4 @@ pub numbered-good-requires : goal.numbered-good-requires
 numbered-good-requires c = (chunk_room _ c.requires.0.power.most _ c.requires.1 c.chunk_limit-take.result (omega (arith, c.chunk_limit-take.ensures))).1
 
 pub returns : goal.returns
-returns c = chunk_taken c.args.ring c.requires.0.power.most c.args.store.now c.args.lane c.requires.1 _ _ _ c.chunk_limit-take.ensures c.move_chunk-moved.ensures (ap (λ (b : BurstEnd). b.lane) c.end_full_burst-ended.ensures)
+returns c = chunk_taken c.args.ring c.requires.0.power.most c.args.store.now c.args.lane c.requires.1 _ _ _ c.chunk_limit-take.ensures c.move_chunk-moved.ensures (ap (λ (b : BurstEnd). b.lane) c.end_full_burst.ensures)

@@ -8,11 +8,11 @@ use Rattle.wraparound.proofs.receive_items.Goals as goal
 pub poll-requires : goal.poll-requires
 poll-requires c = (record { power = c.requires.0.power; fits = search rules }, c.loop-found.invariant)
 
-pub returns-in-Idle : goal.returns-in-Idle
-returns-in-Idle c = polled_empty _ c.requires.0.power.most _ _ c.loop-found.invariant _ (sym c.poll.ensures ∙ c.in-Idle.is)
+pub returns-in-Err : goal.returns-in-Err
+returns-in-Err c = polled_empty _ c.requires.0.power.most _ _ c.loop-found.invariant _ (sym c.poll.ensures ∙ c.in-Err.is)
 
 pub loop-found-smaller : goal.loop-found-smaller
-loop-found-smaller c = (polled_less _ c.requires.0.power.most _ _ c.loop-found.invariant _ _ _ _ (sym c.poll.ensures ∙ c.in-Item.is)).1
+loop-found-smaller c = (polled_less _ c.requires.0.power.most _ _ c.loop-found.invariant _ _ _ _ (sym c.poll.ensures ∙ c.in-Ok.is)).1
 
 pub loop-found-preserved : goal.loop-found-preserved
-loop-found-preserved c = (polled_less _ c.requires.0.power.most _ _ c.loop-found.invariant _ _ _ _ (sym c.poll.ensures ∙ c.in-Item.is)).0
+loop-found-preserved c = (polled_less _ c.requires.0.power.most _ _ c.loop-found.invariant _ _ _ _ (sym c.poll.ensures ∙ c.in-Ok.is)).0

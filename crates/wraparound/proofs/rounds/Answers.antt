@@ -6,8 +6,8 @@ use Rattle.lane.proofs.OrderLaws.{new_lane_in_order}
 use borrow.Author.Rules.{rules}
 use Rattle.wraparound.proofs.rounds.Goals as goal
 
-pub nonzero_div-left : goal.nonzero_div-left
-nonzero_div-left c = some _ c.requires.power
+pub nonzero_div-end : goal.nonzero_div-end
+nonzero_div-end c = some _ c.requires.power
 
-pub loop-left-init : goal.loop-left-init
-loop-left-init c = rw c.new.ensures (new_lane_in_order _ c.requires.power _ _ (omega arith), search rules)
+pub loop-init : goal.loop-init
+loop-init c = rw c.new.ensures (new_lane_in_order _ c.requires.power _ _ (omega arith), search rules)

@@ -14,22 +14,22 @@ cell-x-requires c =
 
 pub set_cell-requires : goal.set_cell-requires
 set_cell-requires c =
-    omega (arith, c.loop-i.invariant.long, c.requires.room, c.row_of-then-x-slot.ensures.1)
+    omega (arith, c.loop-i.invariant.long, c.requires.room, c.row_of-in-loop-i.ensures.1)
 
 -- a slot that stays
-pub loop-i-preserved-then-x-slot : goal.loop-i-preserved-then-x-slot
-loop-i-preserved-then-x-slot c =
-    let from = c.row_of in
-    rw c.set_cell.ensures
-    (sift_keep _ _ c.requires _ _ _ from.result c.loop-i.invariant c.loop-i-test.true from.ensures.0 _
-    c.cell-x.ensures _ c.row_of-then-x-slot.ensures.0 c.if-x-slot.true)
-
--- the slot that goes
 pub loop-i-preserved : goal.loop-i-preserved
 loop-i-preserved c =
     let from = c.row_of in
-    sift_skip _ _ c.requires _ _ _ from.result c.loop-i.invariant c.loop-i-test.true from.ensures.0 _
-    c.cell-x.ensures c.if-x-slot.false
+    rw c.set_cell.ensures
+    (sift_keep _ _ c.requires _ _ _ from.result c.loop-i.invariant (omega arith) from.ensures.0 _
+    c.cell-x.ensures _ c.row_of-in-loop-i.ensures.0 c.if-x-slot.false)
+
+-- the slot that goes
+pub loop-i-preserved-then-x-slot : goal.loop-i-preserved-then-x-slot
+loop-i-preserved-then-x-slot c =
+    let from = c.row_of in
+    sift_skip _ _ c.requires _ _ _ from.result c.loop-i.invariant (omega arith) from.ensures.0 _
+    c.cell-x.ensures c.if-x-slot.true
 
 pub bounds-t-2-2 : goal.bounds-t-2-2
 bounds-t-2-2 c =
@@ -39,4 +39,4 @@ pub shape_of-t : goal.shape_of-t
 shape_of-t c = simp length-set c.loop-i.invariant.long
 
 pub returns : goal.returns
-returns c = sift_end _ _ _ _ _ c.loop-i.invariant c.loop-i-test.false
+returns c = sift_end _ _ _ _ _ c.loop-i.invariant (omega arith)

@@ -1,14 +1,9 @@
 -- `queues::registry::reissue` meets its contract.
 -- Assumes nothing.
 use mathlib.Core.Path.{◌≡◌}
-use Prim.Native.Nat.{◌-◌, ◌≤◌}
-use lib.ListN.{length}
 use Rattle.queues.specs.Registry.{moved_down}
 use Rattle.queues.proofs.registry.reissue.Given as goal
 
 -- the first i have moved
 abbrev pub invariant-loop-i : goal.invariant-loop-i
-invariant-loop-i l = (l.t ≡ moved_down l.initial.t l.gap l.i) × (l.i ≤ l.d) × (length l.t ≡ length l.initial.t)
-
-abbrev pub decreases-loop-i : goal.decreases-loop-i
-decreases-loop-i l = l.d - l.i
+invariant-loop-i l = l.t ≡ moved_down l.initial.t l.gap l.i

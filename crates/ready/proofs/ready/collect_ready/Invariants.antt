@@ -1,10 +1,9 @@
 -- `ready::ready::collect_ready` meets its contract.
 -- Assumes nothing.
+use Rattle.std.proofs.Common.{◌-◌}
 use Rattle.ready.proofs.Round.{Round}
 use Rattle.ready.proofs.ready.collect_ready.Given as goal
 
-abbrev pub invariant-loop-left : goal.invariant-loop-left
-invariant-loop-left l = Round l.n l.all l.initial.t l.t l.left l.next
-
-abbrev pub decreases-loop-left : goal.decreases-loop-left
-decreases-loop-left l = l.left
+-- what is left to do, after some groups
+abbrev pub invariant-loop : goal.invariant-loop
+invariant-loop l = Round l.n l.all l.initial.t l.t (l.n - l.counter) l.next

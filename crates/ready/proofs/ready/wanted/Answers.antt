@@ -1,13 +1,15 @@
 -- `ready::ready::wanted` meets its contract.
 -- Assumes nothing.
-use borrow.Author.Tests.{lt-ltb, le-ltb}
+use Rattle.std.proofs.Common.{arith}
+use Rattle.std.proofs.lemmas.Grind.{common_steps}
+use Rattle.std.proofs.lemmas.Bool.Decides.{nat_tests}
 use Rattle.ready.specs.Ready.{wanted}
 use Rattle.ready.proofs.ready.wanted.Goals as goal
 
 pub returns-then-slot-t : goal.returns-then-slot-t
 unfolding wanted
-returns-then-slot-t c = simp (le-ltb _ _ c.if-slot-t.true)
+returns-then-slot-t c = grind (arith, common_steps, nat_tests)
 
-pub returns : goal.returns
+pub returns-else-slot-t : goal.returns-else-slot-t
 unfolding wanted
-returns c = simp (lt-ltb _ _ c.if-slot-t.false, c.wanted_lane.ensures, c.load.ensures)
+returns-else-slot-t c = grind (arith, common_steps, nat_tests)

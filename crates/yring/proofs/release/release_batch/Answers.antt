@@ -6,4 +6,4 @@ use Rattle.yring.proofs.release.release_batch.Goals as goal
 
 pub returns : goal.returns
 unfolding release_batch
-returns c = omega (arith, c.least.ensures, c.greatest.ensures)
+returns c = omega arith

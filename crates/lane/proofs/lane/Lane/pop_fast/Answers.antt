@@ -9,9 +9,9 @@ pub returns-then-self-eq0 : goal.returns-then-self-eq0
 unfolding pop_fast
 returns-then-self-eq0 c = simp (eq-eqb _ _ c.if-self-eq0.true)
 
-pub pop_window-taken-requires : goal.pop_window-taken-requires
-pop_window-taken-requires c = (c.requires, omega (arith, c.if-self-eq0.false))
+pub pop_window-requires : goal.pop_window-requires
+pop_window-requires c = (c.requires, omega (arith, c.if-self-eq0.false))
 
 pub returns : goal.returns
 unfolding pop_fast
-returns c = simp (ne_eqb _ _ c.if-self-eq0.false, c.pop_window-taken.ensures)
+returns c = simp (ne_eqb _ _ c.if-self-eq0.false, c.pop_window.ensures)

@@ -1,13 +1,13 @@
 -- `lane::lane::Lane::push_and_flush` meets its contract.
 -- Assumes nothing.
-use Rattle.lane.specs.Lane.{push_and_flush, sent_by}
-use mathlib.Core.Path.{◌∙◌, ap, sym}
+use Rattle.std.proofs.Common.{sym, ap, ◌∙◌}
+use Rattle.lane.specs.Lane.{sent_by, push_and_flush}
 use Rattle.lane.proofs.lane.Lane.push_and_flush.Goals as goal
 
-pub returns-in-Full : goal.returns-in-Full
+pub returns-in_err-pushed : goal.returns-in_err-pushed
 unfolding push_and_flush sent_by
-returns-in-Full c = ap (sent_by c.args.self) (sym c.in-Full.is ∙ c.push.ensures)
+returns-in_err-pushed c = rw c.from_residual.ensures (ap (sent_by c.args.self) (sym c.in_err-pushed.was ∙ c.push.ensures))
 
-pub returns-in-Pushed : goal.returns-in-Pushed
+pub returns : goal.returns
 unfolding push_and_flush sent_by
-returns-in-Pushed c = ap (sent_by c.args.self) (sym c.in-Pushed.is ∙ c.push.ensures)
+returns c = ap (sent_by c.args.self) (sym c.in_ok-pushed.was ∙ c.push.ensures)

@@ -1,8 +1,6 @@
 -- `lane::lane::Lane::store` meets its contract.
 -- Assumes nothing.
-use native.Mathlib.Omega.{arith}
-use mathlib.Core.Path.{◌≡◌, ◌∙◌, refl, ap}
-use lib.ListN.{length-set, take}
+use Rattle.std.proofs.Common.{◌≡◌, ◌∙◌, refl, ap, arith, take, length-set}
 use lib.Seq.{take_all}
 use Rattle.yring.specs.Lists.{scatter}
 use Rattle.lane.specs.Table.{cell_at, put_lane}
@@ -10,10 +8,7 @@ use Rattle.yring.proofs.ListLaws.{scatter_step}
 use Rattle.lane.proofs.lane.Lane.store.Goals as goal
 
 pub loop-i-init : goal.loop-i-init
-loop-i-init c = (omega arith, refl, refl)
-
-pub loop-i-smaller : goal.loop-i-smaller
-loop-i-smaller c = omega arith
+loop-i-init c = refl
 
 pub loop-i-preserved : goal.loop-i-preserved
 loop-i-preserved c =
@@ -21,10 +16,7 @@ loop-i-preserved c =
     let ws = c.words-words.result in
     let s = c.args.self.key.slot in
     let l = c.loop-i in
-    (omega arith, simp length-set l.invariant.1, rw l.invariant.2 (scatter_step ws t (λ j. cell_at j s) l.i (omega arith)))
-
-pub shape_of-table : goal.shape_of-table
-shape_of-table c = c.loop-i.invariant.1
+    rw l.invariant (scatter_step ws t (λ j. cell_at j s) l.i (omega arith))
 
 pub returns : goal.returns
 unfolding put_lane
@@ -34,4 +26,4 @@ returns c =
     let s = c.args.self.key.slot in
     let l = c.loop-i in
     let whole : take l.i ws ≡ ws = take_all l.i ws (omega arith) in
-    l.invariant.2 ∙ ap (scatter t (λ j. cell_at j s)) (whole ∙ c.words-words.ensures)
+    l.invariant ∙ ap (scatter t (λ j. cell_at j s)) (whole ∙ c.words-words.ensures)

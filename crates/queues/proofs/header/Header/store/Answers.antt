@@ -1,35 +1,16 @@
 -- `queues::header::Header::store` meets its contract.
 -- Assumes nothing.
-use native.Mathlib.Omega.{arith}
-use mathlib.Core.Path.{◌≡◌, ◌∙◌, refl, ap}
-use lib.ListN.{length-set, take}
-use lib.Seq.{take_all}
-use Rattle.yring.specs.Lists.{scatter}
-use Rattle.yring.proofs.ListLaws.{scatter_step}
-use Rattle.queues.specs.Header.{put_header}
+use Rattle.std.proofs.Common.{◌≡◌, ℕ, ◌+◌, ◌∙◌, arith, length-take-le}
+use Rattle.queues.specs.Header.{header_list, put_header}
+use Rattle.yring.proofs.ListLaws.{put_scattered}
 use Rattle.queues.proofs.header.Header.store.Goals as goal
 
-pub loop-i-init : goal.loop-i-init
-loop-i-init c = (omega arith, refl, refl)
+from_zero : (i : ℕ) → i ≡ 0 + i
+from_zero i = omega arith
 
-pub loop-i-smaller : goal.loop-i-smaller
-loop-i-smaller c = omega arith
-
-pub loop-i-preserved : goal.loop-i-preserved
-loop-i-preserved c =
-    let t = c.args.table.now in
-    let ws = c.words-words.result in
-    let l = c.loop-i in
-    (omega arith, simp length-set l.invariant.1, rw l.invariant.2 (scatter_step ws t (λ j. j) l.i (omega arith)))
-
-pub shape_of-table : goal.shape_of-table
-shape_of-table c = c.loop-i.invariant.1
+pub copy_from_slice-requires : goal.copy_from_slice-requires
+copy_from_slice-requires c = rw c.words.ensures (length-take-le 17 c.args.table.now (omega arith))
 
 pub returns : goal.returns
 unfolding put_header
-returns c =
-    let t = c.args.table.now in
-    let ws = c.words-words.result in
-    let l = c.loop-i in
-    let whole : take l.i ws ≡ ws = take_all l.i ws (omega arith) in
-    l.invariant.2 ∙ ap (scatter t (λ j. j)) (whole ∙ c.words-words.ensures)
+returns c = put_scattered c.args.table.now c.copy_from_slice.new.self (header_list c.args.self) (λ i. i) 0 17 from_zero (c.copy_from_slice.ensures.after ∙ c.words.ensures) (omega arith) (omega arith)
