@@ -12,7 +12,6 @@ use model::Answer;
 use queues::header::Header;
 use ready::ready as marks;
 use store::refusal;
-use store::refusal::Verdict;
 
 // Gives back the credit of a slot's lane, where one is registered. Of a lane with nothing unreleased, which has no window
 // either, that one word is read and none is written.
@@ -30,16 +29,13 @@ fn release_slot(t: &mut [u64], slot: u64)
     }
 }
 
-// Gives back the credit of every lane.
+// Gives back the credit of every lane. As in `poll_slots`, and in crate `turns`, the loop is one line; a function that is handed its step is no shorter.
 pub fn release_all(t: &mut [u64])
     requires { Shaped t.old × AllRefundable t.old }
     ensures { t.new ≡ release_all t.old }
 {
-    let n = t[Header::ISSUED];
-    let mut slot = 0;
-    while slot < n {
+    for slot in 0..t[Header::ISSUED] {
         release_slot(t, slot);
-        slot += 1;
     }
 }
 
@@ -49,8 +45,8 @@ pub fn release_consumed(t: &mut [u64], r: &[u64]) -> Answer
     ensures { (result, t.new, r.now) ≡ release_consumed t.old r.now }
 {
     match refusal::receiver_verdict(t) {
-        Verdict::Refuse { why } => Answer::Refused { why: why },
-        Verdict::Pass => {
+        Err(why) => Answer::Refused { why },
+        Ok(()) => {
             release_all(t);
             Answer::Done
         }
@@ -58,16 +54,11 @@ pub fn release_consumed(t: &mut [u64], r: &[u64]) -> Answer
 }
 
 // Whether a lane is registered, unpaused and unqueued.
+#[tactic(auto, unfolding(crate::specs::AllLanes::may_queue))]
 fn may_queue(l: Lane) -> bool
     ensures { result ≡ may_queue l }
 {
-    if l.registered != 1 {
-        return false;
-    }
-    if l.paused != 0 {
-        return false;
-    }
-    l.queued == 0
+    l.registered == 1 && l.paused == 0 && l.queued == 0
 }
 
 // Queues a slot's lane, whether or not it is pending.
@@ -84,22 +75,20 @@ fn poll_slots(t: &mut [u64])
     requires { Shaped t.old × QueueNames t.old }
     ensures { t.new ≡ poll_slots t.old }
 {
-    let n = t[Header::ISSUED];
-    let mut slot = 0;
-    while slot < n {
+    for slot in 0..t[Header::ISSUED] {
         poll_slot(t, slot);
-        slot += 1;
     }
 }
 
-// Queues every lane that is neither queued nor paused, so that items sent without a signal are found.
+// Queues every lane that is neither queued nor paused, so that items sent without a signal are found. It has the test and the answer of `release_consumed`,
+// and a function for both that is handed the loop is no shorter.
 pub fn poll_all_lanes(t: &mut [u64], r: &[u64]) -> Answer
     requires { StoreInOrder t.old r.now }
     ensures { (result, t.new, r.now) ≡ poll_all_lanes t.old r.now }
 {
     match refusal::receiver_verdict(t) {
-        Verdict::Refuse { why } => Answer::Refused { why: why },
-        Verdict::Pass => {
+        Err(why) => Answer::Refused { why },
+        Ok(()) => {
             poll_slots(t);
             Answer::Done
         }

@@ -1,3 +1,4 @@
+pub mod WithLane
 pub mod ResumeCases
 pub mod CloseReceiverLaws
 pub mod PauseLaws

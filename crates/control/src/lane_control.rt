@@ -1,5 +1,9 @@
 // Pausing, resuming and closing: receiver/lane_control.rs, and the Drop of receiver.rs.
-ghost use Rattle.std.specs.Prelude.{◌≡◌, ◌<◌};
+ghost use Rattle.std.specs.Prelude.{◌≡◌, ◌<◌, Ok, Err};
+ghost use Rattle.model.specs.declared.Refusal.{Refusal};
+ghost use Rattle.model.specs.declared.Answer.TheVariants.{Done, Refused};
+ghost use Rattle.lane.specs.Table.{lane_at};
+ghost use Rattle.store.specs.Refusal.{id_verdict};
 ghost use Rattle.lane.specs.Order.{Refundable};
 ghost use Rattle.queues.specs.Header.{Shaped, slots, queue_count, free_count, lane_count};
 ghost use Rattle.store.specs.Order.{StoreInOrder};
@@ -9,7 +13,6 @@ use lane::lane::Lane;
 use model::{Answer, LaneId};
 use queues::header::Header;
 use queues::queue;
-use store::refusal::Verdict;
 use store::{refusal, registry, signal};
 use yring::ring;
 
@@ -20,6 +23,23 @@ pub fn with_turn(mut l: Lane, pending: u64, queued: u64, paused: u64) -> Lane
     l.queued = queued;
     l.paused = paused;
     l
+}
+
+// What a call does with the lane that has an id, where no refusal applies.
+fn with_lane<F: FnOnce(&mut [u64], Lane)>(t: &mut [u64], id: LaneId, act: F) -> Answer
+    requires shaped { Shaped t.old }
+    requires callable { (a : _) → a.now ≡ t.old → id_verdict t.old id ≡ Ok (tt {0}) → F.pre act a (lane_at t.old id.key.slot) }
+    ensures refused { (why : Refusal) → id_verdict t.old id ≡ Err why → (result ≡ Refused why) × (t.new ≡ t.old) }
+    ensures done { id_verdict t.old id ≡ Ok (tt {0}) → (result ≡ Done) × (a : _) × (b : _) × (a.now ≡ t.old) × (b.now ≡ t.new) × F.post act a (lane_at t.old id.key.slot) tt b }
+{
+    match refusal::id_verdict(t, id) {
+        Err(why) => Answer::Refused { why },
+        Ok(()) => {
+            let l = Lane::load(t, id.key.slot);
+            act(t, l);
+            Answer::Done
+        }
+    }
 }
 
 // Ordinary receives skip a paused lane, so nothing else would give its credit back.
@@ -37,14 +57,7 @@ pub fn pause(t: &mut [u64], r: &[u64], id: LaneId) -> Answer
     requires { StoreInOrder t.old r.now }
     ensures { (result, t.new, r.now) ≡ pause t.old r.now id }
 {
-    match refusal::id_verdict(t, id) {
-        Verdict::Refuse { why } => Answer::Refused { why: why },
-        Verdict::Pass => {
-            let l = Lane::load(t, id.key.slot);
-            pause_lane(t, l);
-            Answer::Done
-        }
-    }
+    with_lane(t, id, pause_lane)
 }
 
 // The lane goes to the back of the queue whether or not it has items: the next receive looks.
@@ -65,14 +78,7 @@ pub fn resume(t: &mut [u64], r: &[u64], id: LaneId) -> Answer
     requires { StoreInOrder t.old r.now }
     ensures { (result, t.new, r.now) ≡ resume t.old r.now id }
 {
-    match refusal::id_verdict(t, id) {
-        Verdict::Refuse { why } => Answer::Refused { why: why },
-        Verdict::Pass => {
-            let l = Lane::load(t, id.key.slot);
-            resume_lane(t, l);
-            Answer::Done
-        }
-    }
+    with_lane(t, id, resume_lane)
 }
 
 // Out of the queue, and retired; the items of its ring are held no more.
@@ -90,14 +96,7 @@ pub fn close_lane(t: &mut [u64], r: &[u64], id: LaneId) -> Answer
     requires { StoreInOrder t.old r.now }
     ensures { (result, t.new, r.now) ≡ close_lane t.old r.now id }
 {
-    match refusal::id_verdict(t, id) {
-        Verdict::Refuse { why } => Answer::Refused { why: why },
-        Verdict::Pass => {
-            let l = Lane::load(t, id.key.slot);
-            close(t, l);
-            Answer::Done
-        }
-    }
+    with_lane(t, id, close)
 }
 
 // The receiver goes; its lanes stay as they are, and their senders find it closed.
@@ -106,8 +105,8 @@ pub fn close_receiver(t: &mut [u64], r: &[u64]) -> Answer
     ensures { (result, t.new, r.now) ≡ close_receiver t.old r.now }
 {
     match refusal::receiver_verdict(t) {
-        Verdict::Refuse { why } => Answer::Refused { why: why },
-        Verdict::Pass => {
+        Err(why) => Answer::Refused { why },
+        Ok(()) => {
             t[Header::ALIVE] = 0;
             Answer::Done
         }

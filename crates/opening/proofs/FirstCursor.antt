@@ -13,8 +13,8 @@ use Rattle.lane.specs.Lane.{new_lane}
 use Rattle.lane.specs.Table.{HasRow, lane_at}
 use Rattle.lane.proofs.TableLaws.{frames, has_row}
 use Rattle.queues.specs.Header.{first_cursor}
-use Rattle.store.specs.declared.refusal.Verdict.{Verdict}
-use Rattle.store.specs.declared.refusal.Verdict.TheVariants.{Pass, Refuse}
+use Rattle.store.specs.Refusal.{Verdict}
+use Rattle.std.specs.Prelude.{Ok, Err}
 use Rattle.store.specs.Order.{StoreInOrder}
 use Rattle.store.specs.Words.{unless_refused}
 use Rattle.opening.specs.Opening.{open_store}
@@ -29,7 +29,7 @@ opening_puts_cursor o t r e = let a = accepted o t r e in rw a.leaves (hd o t r 
 
 module _ (t r : List ℕ) (o : StoreInOrder t r) (most : ℕ) where
   -- the slot that is due has its lane new, whether it is the next unused one or a freed one
-  due_lane_new : (d : ℕ) → slot_verdict t d ≡ Pass → lane_at (register_lane t d (due_key t d)) (due_key t d).slot ≡ new_lane (due_key t d) (first_cursor t)
+  due_lane_new : (d : ℕ) → slot_verdict t d ≡ Ok (tt {0}) → lane_at (register_lane t d (due_key t d)) (due_key t d).slot ≡ new_lane (due_key t d) (first_cursor t)
   unfolding register_lane
   due_lane_new d e =
       let below = due_in t d o.stores.shaped (free_issued t r o) (register_room t r o d e).due in
@@ -43,9 +43,9 @@ module _ (t r : List ℕ) (o : StoreInOrder t r) (most : ℕ) where
     where
       go : (v w : Verdict) → slot_verdict t (passed_over t) ≡ w → let d = passed_over t in let u = unless_refused v t r (unless_refused w t r (Registered (due_key t d), register_lane t d (due_key t d), r)) in
           u.0 ≡ Registered k → lane_at u.1 k.slot ≡ new_lane k (first_cursor t)
-      go Pass Pass a b = let same : due_key t (passed_over t) ≡ k = cc in rw (← same) (due_lane_new (passed_over t) a)
-      go Pass (Refuse why) a b = let z : ◌≡◌ {A = ℕ} 0 1 = cc in absurd (omega arith)
-      go (Refuse why) w a b = let z : ◌≡◌ {A = ℕ} 0 1 = cc in absurd (omega arith)
+      go (Ok n) (Ok m) a b = let same : due_key t (passed_over t) ≡ k = cc in rw (← same) (due_lane_new (passed_over t) a)
+      go (Ok n) (Err why) a b = let z : ◌≡◌ {A = ℕ} 0 1 = cc in absurd (omega arith)
+      go (Err why) w a b = let z : ◌≡◌ {A = ℕ} 0 1 = cc in absurd (omega arith)
 
   -- so its tail, released head, head and known tail are the first cursor
   pub registered_starts : (k : LaneKey) → (register_sender t r most).0 ≡ Registered k → StartsAt (first_cursor t) (lane_at (register_sender t r most).1 k.slot)

@@ -1,16 +1,18 @@
 -- What an opening's tests say when they pass, and the doublings that round a capacity up.
 -- Assumes nothing.
-use mathlib.Core.Path.{◌≡◌, refl}
-use mathlib.Core.Logic.{◌≢◌}
-use Prim.Native.Nat.{ℕ, zero, suc, ◌+◌, ◌-◌, ◌*◌, ◌^◌, ◌≤◌, ◌<◌}
+use Rattle.std.specs.Prelude.{Ok}
+use Rattle.std.specs.Int.{IsPowerOfTwo}
+use mathlib.Core.Path.{◌≡◌, refl, sym, ap, ◌∙◌}
+use mathlib.Core.Bool.{Bool, true, false}
+use Prim.Native.Nat.{ℕ, zero, suc, ◌+◌, ◌*◌, ◌/◌, ◌^◌, ◌≤◌, ◌<◌, max}
 use native.Mathlib.Nat.{pow-le-pow_right}
 use native.Mathlib.Omega.{arith}
-use borrow.Author.Tests.{leb-true, le-leb, lt-leb}
+use borrow.Author.Tests.{leb-true, leb-false}
 use lib.Dec.{leb}
+use Rattle.model.specs.Lists.{if}
 use Rattle.model.specs.declared.Opening.{Opening}
 use Rattle.model.specs.Opening.{doubled_until, next_power_of_two}
 use Rattle.lane.specs.Table.{header_words, row_words}
-use Rattle.store.specs.declared.refusal.Verdict.TheVariants.{Pass}
 use Rattle.opening.specs.Opening.{sizes_verdict, stores_verdict}
 use Rattle.store.proofs.RefusalLaws.{passes}
 
@@ -21,7 +23,7 @@ pub record Sized (o : Opening) : Type 0 where
   pub slots_some : 1 ≤ o.slots
   pub slots_most : o.slots ≤ 8192
 
-pub sizes_pass : (o : Opening) → sizes_verdict o ≡ Pass → Sized o
+pub sizes_pass : (o : Opening) → sizes_verdict o ≡ Ok (tt {0}) → Sized o
 unfolding sizes_verdict
 sizes_pass o e =
     let a = passes (leb 1 o.capacity) _ _ e in
@@ -35,50 +37,43 @@ sizes_pass o e =
       slots_most = leb-true _ _ d.0;
     }
 
-pub stores_pass : (S C table rings : ℕ) → stores_verdict S C table rings ≡ Pass → (S * C ≤ rings) × (row_words * S + header_words ≤ table)
+pub stores_pass : (S C table rings : ℕ) → stores_verdict S C table rings ≡ Ok (tt {0}) → (S * C ≤ rings) × (row_words * S + header_words ≤ table)
 unfolding stores_verdict
 stores_pass S C table rings e =
     let a = passes (leb (S * C) rings) _ _ e in
     let b = passes (leb (row_words * S + header_words) table) _ _ a.1 in
     (leb-true _ _ a.0, leb-true _ _ b.0)
 
--- a capacity is rounded up by doublings, of which `left` may still come
-pub record Doubling (capacity left power : ℕ) : Type 0 where
-  pub left_most : left ≤ 16
-  pub is : power ≡ 2 ^ (16 - left)
-  pub same : doubled_until left power capacity ≡ next_power_of_two capacity
+-- ---- a capacity rounded up by doublings is the least power of two that is not below it
 
-pub doubling_start : (capacity : ℕ) → Doubling capacity 16 1
-doubling_start capacity = record { left_most = omega arith; is = refl; same = refl }
-
-pub doubling_most : {capacity left power : ℕ} → Doubling capacity left power → power ≤ 65536
-doubling_most {left = left} d = rw d.is (pow-le-pow_right {n = 2} (omega arith) (most left))
+-- j is the logarithm of what is reached, and k that of the least power
+rounds : (n j k c : ℕ) → j ≤ k → k ≤ j + n → c ≤ 2 ^ k → 2 ^ k / 2 < max 1 c → doubled_until n (2 ^ j) c ≡ 2 ^ k
+unfolding doubled_until
+rounds zero j k c h l b u = ap (λ (i : ℕ). 2 ^ i) (omega arith)
+rounds (suc n) j k c h l b u = go (leb c (2 ^ j)) refl (λ m. rounds n (suc j) k c m (omega arith) b u)
   where
-    most : (n : ℕ) → 16 - n ≤ 16
-    most n = omega arith
+    no_less : c ≤ 2 ^ j → j < k → ⊥
+    no_less g m =
+        let z : 0 ≤ j = omega arith in
+        let some : 1 ≤ 2 ^ j = pow-le-pow_right {n = 2} (omega arith) z in
+        let twofold : 2 ^ suc j ≤ 2 ^ k = pow-le-pow_right {n = 2} (omega arith) m in
+        omega (arith, some, twofold, g, u)
 
-pub doubling_next : (capacity left power : ℕ) → left ≢ 0 → power < capacity → Doubling capacity left power → Doubling capacity (left - 1) (power + power)
-unfolding doubled_until
-doubling_next capacity zero power h l d = absurd (h refl)
-doubling_next capacity (suc n) power h l d =
-    let e : suc n - 1 ≡ n = omega arith in
-    let k : 16 - n ≡ suc (16 - suc n) = omega (arith, d.left_most) in
-    rw e (record {
-      left_most = omega (arith, d.left_most);
-      is = rw k (twice (16 - suc n) power d.is);
-      same = rw (lt-leb capacity power l) at d.same;
-    })
-  where
-    twice : (j p : ℕ) → p ≡ 2 ^ j → p + p ≡ 2 ^ suc j
-    twice j p e = omega (arith, e)
+    no_more : 2 ^ j < c → k ≤ j → ⊥
+    no_more g m = let less : 2 ^ k ≤ 2 ^ j = pow-le-pow_right {n = 2} (omega arith) m in omega (arith, less, g, b)
 
--- no doubling is left, or none is needed
-pub doubling_ends : (capacity left power : ℕ) → left ≡ 0 → Doubling capacity left power → power ≡ next_power_of_two capacity
-unfolding doubled_until
-doubling_ends capacity zero power e d = d.same
-doubling_ends capacity (suc n) power e d = absurd (omega arith)
+    twice : 2 ^ j + 2 ^ j ≡ 2 ^ suc j
+    twice = omega arith
 
-pub doubling_stops : (capacity left power : ℕ) → capacity ≤ power → Doubling capacity left power → power ≡ next_power_of_two capacity
-unfolding doubled_until
-doubling_stops capacity zero power h d = d.same
-doubling_stops capacity (suc n) power h d = rw (le-leb capacity power h) at d.same
+    go : (a : Bool) → leb c (2 ^ j) ≡ a → (j < k → doubled_until n (2 ^ suc j) c ≡ 2 ^ k) → if a (2 ^ j) (doubled_until n (2 ^ j + 2 ^ j) c) ≡ 2 ^ k
+    go true e more = let n : j < k → ⊥ = no_less (leb-true _ _ e) in ap (λ (i : ℕ). 2 ^ i) (omega (arith, n))
+    go false e more = let m : k ≤ j → ⊥ = no_more (leb-false _ _ e) in rw twice (more (omega (arith, m)))
+
+pub rounded : (c p : ℕ) → IsPowerOfTwo p → c ≤ p → p / 2 < max 1 c → c ≤ 65536 → (p ≡ next_power_of_two c) × (p ≤ 65536)
+rounded c p w b u m =
+    let k = w.0 in
+    let e : p ≡ 2 ^ k = w.1 in
+    let large : 17 ≤ k → ⊥ = λ h. let l : 131072 ≤ 2 ^ k = pow-le-pow_right {n = 2} (omega arith) h in omega (arith, l, e, u, m) in
+    let small : k ≤ 16 = omega (arith, large) in
+    let most : 2 ^ k ≤ 65536 = pow-le-pow_right {n = 2} (omega arith) small in
+    (e ∙ sym (rounds 16 0 k c (omega arith) (omega arith) (omega (arith, e, b)) (rw e at u)), omega (arith, e, most))

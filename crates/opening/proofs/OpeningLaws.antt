@@ -28,8 +28,8 @@ use Rattle.lane.specs.Table.{head, cell_at, header_words, row_words}
 use Rattle.queues.specs.Header.{issued, held_count, new_header, header_list, put_header}
 use Rattle.queues.specs.Queue.{queue_of}
 use Rattle.queues.proofs.HeaderLaws.{shaped_opened, queue_opened, free_opened, head_opened}
-use Rattle.store.specs.declared.refusal.Verdict.{Verdict}
-use Rattle.store.specs.declared.refusal.Verdict.TheVariants.{Pass, Refuse}
+use Rattle.store.specs.Refusal.{Verdict}
+use Rattle.std.specs.Prelude.{Ok, Err}
 use Rattle.store.specs.View.{flag, view}
 use Rattle.store.specs.Order.{Stores, StoreInOrder}
 use Rattle.store.specs.Words.{Words, unless_refused}
@@ -62,8 +62,8 @@ module _ (o : Opening) (t r : List ℕ) where
       (go (ltb o.capacity 1) (ltb 65536 o.capacity) (ltb o.slots 1) (ltb 8192 o.slots))
     where
       go : (a b c d : Bool)
-          → cond (not a) (cond (not b) (cond (not c) (cond (not d) Pass (Refuse SlotsOutOfRange)) (Refuse SlotsOutOfRange)) (Refuse CapacityOutOfRange)) (Refuse CapacityOutOfRange)
-          ≡ if (either a b) (Refuse CapacityOutOfRange) (if (either c d) (Refuse SlotsOutOfRange) Pass)
+          → cond (not a) (cond (not b) (cond (not c) (cond (not d) (Ok (tt {0})) (Err SlotsOutOfRange)) (Err SlotsOutOfRange)) (Err CapacityOutOfRange)) (Err CapacityOutOfRange)
+          ≡ if (either a b) (Err CapacityOutOfRange) (if (either c d) (Err SlotsOutOfRange) (Ok (tt {0})))
       go true b c d = refl
       go false true c d = refl
       go false false true d = refl
@@ -75,7 +75,7 @@ module _ (o : Opening) (t r : List ℕ) where
   stores_alike =
       rw (not_below (length r) (o.slots * C), not_below (length t) (16 * o.slots + 512)) (go (ltb (length r) (o.slots * C)) (ltb (length t) (16 * o.slots + 512)))
     where
-      go : (a b : Bool) → cond (not a) (cond (not b) Pass (Refuse TableStoreShort)) (Refuse RingStoreShort) ≡ if a (Refuse RingStoreShort) (if b (Refuse TableStoreShort) Pass)
+      go : (a b : Bool) → cond (not a) (cond (not b) (Ok (tt {0})) (Err TableStoreShort)) (Err RingStoreShort) ≡ if a (Err RingStoreShort) (if b (Err TableStoreShort) (Ok (tt {0})))
       go true b = refl
       go false true = refl
       go false false = refl
@@ -114,11 +114,11 @@ module _ (o : Opening) (t r : List ℕ) where
 
       go : (v : Verdict) → sizes_verdict o ≡ v → (w : Verdict) → stores_verdict o.slots C (length t) (length r) ≡ w
           → (unless_refused v t r (unless_refused w t r (Done, put_header t (new_header o C), r))).0 ≡ Done → Accepted
-      go Pass a Pass b e =
+      go (Ok u) a (Ok n) b e =
           let p = stores_pass o.slots C (length t) (length r) b in
           record { sized = sizes_pass o a; rings_room = p.0; table_room = p.1; leaves = rw (a, b) }
-      go Pass a (Refuse why) b e = refused e
-      go (Refuse why) a w b e = refused e
+      go (Ok u) a (Err why) b e = refused e
+      go (Err why) a w b e = refused e
 
   module _ (a : Accepted) (e : (open_store o t r).0 ≡ Done) where
     abbrev pub u : List ℕ

@@ -1,7 +1,7 @@
 -- The test that computes says yes exactly if the stores are in order.
 -- Assumes nothing.
 use mathlib.Core.Path.{◌≡◌, ap, ◌∙◌}
-use mathlib.Core.Bool.{Bool, true, false}
+use mathlib.Core.Bool.{true, false}
 use mathlib.Core.List.{List, [], ◌∷◌}
 use Prim.Native.Nat.{ℕ, ◌^◌, ◌<◌}
 use native.Mathlib.Omega.{arith}
@@ -21,7 +21,7 @@ use Rattle.ready.specs.Ready.{group_count}
 use Rattle.store.specs.Order.{Flags, Fast, StoreInOrder}
 use Rattle.order_slot.specs.Tells.{Tells, yes, no}
 use Rattle.order_slot.specs.Clauses.{LengthsHold, PlacesHold, LimitsHold, HeaderHolds, Names, RegisteredHolds, UnregisteredHolds, SlotHolds, SlotsHold, CountsHold, PageHolds, GroupHolds, PagesHold, GroupsHold, Clauses}
-use Rattle.order_slot.proofs.TellsLaws.{told, untold, tells_true, tells_of}
+use Rattle.order_slot.proofs.TellsLaws.{tells_true, tells_of}
 use Rattle.order.specs.InOrder.{capacity_test, lengths_test, places_test, limits_test, header_test, names_test, cursors_test, amounts_test, lane_test, is_first, fast_test, flags_test, registered_test, unregistered_test, slot_test, slots_test, counts_test, pages_of, page_test, group_test, pages_test, groups_test, in_order}
 use Rattle.order.proofs.ClauseLaws as clauses
 use Rattle.order.proofs.TestLaws.{tells_same, tells_less, tells_most, tells_equal, tells_not, tells_both, tells_field, tells_implies, tells_all_below, tells_all_where, tells_some_below}
@@ -247,18 +247,8 @@ module _ (t r : List ℕ) where
   pub in_order_tells : Tells (StoreInOrder t r) (in_order t r)
   in_order_tells = tells_of (clauses.holds_in_order t r) (clauses.in_order_holds t r) clauses_tell
 
-  pub in_order_true : in_order t r ≡ true → StoreInOrder t r
-  in_order_true e = told in_order_tells e
-
-  pub in_order_false : in_order t r ≡ false → StoreInOrder t r → ⊥
-  in_order_false e = untold in_order_tells e
-
   pub in_order_passes : StoreInOrder t r → in_order t r ≡ true
   in_order_passes o = tells_true in_order_tells o
 
   pub in_order_fails : (StoreInOrder t r → ⊥) → in_order t r ≡ false
   in_order_fails f = tells_same in_order_tells (no f)
-
-  -- whatever tests the stores has this answer
-  pub answer_in_order : {a : Bool} → Tells (StoreInOrder t r) a → a ≡ in_order t r
-  answer_in_order u = tells_same u in_order_tells

@@ -1,13 +1,14 @@
 -- Laws of the tests of page and group words.
 -- Assumes nothing.
 use mathlib.Core.Path.{◌≡◌, refl, sym, ap, ◌∙◌, subst}
-use mathlib.Core.Bool.{Bool, true, false}
+use mathlib.Core.Bool.{Bool, true, false, not}
 use mathlib.Core.List.{List}
 use Prim.Native.Nat.{ℕ, zero, suc, ◌+◌, ◌-◌, ◌*◌, ◌/◌, ◌%◌, ◌^◌, ◌≤◌, ◌<◌}
 use native.Mathlib.Nat.{pos_of_ne-zero, div-div-eq-div-mul}
 use native.Mathlib.Omega.{arith}
-use borrow.Author.Tests.{ltb-true, ltb-false, eqb-true, eqb-false}
+use borrow.Author.Tests.{ltb-true, ltb-false, eqb-true, eqb-false, ne_eqb}
 use lib.Count.{count_trailing_zeros}
+use mir.Val.{bool_byte}
 use lib.Dec.{ltb, eqb}
 use lib.Pow.{pow-add, shr_lt}
 use Rattle.ready.specs.Bits.{bit}
@@ -51,9 +52,10 @@ shifted_tells w k h l = tells_eq (w / 2 ^ k) 0 (λ z b g e. bit_low w k b z e) (
         let b = bit_high w k h l (eqb-false (w / 2 ^ k) 0 q) in
         absurd (omega (arith, b.1, p b.0 b.2 b.3))
 
-pub non_zero_some : (w : ℕ) → (w ≡ 0 → ⊥) → 1 ≡ non_zero w
-non_zero_some zero h = absurd (h refl)
-non_zero_some (suc w) h = refl
+-- a truth value as a word
+pub as_bit : (w : ℕ) → bool_byte (not (eqb w 0)) ≡ non_zero w
+as_bit zero = refl
+as_bit (suc w) = ap (λ (b : Bool). bool_byte (not b)) (ne_eqb (suc w) 0 (λ e. absurd (omega arith)))
 
 -- ---- a page and a group, in the words of the code
 

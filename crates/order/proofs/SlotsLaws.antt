@@ -103,17 +103,15 @@ module _ (t queued free : List ℕ) where
     all : k ≡ issued t
     all = omega (arith, o.below)
 
-    pub lanes_no : (lanes ≡ lane_count t → ⊥) → SlotsHold t (has queued) (has free) × CountsHold t → ⊥
-    lanes_no d p = d (o.lanes_is ∙ ap (registered_below t) all ∙ sym p.1.lanes)
-
-    pub living_no : (living ≡ living_count t → ⊥) → SlotsHold t (has queued) (has free) × CountsHold t → ⊥
-    living_no d p = d (o.living_is ∙ ap (living_below t) all ∙ sym p.1.living)
-
     walked : held ≡ walked_held t
     walked = o.held_is ∙ ap (λ (n : ℕ). held_from t n 0) all
 
-    pub held_no : (held ≡ held_count t → ⊥) → SlotsHold t (has queued) (has free) × CountsHold t → ⊥
-    held_no d p = d (walked ∙ sym p.1.held)
+    pub scan_counts : SlotsHold t (has queued) (has free) × CountsHold t → (lanes ≡ lane_count t) × (living ≡ living_count t) × (held ≡ held_count t)
+    scan_counts p = (
+      o.lanes_is ∙ ap (registered_below t) all ∙ sym p.1.lanes,
+      o.living_is ∙ ap (living_below t) all ∙ sym p.1.living,
+      walked ∙ sym p.1.held,
+    )
 
     pub scan_all : lanes ≡ lane_count t → living ≡ living_count t → held ≡ held_count t → SlotsHold t (has queued) (has free) × CountsHold t
     scan_all e g i = (

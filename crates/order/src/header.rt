@@ -18,11 +18,8 @@ const MOST_LOG: u32 = 16;
 fn is_capacity(c: u64) -> bool
     ensures { Tells (Capacity c) result }
 {
-    let log = u64::trailing_zeros(c);
-    if log > MOST_LOG {
-        return false;
-    }
-    c == 1 << log
+    let log = c.trailing_zeros();
+    log <= MOST_LOG && c == 1 << log
 }
 
 fn lengths_hold(t: &[u64], r: &[u64]) -> bool
@@ -32,20 +29,12 @@ fn lengths_hold(t: &[u64], r: &[u64]) -> bool
         return false;
     }
     let slots = t[Header::SLOTS];
-    if slots == 0 {
-        return false;
-    }
-    if slots > MOST_SLOTS {
-        return false;
-    }
-    if t.len() < Lane::HEADER_WORDS + Lane::ROW_WORDS * slots as usize {
-        return false;
-    }
     let capacity = t[Header::CAPACITY];
-    if !is_capacity(capacity) {
-        return false;
-    }
-    r.len() >= (slots * capacity) as usize
+    1 <= slots
+        && slots <= MOST_SLOTS
+        && Lane::HEADER_WORDS + Lane::ROW_WORDS * slots as usize <= t.len()
+        && is_capacity(capacity)
+        && (slots * capacity) as usize <= r.len()
 }
 
 fn places_hold(t: &[u64]) -> bool
@@ -53,43 +42,24 @@ fn places_hold(t: &[u64]) -> bool
     ensures { Tells (PlacesHold t.now) result }
 {
     let slots = t[Header::SLOTS];
-    if t[Header::ISSUED] > slots {
-        return false;
-    }
-    if t[Header::FRONT] >= slots {
-        return false;
-    }
-    if t[Header::QUEUED] > slots {
-        return false;
-    }
-    if t[Header::FREE] > slots {
-        return false;
-    }
-    t[Header::FAST] < slots
+    t[Header::ISSUED] <= slots
+        && t[Header::FRONT] < slots
+        && t[Header::QUEUED] <= slots
+        && t[Header::FREE] <= slots
+        && t[Header::FAST] < slots
 }
 
 fn limits_hold(t: &[u64]) -> bool
     requires { (header_words ≤ length t.now) × (issued t.now ≤ 8192) }
     ensures { Tells (LimitsHold t.now) result }
 {
-    if t[Header::ALIVE] > 1 {
-        return false;
-    }
-    if t[Header::BUDGET] > Header::POLL_BUDGET {
-        return false;
-    }
-    let lanes = Group::LANES_PER_GROUP as u64;
-    t[Header::GROUP] <= (t[Header::ISSUED] + (lanes - 1)) / lanes
+    t[Header::ALIVE] <= 1
+        && t[Header::GROUP] <= t[Header::ISSUED].div_ceil(Group::LANES_PER_GROUP as u64)
+        && t[Header::BUDGET] <= Header::POLL_BUDGET
 }
 
 pub(crate) fn header_holds(t: &[u64], r: &[u64]) -> bool
     ensures { Tells (HeaderHolds t.now r.now) result }
 {
-    if !lengths_hold(t, r) {
-        return false;
-    }
-    if !places_hold(t) {
-        return false;
-    }
-    limits_hold(t)
+    lengths_hold(t, r) && places_hold(t) && limits_hold(t)
 }

@@ -2,7 +2,6 @@
 ghost use Rattle.std.specs.Prelude.{◌≡◌, ℕ, ◌*◌, ◌<◌};
 ghost use Rattle.queues.specs.Header.{Shaped, issued};
 ghost use Rattle.ready.specs.Bits.{bit};
-ghost use Rattle.ready.specs.Ready.{non_zero};
 ghost use Rattle.order_slot.specs.Tells.{Tells};
 ghost use Rattle.order_slot.specs.Clauses.{PageHolds, GroupHolds, PagesHold, GroupsHold};
 
@@ -13,16 +12,7 @@ use ready::ready::{Group, Page};
 fn bits_below(word: u64, n: u64) -> bool
     ensures { Tells ((b : ℕ) → b < 64 → bit word b ≡ 1 → b < n) result }
 {
-    if n >= 64 {
-        return true;
-    }
-    word >> n == 0
-}
-
-fn non_zero(word: u64) -> u64
-    ensures { result ≡ non_zero word }
-{
-    if word == 0 { 0 } else { 1 }
+    n >= 64 || word >> n == 0
 }
 
 fn page_holds(t: &[u64], page: usize) -> bool
@@ -31,13 +21,11 @@ fn page_holds(t: &[u64], page: usize) -> bool
 {
     let word = Page::load(t, page).bits;
     let group = Group::load(t, page / Group::PAGES_PER_GROUP).bits;
-    if (group >> (page % Group::PAGES_PER_GROUP)) % 2 != non_zero(word) {
-        return false;
-    }
-    bits_below(
-        word,
-        t[Header::ISSUED] - (Page::LANES_PER_PAGE * page) as u64,
-    )
+    (group >> (page % Group::PAGES_PER_GROUP)) % 2 == u64::from(word != 0)
+        && bits_below(
+            word,
+            t[Header::ISSUED] - (Page::LANES_PER_PAGE * page) as u64,
+        )
 }
 
 // A group's bits are of pages that exist.
@@ -45,25 +33,23 @@ fn group_holds(t: &[u64], group: usize) -> bool
     requires { Shaped t.now × (4096 * group < issued t.now) }
     ensures { Tells (GroupHolds t.now group) result }
 {
-    let lanes = Page::LANES_PER_PAGE as u64;
-    let pages = (t[Header::ISSUED] + (lanes - 1)) / lanes;
+    let pages = t[Header::ISSUED].div_ceil(Page::LANES_PER_PAGE as u64);
     bits_below(
         Group::load(t, group).bits,
         pages - (Group::PAGES_PER_GROUP * group) as u64,
     )
 }
 
+// Two loops, of pages and of groups: `(0..n).all(..)` was tried, and the proof that it tells each page from its runs of calls did not close.
 pub(crate) fn pages_hold(t: &[u64]) -> bool
     requires { Shaped t.now }
     ensures { Tells (PagesHold t.now) result }
 {
-    let issued = t[Header::ISSUED] as usize;
-    let mut page = 0;
-    while Page::LANES_PER_PAGE * page < issued {
+    let n = t[Header::ISSUED].div_ceil(Page::LANES_PER_PAGE as u64) as usize;
+    for page in 0..n {
         if !page_holds(t, page) {
             return false;
         }
-        page += 1;
     }
     true
 }
@@ -72,13 +58,11 @@ pub(crate) fn groups_hold(t: &[u64]) -> bool
     requires { Shaped t.now }
     ensures { Tells (GroupsHold t.now) result }
 {
-    let issued = t[Header::ISSUED] as usize;
-    let mut group = 0;
-    while Group::LANES_PER_GROUP * group < issued {
+    let n = t[Header::ISSUED].div_ceil(Group::LANES_PER_GROUP as u64) as usize;
+    for group in 0..n {
         if !group_holds(t, group) {
             return false;
         }
-        group += 1;
     }
     true
 }

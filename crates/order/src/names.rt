@@ -1,5 +1,6 @@
 // The two lists of slots, the queue and the free list: what they name is issued, and nothing is named twice.
-ghost use Rattle.std.specs.Prelude.{◌≡◌, true, ◌+◌, ◌%◌, ◌≤◌, ◌<◌, replicate};
+ghost use Rattle.std.specs.Prelude.{◌≡◌, true, ℕ, ◌≤◌, ◌<◌, replicate};
+ghost use Rattle.yring.specs.Lists.{tab};
 ghost use Rattle.queues.specs.Header.{Shaped, issued};
 ghost use Rattle.queues.specs.Queue.{queue_of};
 ghost use Rattle.queues.specs.Registry.{free_of};
@@ -7,61 +8,48 @@ ghost use Rattle.order_slot.specs.Tells.{Tells};
 ghost use Rattle.order_slot.specs.Clauses.{Names};
 ghost use Rattle.order.specs.Seen.{Seen};
 
-use crate::seen;
+use crate::seen::Bitmap;
 use lane::table;
 use queues::header::Header;
 use queues::{queue, registry};
 
-// The row after `row`, round a ring of `slots`.
-fn next_row(row: usize, slots: u64) -> usize
-    requires { (row < slots) × (slots ≤ 8192) }
-    ensures { result ≡ (row + 1) % slots }
+// Notes the `n` slots that `slot_at` answers in `seen`, and says whether each is issued and none is there twice. The set is lent, and not handed
+// back in an Option, as a kilobyte would be moved with it.
+fn note_all<F: Fn(u64) -> u64>(seen: &mut Bitmap, n: u64, issued: u64, slot_at: F) -> bool
+    requires callable { (k : ℕ) → k < n → F.pre slot_at k }
+    requires issued_most { issued ≤ 8192 }
+    requires empty { seen.old.words ≡ replicate 128 0 }
+    ensures tells { (f : ℕ → ℕ) → ((k y : ℕ) → k < n → F.post slot_at k y → y ≡ f k) → Tells (Names issued (tab n f)) result }
+    ensures seen { (f : ℕ → ℕ) → ((k y : ℕ) → k < n → F.post slot_at k y → y ≡ f k) → result ≡ true → Seen seen.new.words (tab n f) }
 {
-    if row + 1 == slots as usize {
-        return 0;
+    for k in 0..n {
+        if !seen.note(slot_at(k), issued) {
+            return false;
+        }
     }
-    row + 1
+    true
 }
 
 // Leaves the set of the queue's slots.
-pub(crate) fn queue_holds(t: &[u64], seen: &mut [u64; 128]) -> bool
-    requires { Shaped t.now × (seen.old ≡ replicate 128 0) }
+pub(crate) fn queue_holds(t: &[u64], seen: &mut Bitmap) -> bool
+    requires { Shaped t.now × (seen.old.words ≡ replicate 128 0) }
     ensures tells { Tells (Names (issued t.now) (queue_of t.now)) result }
-    ensures seen { result ≡ true → Seen seen.new (queue_of t.now) }
+    ensures seen { result ≡ true → Seen seen.new.words (queue_of t.now) }
 {
-    let issued = t[Header::ISSUED];
-    let n = t[Header::QUEUED];
+    let front = t[Header::FRONT];
     let slots = t[Header::SLOTS];
-    let mut row = t[Header::FRONT] as usize;
-    let mut k = 0;
-    while k < n {
-        if !seen::note(seen, table::cell(t, queue::COLUMN, row), issued) {
-            return false;
-        }
-        row = next_row(row, slots);
-        k += 1;
-    }
-    true
+    note_all(seen, t[Header::QUEUED], t[Header::ISSUED], |k| {
+        table::cell(t, queue::COLUMN, queue::row_of(front, k, slots))
+    })
 }
 
 // Leaves the set of the free slots.
-pub(crate) fn free_holds(t: &[u64], seen: &mut [u64; 128]) -> bool
-    requires { Shaped t.now × (seen.old ≡ replicate 128 0) }
+pub(crate) fn free_holds(t: &[u64], seen: &mut Bitmap) -> bool
+    requires { Shaped t.now × (seen.old.words ≡ replicate 128 0) }
     ensures tells { Tells (Names (issued t.now) (free_of t.now)) result }
-    ensures seen { result ≡ true → Seen seen.new (free_of t.now) }
+    ensures seen { result ≡ true → Seen seen.new.words (free_of t.now) }
 {
-    let issued = t[Header::ISSUED];
-    let n = t[Header::FREE];
-    let mut k = 0;
-    while k < n {
-        k += 1;
-        if !seen::note(
-            seen,
-            table::cell(t, registry::COLUMN, (n - k) as usize),
-            issued,
-        ) {
-            return false;
-        }
-    }
-    true
+    note_all(seen, t[Header::FREE], t[Header::ISSUED], |d| {
+        registry::freed_at(t, d)
+    })
 }

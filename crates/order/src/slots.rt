@@ -5,43 +5,31 @@ ghost use Rattle.order_slot.specs.Tells.{Tells};
 ghost use Rattle.order_slot.specs.Clauses.{SlotsHold, CountsHold};
 ghost use Rattle.order.specs.Seen.{has};
 
-use crate::seen;
+use crate::seen::Bitmap;
 use lane::lane::Lane;
 use order_slot::slot as each;
 use queues::header::Header;
 use yring::release;
 
 // Whether every issued slot is in order, and the counts of lanes, living senders and held items are true.
-pub(crate) fn slots_hold(t: &[u64], queued: &[u64; 128], free: &[u64; 128]) -> bool
+pub(crate) fn slots_hold(t: &[u64], queued: &Bitmap, free: &Bitmap) -> bool
     requires { Shaped t.now × Capacity (capacity t.now) }
-    ensures { Tells (SlotsHold t.now (has queued.now) (has free.now) × CountsHold t.now) result }
+    ensures { Tells (SlotsHold t.now (has queued.now.words) (has free.now.words) × CountsHold t.now) result }
 {
     let batch = release::release_batch(t[Header::CAPACITY]);
-    let n = t[Header::ISSUED];
     let mut lanes = 0;
     let mut living = 0;
     let mut held = 0;
-    let mut slot = 0;
-    while slot < n {
+    for slot in 0..t[Header::ISSUED] {
         let l = Lane::load(t, slot);
-        let q = seen::has(queued, slot as usize);
-        let f = seen::has(free, slot as usize);
+        let q = queued.has(slot as usize);
+        let f = free.has(slot as usize);
         if !each::slot_holds(t, l, slot, q, f, batch) {
             return false;
         }
         lanes += l.registered;
         living += l.living;
         held += each::held_in(l);
-        slot += 1;
     }
-    if lanes != t[Header::LANES] {
-        return false;
-    }
-    if living != t[Header::LIVING] {
-        return false;
-    }
-    if held != t[Header::HELD] {
-        return false;
-    }
-    true
+    lanes == t[Header::LANES] && living == t[Header::LIVING] && held == t[Header::HELD]
 }

@@ -4,6 +4,7 @@ use mathlib.Core.Path.{◌≡◌, sym, ap, ◌∙◌}
 use mathlib.Core.Bool.{Bool}
 use mathlib.Core.List.{List, [], ◌∷◌}
 use Prim.Native.Nat.{ℕ, zero, suc, ◌<◌}
+use native.Mathlib.Nat.{pos_of_ne-zero}
 use native.Mathlib.Omega.{arith}
 use lib.ListN.{get_or, length, take}
 use Rattle.lane.specs.declared.lane.Lane.{Lane}
@@ -19,7 +20,7 @@ use Rattle.order_slot.proofs.TellsLaws.{tells_of}
 -- ---- the front of the queue
 
 module _ (t : List ℕ) where
-  pub no_front : {x : ℕ} → queue_count t ≡ 0 → take 1 (queue_of t) ≡ x ∷ [] → ⊥
+  no_front : {x : ℕ} → queue_count t ≡ 0 → take 1 (queue_of t) ≡ x ∷ [] → ⊥
   unfolding queue_of
   no_front {x} e p = go (queue_count t) _ e p
     where
@@ -27,15 +28,17 @@ module _ (t : List ℕ) where
       go zero f e p = let z : ◌≡◌ {A = ℕ} 0 1 = ap length p in omega arith
       go (suc n) f e p = absurd (omega arith)
 
-  module _ (s : Shaped t) (h : 0 < queue_count t) where
-    front_taken : take 1 (queue_of t) ≡ front_slot t ∷ []
-    front_taken = ap (take 1) (queue_front_lem t s h)
+  module _ (s : Shaped t) where
+    front_taken : 0 < queue_count t → take 1 (queue_of t) ≡ front_slot t ∷ []
+    front_taken h = ap (take 1) (queue_front_lem t s h)
 
-    pub front_alone : {x : ℕ} → front_slot t ≡ x → take 1 (queue_of t) ≡ x ∷ []
-    front_alone e = front_taken ∙ ap (λ (y : ℕ). y ∷ []) e
+    pub front_alone : {x : ℕ} → 0 < queue_count t → front_slot t ≡ x → take 1 (queue_of t) ≡ x ∷ []
+    front_alone h e = front_taken h ∙ ap (λ (y : ℕ). y ∷ []) e
 
-    pub not_front : {x f : ℕ} → f ≡ front_slot t → (f ≡ x → ⊥) → take 1 (queue_of t) ≡ x ∷ [] → ⊥
-    not_front e d p = d (e ∙ ap (λ (l : List ℕ). get_or l 0 0) (sym front_taken ∙ p))
+    pub front_is : {x : ℕ} → take 1 (queue_of t) ≡ x ∷ [] → (0 < queue_count t) × (front_slot t ≡ x)
+    front_is p =
+        let h : 0 < queue_count t = pos_of_ne-zero (λ e. no_front e p) in
+        (h, ap (λ (l : List ℕ). get_or l 0 0) (sym (front_taken h) ∙ p))
 
 -- ---- a slot, by its registered flag
 

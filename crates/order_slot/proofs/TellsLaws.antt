@@ -47,3 +47,14 @@ tells_eq {P} m n f g = go (eqb m n) refl
     go : (a : Bool) → eqb m n ≡ a → Tells P a
     go true e = yes (f (eqb-true m n e))
     go false e = no (λ p. eqb-false m n e (g p))
+
+-- by what its answer says, each way
+pub tells_by : {P : Type 0} (a : Bool) → (a ≡ true → P) → (P → a ≡ true) → Tells P a
+tells_by true f g = yes (f refl)
+tells_by false f g = no (λ p. absurd (counting.no (g p) refl))
+
+pub denied : {P : Type 0} {a : Bool} → a ≡ false → (P → ⊥) → Tells P a
+denied e f = rw e (no f)
+
+pub allowed : {P : Type 0} {a : Bool} → a ≡ true → P → Tells P a
+allowed e p = rw e (yes p)

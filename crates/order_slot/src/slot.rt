@@ -21,22 +21,11 @@ fn window_holds(t: &[u64], slot: u64, window: u64) -> bool
     requires { Shaped t.now }
     ensures { Tells (0 < window → Fast slot (fast_slot t.now) (queue_of t.now) window (budget t.now)) result }
 {
-    if window == 0 {
-        return true;
-    }
-    if slot != t[Header::FAST] {
-        return false;
-    }
-    if t[Header::QUEUED] == 0 {
-        return false;
-    }
-    if queue::front_slot(t) != slot {
-        return false;
-    }
-    if window > t[Header::BUDGET] {
-        return false;
-    }
-    true
+    window == 0
+        || (slot == t[Header::FAST]
+            && t[Header::QUEUED] != 0
+            && queue::front_slot(t) == slot
+            && window <= t[Header::BUDGET])
 }
 
 // Whether the page bit is set of a lane that is pending, unpaused and unqueued.
@@ -44,66 +33,36 @@ fn mark_holds(t: &[u64], l: Lane, slot: u64, queued: u64) -> bool
     requires { Shaped t.now × (slot < issued t.now) }
     ensures { Tells (l.paused ≡ 0 → l.pending ≡ 1 → queued ≡ 0 → page_bit t.now slot ≡ 1) result }
 {
-    if l.paused != 0 {
-        return true;
-    }
-    if l.pending != 1 {
-        return true;
-    }
-    if queued != 0 {
-        return true;
-    }
     let at = slot as usize;
-    let page = Page::load(t, at / Page::LANES_PER_PAGE).bits;
-    (page >> (at % Page::LANES_PER_PAGE)) % 2 == 1
+    l.paused != 0
+        || l.pending != 1
+        || queued != 0
+        || (Page::load(t, at / Page::LANES_PER_PAGE).bits >> (at % Page::LANES_PER_PAGE)) % 2 == 1
 }
 
 // Whether the queued flag says how often the queue names the lane, and the queue names no paused one.
 fn queued_holds(l: Lane, queued: u64) -> bool
     ensures { Tells ((l.queued ≡ queued) × (1 ≤ queued → l.paused ≡ 0)) result }
 {
-    if l.queued != queued {
-        return false;
-    }
-    if queued == 0 {
-        return true;
-    }
-    l.paused == 0
+    l.queued == queued && (queued == 0 || l.paused == 0)
 }
 
 fn registered_holds(t: &[u64], l: Lane, slot: u64, queued: u64, free: u64, batch: u64) -> bool
     requires { Shaped t.now × (slot < issued t.now) × (batch ≡ release_batch (capacity t.now)) }
     ensures { Tells (RegisteredHolds t.now l slot queued free) result }
 {
-    if free != 0 {
-        return false;
-    }
-    if !queued_holds(l, queued) {
-        return false;
-    }
-    if !mark_holds(t, l, slot, queued) {
-        return false;
-    }
-    if !window_holds(t, slot, l.window) {
-        return false;
-    }
-    record::lane_holds(l, t[Header::CAPACITY], batch)
+    free == 0
+        && queued_holds(l, queued)
+        && mark_holds(t, l, slot, queued)
+        && window_holds(t, slot, l.window)
+        && record::lane_holds(l, t[Header::CAPACITY], batch)
 }
 
 // The slot stands `named` times in the queue.
 fn unregistered_holds(generation: u64, named: u64, free: u64) -> bool
     ensures { Tells (UnregisteredHolds generation named free) result }
 {
-    if named != 0 {
-        return false;
-    }
-    if free == 0 {
-        return true;
-    }
-    if generation == 18446744073709551615 {
-        return false;
-    }
-    true
+    named == 0 && (free == 0 || generation != u64::MAX)
 }
 
 // The slot stands `queued` times in the queue and `free` times in the free list.
@@ -115,17 +74,19 @@ pub fn slot_holds(t: &[u64], l: Lane, slot: u64, queued: u64, free: u64, batch: 
         return false;
     }
     if l.registered == 1 {
-        return registered_holds(t, l, slot, queued, free, batch);
+        registered_holds(t, l, slot, queued, free, batch)
+    } else {
+        unregistered_holds(l.key.generation, queued, free)
     }
-    unregistered_holds(l.key.generation, queued, free)
 }
 
 // The items in a slot's ring; of a slot without a lane the cursors say nothing.
 pub fn held_in(l: Lane) -> u64
     ensures { result ≡ held_in l }
 {
-    if l.registered != 1 {
-        return 0;
+    if l.registered == 1 {
+        ring::distance(l.tail, l.head)
+    } else {
+        0
     }
-    ring::distance(l.tail, l.head)
 }

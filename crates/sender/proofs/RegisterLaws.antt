@@ -35,7 +35,7 @@ use Rattle.queues.specs.Registry.{free_of, freed_at, reissue}
 use Rattle.ready.specs.Ready.{page_bit}
 use Rattle.queues.proofs.QueueLaws.{shaped_put_lane}
 use Rattle.queues.proofs.RegistryLaws.{registry_frames, length_free, freed_in, shaped_reissued}
-use Rattle.store.specs.declared.refusal.Verdict.TheVariants.{Pass, Refuse}
+use Rattle.std.specs.Prelude.{Ok, Err}
 use Rattle.store.specs.View.{slot_of, slot_at, view}
 use Rattle.store.specs.Order.{Flags, Stores, StoreInOrder}
 use Rattle.store.specs.Refusal.{and_then}
@@ -66,7 +66,7 @@ module _ (t r : List ℕ) (o : StoreInOrder t r) where
       ap₂ and_then (receiver_verdict_lem t r) (rw o.stores.lanes_counted (go (leb most (registered_lanes s))))
       ∙ sym (first_of_append ((not s.is_open, ReceiverClosed) ∷ []) ((leb most (registered_lanes s), AtCapacity) ∷ []))
     where
-      go : (b : Bool) → cond b (Refuse AtCapacity) Pass ≡ if b (Refuse AtCapacity) Pass
+      go : (b : Bool) → cond b (Err AtCapacity) (Ok (tt {0})) ≡ if b (Err AtCapacity) (Ok (tt {0}))
       go true = refl
       go false = refl
 
@@ -86,8 +86,8 @@ module _ (t r : List ℕ) (o : StoreInOrder t r) where
   unfolding slot_verdict first_of view all_issued
   slot_verdict_lem = go (passed_case t r o)
     where
-      none : (i e : Bool) → cond i Pass (cond e (Refuse NoFreeSlot) (Refuse OlderSenderLives))
-          ≡ if (both (not (not e)) (not i)) (Refuse NoFreeSlot) (if (not i) (Refuse OlderSenderLives) Pass)
+      none : (i e : Bool) → cond i (Ok (tt {0})) (cond e (Err NoFreeSlot) (Err OlderSenderLives))
+          ≡ if (both (not (not e)) (not i)) (Err NoFreeSlot) (if (not i) (Err OlderSenderLives) (Ok (tt {0})))
       none true true = refl
       none true false = refl
       none false true = refl
@@ -231,7 +231,7 @@ module _ (t r : List ℕ) (o : StoreInOrder t r) where
   abbrev made : Words
   made = (Registered (due_key t n), register_lane t n (due_key t n), r)
 
-  made_alike : slot_verdict t n ≡ Pass → PassedCase t r → seen made ≡ (issue_slot (clear_slots (view t r)) (view t r)).1
+  made_alike : slot_verdict t n ≡ Ok (tt {0}) → PassedCase t r → seen made ≡ (issue_slot (clear_slots (view t r)) (view t r)).1
   unfolding issue_slot view
   made_alike e (all p l) =
       let past : free_count t ≤ n = omega arith in
@@ -245,7 +245,7 @@ module _ (t r : List ℕ) (o : StoreInOrder t r) where
       (ap₂ (λ (g : ℕ) (u : State). (Registered (record { slot = freed_at t n; generation = g + 1 }), u)) (sym (seen_generation t r o n h)) (again_view t r o n h)) in
       here ∙ sym (ap (λ (f : List ℕ). (issue_slot f (view t r)).1) l)
 
-  made_stores : slot_verdict t n ≡ Pass → PassedCase t r → Stores (register_lane t n (due_key t n)) r
+  made_stores : slot_verdict t n ≡ Ok (tt {0}) → PassedCase t r → Stores (register_lane t n (due_key t n)) r
   made_stores e (all p l) =
       let past : free_count t ≤ n = omega arith in
       let below : issued t < slots t = (register_room t r o n e).due past in

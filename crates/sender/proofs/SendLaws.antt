@@ -1,5 +1,6 @@
 -- The two sends: what the rules see of the words after is the rules' step, and they leave `Stores`.
 -- Assumes nothing.
+use Rattle.std.specs.Prelude.{Option, Some, None}
 use mathlib.Core.Path.{◌≡◌, refl, sym, ap, ◌∙◌, subst}
 use mathlib.Core.Logic.{◌≢◌}
 use mathlib.Core.Bool.{Bool, true, false, not}
@@ -56,11 +57,11 @@ abbrev grown : Lane → Lane
 grown l = with_cursors (after l.tail 1) l.released l.head l.known l
 
 module _ (ring : Ring) (r : List ℕ) (v : ℕ) (l : Lane) where
-  push_full : distance l.tail l.released ≡ ring.capacity → push_and_flush_item ring r v l ≡ (Sent.Full l, r)
+  push_full : distance l.tail l.released ≡ ring.capacity → push_and_flush_item ring r v l ≡ (None, r)
   unfolding push_and_flush_item sent push_item
   push_full e = rw (eq-eqb _ _ e)
 
-  push_taken : distance l.tail l.released ≢ ring.capacity → push_and_flush_item ring r v l ≡ (Sent.Taken (grown l) (free_after ring l.tail l.released), set r (index ring l.tail) v)
+  push_taken : distance l.tail l.released ≢ ring.capacity → push_and_flush_item ring r v l ≡ (Some (record { lane = grown l; free = free_after ring l.tail l.released }), set r (index ring l.tail) v)
   unfolding push_and_flush_item sent push_item
   push_taken n = rw (ne_eqb _ _ n)
 
@@ -108,8 +109,8 @@ module _ (t r : List ℕ) (k : LaneKey) (v : ℕ) (o : Stores t r) (p : Sends t 
   free = free_after (new_ring x C) l.tail l.released
 
   -- an item refused as full, or taken
-  sent_case : (P : Sent × List ℕ → Bool → Type 0) → P (Sent.Full l, r) true
-      → (distance l.tail l.released ≢ C → P (Sent.Taken (grown l) free, set r (index (new_ring x C) l.tail) v) false) → P (pushed t r k v) (is_full s x)
+  sent_case : (P : Option Sent × List ℕ → Bool → Type 0) → P (None, r) true
+      → (distance l.tail l.released ≢ C → P (Some (record { lane = grown l; free = free }), set r (index (new_ring x C) l.tail) v) false) → P (pushed t r k v) (is_full s x)
   sent_case P f g = rw full_alike (go (eqb (distance l.tail l.released) C) refl)
     where
       go : (b : Bool) → eqb (distance l.tail l.released) C ≡ b → P (pushed t r k v) b
@@ -124,14 +125,14 @@ module _ (t r : List ℕ) (k : LaneKey) (v : ℕ) (o : Stores t r) (p : Sends t 
     view_taken : (m : Lane) → m.key.slot ≡ x → NarrowLane m → m.head ≡ l.head → m.tail ≡ after l.tail 1
         → view (put_lane t m) q ≡ put x (slot_of m (page_bit t x) (held_items (new_ring x C) r l ++ (v ∷ []))) s
     view_taken m e fits a b =
-        let w : push_and_flush_item (new_ring x C) r v l ≡ (Sent.Taken (grown l) free, q) = push_taken (new_ring x C) r v l n in
-        ap (λ (z : Sent × List ℕ). view (put_lane t m) z.1) (sym w)
+        let w : push_and_flush_item (new_ring x C) r v l ≡ (Some (record { lane = grown l; free = free }), q) = push_taken (new_ring x C) r v l n in
+        ap (λ (z : Option Sent × List ℕ). view (put_lane t m) z.1) (sym w)
         ∙ view_sent t r o.shaped x is_issued ring_in v order n m e fits
-        (a ∙ ap (λ (z : Sent × List ℕ). (sent_lane z.0).head) (sym w)) (b ∙ ap (λ (z : Sent × List ℕ). (sent_lane z.0).tail) (sym w))
+        (a ∙ ap (λ (z : Option Sent × List ℕ). (sent_lane l z.0).head) (sym w)) (b ∙ ap (λ (z : Option Sent × List ℕ). (sent_lane l z.0).tail) (sym w))
 
     order_taken : InOrder C (grown l)
     order_taken =
-        subst (λ (z : Sent × List ℕ). InOrder C (sent_lane z.0)) (push_taken (new_ring x C) r v l n) (push_and_flush_keeps (new_ring x C) o.power.most r v l order)
+        subst (λ (z : Option Sent × List ℕ). InOrder C (sent_lane l z.0)) (push_taken (new_ring x C) r v l n) (push_and_flush_keeps (new_ring x C) o.power.most r v l order)
 
     -- what a send owes for the lane, whatever its signal
     owes_taken : (pending : ℕ) → pending ≤ 1 → Owes t x (with_sender pending l.living (grown l)) (queue_of t) (head t)
@@ -163,25 +164,25 @@ module _ (t r : List ℕ) (k : LaneKey) (v : ℕ) (o : Stores t r) (p : Sends t 
         ∙ rw (eq-eqb x x refl, e, f, slot_in t r x is_issued, length-append, length_items (new_ring x C) r l.head (distance l.tail l.head), span_is C o.power.most l order) (omega arith)
 
     signaled_view : let u = put x (rules.signalled (rules.pushed v (s.slot_of x))) s in
-        seen (send_signaled t (Sent.Taken (grown l) free, q)) ≡ (Taken (not (s.slot_of x).pending) (free_places u x), u)
+        seen (send_signaled t (Some (record { lane = grown l; free = free }), q)) ≡ (Taken (not (s.slot_of x).pending) (free_places u x), u)
     unfolding send_signaled take_signaled slot_at
     signaled_view =
         let m : Lane = with_sender 1 l.living (grown l) in
         let at : l.key.slot ≡ x = slot_of_lane t x in
         let idle = idle_flag l.pending (o.flags x is_issued).pending_flag in
         let z : Slot = rules.signalled (rules.pushed v (s.slot_of x)) in
-        let left : seen (send_signaled t (Sent.Taken (grown l) free, q)) ≡ (Taken (not (s.slot_of x).pending) free, put x z s) =
+        let left : seen (send_signaled t (Some (record { lane = grown l; free = free }), q)) ≡ (Taken (not (s.slot_of x).pending) free, put x z s) =
         ap (λ (u : State). (Taken (eqb l.pending 0) free, u))
         (view_held_count (mark_if_idle (put_lane t m) (grown l)) q (shaped_marked_if_idle (put_lane t m) (grown l) (shaped_put_lane t o.shaped m)) _
         ∙ view_put_marked_if_idle (put_lane t m) q (shaped_put_lane t o.shaped m) (grown l) x at (simp frames is_issued) _ s (view_taken m at (loaded_narrow t x) refl refl))
         ∙ rw (slot_in t r x is_issued, idle)
         in left ∙ ap (λ (f : ℕ). (Taken (not (s.slot_of x).pending) f, put x z s)) (free_alike z refl refl)
 
-    unsignaled_view : let u = put x (rules.pushed v (s.slot_of x)) s in seen (send_unsignaled t (Sent.Taken (grown l) free, q)) ≡ (Taken false (free_places u x), u)
+    unsignaled_view : let u = put x (rules.pushed v (s.slot_of x)) s in seen (send_unsignaled t (Some (record { lane = grown l; free = free }), q)) ≡ (Taken false (free_places u x), u)
     unfolding send_unsignaled slot_at
     unsignaled_view =
         let z : Slot = rules.pushed v (s.slot_of x) in
-        let left : seen (send_unsignaled t (Sent.Taken (grown l) free, q)) ≡ (Taken false free, put x z s) =
+        let left : seen (send_unsignaled t (Some (record { lane = grown l; free = free }), q)) ≡ (Taken false free, put x z s) =
         ap (λ (u : State). (Taken false free, u))
         (view_held_count (put_lane t (grown l)) q (shaped_put_lane t o.shaped (grown l)) _ ∙ view_taken (grown l) (slot_of_lane t x) (loaded_narrow t x) refl refl) ∙ rw (slot_in t r x is_issued)
         in left ∙ ap (λ (f : ℕ). (Taken false f, put x z s)) (free_alike z refl refl)

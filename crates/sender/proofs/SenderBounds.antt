@@ -18,7 +18,7 @@ use Rattle.queues.specs.Header.{Shaped, issued, slots, free_count, lane_count, l
 use Rattle.queues.specs.Registry.{freed_at, reissue}
 use Rattle.queues.proofs.RegistryLaws.{length_reissued}
 use Rattle.ready.specs.Ready.{open_page}
-use Rattle.store.specs.declared.refusal.Verdict.TheVariants.{Pass, Refuse}
+use Rattle.std.specs.Prelude.{Ok, Err}
 use Rattle.store.specs.View.{view}
 use Rattle.store.specs.Order.{Stores, StoreInOrder}
 use Rattle.store.specs.Refusal.{send_verdict}
@@ -39,7 +39,7 @@ not_below a b = go (ltb a b) refl
 
 -- ---- a send
 
-pub send_room : (t r : List ℕ) (k : LaneKey) → StoreInOrder t r → send_verdict t k ≡ Pass → SendRoom t (length r) k.slot
+pub send_room : (t r : List ℕ) (k : LaneKey) → StoreInOrder t r → send_verdict t k ≡ Ok (tt {0}) → SendRoom t (length r) k.slot
 send_room t r k o e =
     record {
       shaped = o.stores.shaped;
@@ -74,7 +74,7 @@ module _ (t r : List ℕ) (o : StoreInOrder t r) where
   pub free_issued : FreeIssued t
   free_issued = record { freed_issued = λ d h. (freed_slot t r o d h).is_issued; freed_generation = λ d h. (freed_slot t r o d h).generation }
 
-  pub register_room : (d : ℕ) → slot_verdict t d ≡ Pass → RegisterRoom t d
+  pub register_room : (d : ℕ) → slot_verdict t d ≡ Ok (tt {0}) → RegisterRoom t d
   unfolding slot_verdict
   register_room d e =
       record {
@@ -85,11 +85,11 @@ module _ (t r : List ℕ) (o : StoreInOrder t r) where
       }
     where
       unused : (b : Bool) → ltb (issued t) (slots t) ≡ b
-          → cond b Pass (cond (eqb (free_count t) 0) (Refuse Refusal.NoFreeSlot) (Refuse Refusal.OlderSenderLives)) ≡ Pass → issued t < slots t
+          → cond b (Ok (tt {0})) (cond (eqb (free_count t) 0) (Err Refusal.NoFreeSlot) (Err Refusal.OlderSenderLives)) ≡ Ok (tt {0}) → issued t < slots t
       unused true g f = ltb-true _ _ g
       unused false g f = absurd (neither (eqb (free_count t) 0) f)
         where
-          neither : (c : Bool) → cond c (Refuse Refusal.NoFreeSlot) (Refuse Refusal.OlderSenderLives) ≡ Pass → ⊥
+          neither : (c : Bool) → cond c (Err Refusal.NoFreeSlot) (Err Refusal.OlderSenderLives) ≡ Ok (tt {0}) → ⊥
           neither true z = let x : ◌≡◌ {A = ℕ} 0 1 = cc in omega arith
           neither false z = let x : ◌≡◌ {A = ℕ} 0 1 = cc in omega arith
 

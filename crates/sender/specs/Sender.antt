@@ -1,6 +1,6 @@
 -- The sender calls, as words.
 -- Assumes nothing.
-use Rattle.std.specs.Prelude.{false, cond, List, [], ◌∷◌, ◌≢◌, ℕ, suc, ◌+◌, ◌-◌, ◌≤◌, ◌<◌, eqb, leb, ltb}
+use Rattle.std.specs.Prelude.{false, cond, List, [], ◌∷◌, ◌≢◌, ℕ, suc, ◌+◌, ◌-◌, ◌≤◌, ◌<◌, eqb, leb, ltb, Option, Some, None}
 use Rattle.model.specs.declared.LaneKey.{LaneKey}
 use Rattle.model.specs.declared.Refusal.TheVariants as Refusal
 use Rattle.model.specs.declared.SenderCall.{SenderCall}
@@ -15,8 +15,8 @@ use Rattle.lane.specs.Table.{lane_at, put_lane}
 use Rattle.queues.specs.Header.{set_issued, set_lane_count, set_living_count, Shaped, issued, free_count, slots, capacity, first_cursor, first_generation, lane_count, living_count, held_more}
 use Rattle.queues.specs.Registry.{free_of, freed_at, reissue}
 use Rattle.ready.specs.Ready.{open_page}
-use Rattle.store.specs.declared.refusal.Verdict.{Verdict}
-use Rattle.store.specs.declared.refusal.Verdict.TheVariants.{Pass, Refuse}
+use Rattle.store.specs.Refusal.{Verdict}
+use Rattle.std.specs.Prelude.{Ok, Err}
 use Rattle.store.specs.Refusal.{sender_verdict, send_verdict, receiver_verdict, and_then}
 use Rattle.store.specs.Signal.{mark_if_idle}
 use Rattle.store.specs.Words.{Words, unless_refused}
@@ -30,17 +30,17 @@ unfoldable pub take_signaled : List ℕ → Lane → ℕ → Answer × List ℕ
 take_signaled t l free = (Taken (eqb l.pending 0) free, mark_if_idle (put_lane t (with_sender 1 l.living l)) l)
 
 -- a send that is taken: one item more is held
-unfoldable pub send_signaled : List ℕ → Sent × List ℕ → Words
-send_signaled t (Sent.Taken l free, r) = let a = take_signaled t l free in (a.0, held_more a.1, r)
-send_signaled t (Sent.Full l, r) = (Refused Refusal.Full, t, r)
+unfoldable pub send_signaled : List ℕ → Option Sent × List ℕ → Words
+send_signaled t (Some s, r) = let a = take_signaled t s.lane s.free in (a.0, held_more a.1, r)
+send_signaled t (None, r) = (Refused Refusal.Full, t, r)
 
 -- "unsignalled always 0"; one item more is held
-unfoldable pub send_unsignaled : List ℕ → Sent × List ℕ → Words
-send_unsignaled t (Sent.Taken l free, r) = (Taken false free, held_more (put_lane t l), r)
-send_unsignaled t (Sent.Full l, r) = (Refused Refusal.Full, t, r)
+unfoldable pub send_unsignaled : List ℕ → Option Sent × List ℕ → Words
+send_unsignaled t (Some s, r) = (Taken false s.free, held_more (put_lane t s.lane), r)
+send_unsignaled t (None, r) = (Refused Refusal.Full, t, r)
 
 -- what the ring of a key's slot answers to an item
-abbrev pub pushed : List ℕ → List ℕ → LaneKey → ℕ → Sent × List ℕ
+abbrev pub pushed : List ℕ → List ℕ → LaneKey → ℕ → Option Sent × List ℕ
 pushed t r k v = push_and_flush_item (new_ring k.slot (capacity t)) r v (lane_at t k.slot)
 
 -- what a push needs of the words: a slot of the table, and its ring within the ring store of so many words
@@ -89,7 +89,7 @@ pub record RegisterRoom (t : List ℕ) (d : ℕ) : Type 0 where
 
 -- "registered lanes are as many as the most-lanes number, or more"
 unfoldable pub capacity_verdict : ℕ → ℕ → Verdict
-capacity_verdict lanes most = cond (leb most lanes) (Refuse Refusal.AtCapacity) Pass
+capacity_verdict lanes most = cond (leb most lanes) (Err Refusal.AtCapacity) (Ok tt)
 
 -- refusals 6 and 7
 unfoldable pub lanes_verdict : List ℕ → ℕ → Verdict
@@ -98,9 +98,9 @@ lanes_verdict t most = and_then (receiver_verdict t) (capacity_verdict (lane_cou
 -- where d slots are passed over and these are all, and slot S - 1 has been issued: 8 if the list is empty, else 9
 unfoldable pub slot_verdict : List ℕ → ℕ → Verdict
 slot_verdict t d =
-    cond (ltb d (free_count t)) Pass
-    (cond (ltb (issued t) (slots t)) Pass
-    (cond (eqb (free_count t) 0) (Refuse Refusal.NoFreeSlot) (Refuse Refusal.OlderSenderLives)))
+    cond (ltb d (free_count t)) (Ok tt)
+    (cond (ltb (issued t) (slots t)) (Ok tt)
+    (cond (eqb (free_count t) 0) (Err Refusal.NoFreeSlot) (Err Refusal.OlderSenderLives)))
 
 -- the key that is due where d slots are passed over: of the slot below them, "with generation + 1"; else of "the next unused slot"
 unfoldable pub due_key : List ℕ → ℕ → LaneKey

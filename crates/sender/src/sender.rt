@@ -5,12 +5,10 @@ ghost use Rattle.store.specs.Order.{StoreInOrder};
 ghost use Rattle.sender.specs.Sender.{with_sender, take_signaled, SendRoom, pushed, send_signaled, send_unsignaled, try_send, try_send_unsignaled, drop_lane, drop_sender, FreeIssued, SlotDue, RegisterRoom, passed_over, capacity_verdict, lanes_verdict, slot_verdict, due_key, take_slot, register_lane, register_slot, register_sender};
 
 use lane::lane::Lane;
-use lane::producer::Sent;
 use model::{Answer, LaneKey, Refusal};
 use queues::header::Header;
 use queues::registry;
 use ready::ready as marks;
-use store::refusal::Verdict;
 use store::{refusal, signal};
 use yring::ring;
 use yring::ring::Ring;
@@ -33,10 +31,7 @@ fn take_signaled(t: &mut [u64], lane: Lane, free: u64) -> Answer
     let marked = with_sender(lane, 1, lane.living);
     marked.store(t);
     signal::mark_if_idle(t, lane);
-    Answer::Taken {
-        woken: woken,
-        free: free,
-    }
+    Answer::Taken { woken, free }
 }
 
 fn send_signaled(t: &mut [u64], r: &mut [u64], key: LaneKey, item: u64) -> Answer
@@ -46,11 +41,11 @@ fn send_signaled(t: &mut [u64], r: &mut [u64], key: LaneKey, item: u64) -> Answe
     let ring = Ring::new(key.slot, t[Header::CAPACITY]);
     let l = Lane::load(t, key.slot);
     match l.push_and_flush(ring) {
-        Sent::Full { lane: _ } => Answer::Refused { why: Refusal::Full },
-        Sent::Taken { lane, free } => {
+        None => Answer::Refused { why: Refusal::Full },
+        Some(sent) => {
             // Known before the lane is stored, the place is one number to keep meanwhile.
             let at = ring.index(l.tail);
-            let answer = take_signaled(t, lane, free);
+            let answer = take_signaled(t, sent.lane, sent.free);
             Header::held_more(t);
             ring::put_at(r, at, item);
             answer
@@ -58,6 +53,8 @@ fn send_signaled(t: &mut [u64], r: &mut [u64], key: LaneKey, item: u64) -> Answe
     }
 }
 
+// A function of its own beside `send_signaled`: of its arms only the full ring's is the same, and one function for both would take what
+// is stored and what is answered as parameters.
 fn send_unsignaled(t: &mut [u64], r: &mut [u64], key: LaneKey, item: u64) -> Answer
     requires { SendRoom t.old (length r.old) key.slot }
     ensures { (result, t.new, r.new) ≡ send_unsignaled t.old (pushed t.old r.old key item) }
@@ -65,14 +62,14 @@ fn send_unsignaled(t: &mut [u64], r: &mut [u64], key: LaneKey, item: u64) -> Ans
     let ring = Ring::new(key.slot, t[Header::CAPACITY]);
     let l = Lane::load(t, key.slot);
     match l.push_and_flush(ring) {
-        Sent::Full { lane: _ } => Answer::Refused { why: Refusal::Full },
-        Sent::Taken { lane, free } => {
-            lane.store(t);
+        None => Answer::Refused { why: Refusal::Full },
+        Some(sent) => {
+            sent.lane.store(t);
             Header::held_more(t);
             ring.put(r, l.tail, item);
             Answer::Taken {
                 woken: false,
-                free: free,
+                free: sent.free,
             }
         }
     }
@@ -85,19 +82,19 @@ pub fn try_send(t: &mut [u64], r: &mut [u64], key: LaneKey, item: u64) -> Answer
     ensures { (result, t.new, r.new) ≡ try_send t.old r.old key item }
 {
     match refusal::send_verdict(t, key) {
-        Verdict::Refuse { why } => Answer::Refused { why: why },
-        Verdict::Pass => send_signaled(t, r, key, item),
+        Err(why) => Answer::Refused { why },
+        Ok(()) => send_signaled(t, r, key, item),
     }
 }
 
-// Stores one item and marks nothing; answers how many further sends the ring takes.
+// Stores one item and marks nothing; answers how many further sends the ring takes. Beside `try_send` for the reason of `send_unsignaled`.
 pub fn try_send_unsignaled(t: &mut [u64], r: &mut [u64], key: LaneKey, item: u64) -> Answer
     requires { StoreInOrder t.old r.old }
     ensures { (result, t.new, r.new) ≡ try_send_unsignaled t.old r.old key item }
 {
     match refusal::send_verdict(t, key) {
-        Verdict::Refuse { why } => Answer::Refused { why: why },
-        Verdict::Pass => send_unsignaled(t, r, key, item),
+        Err(why) => Answer::Refused { why },
+        Ok(()) => send_unsignaled(t, r, key, item),
     }
 }
 
@@ -118,8 +115,8 @@ pub fn drop_sender(t: &mut [u64], r: &[u64], key: LaneKey) -> Answer
     ensures { (result, t.new, r.now) ≡ drop_sender t.old r.now key }
 {
     match refusal::sender_verdict(t, key) {
-        Verdict::Refuse { why } => Answer::Refused { why: why },
-        Verdict::Pass => {
+        Err(why) => Answer::Refused { why },
+        Ok(()) => {
             let l = Lane::load(t, key.slot);
             drop_lane(t, l);
             Answer::Done
@@ -134,58 +131,45 @@ fn passed_over(t: &[u64]) -> u64
     ensures { result ≡ passed_over t.now }
 {
     let n = t[Header::FREE];
-    let mut d = 0;
-    while d < n {
+    for d in 0..n {
         let l = Lane::load(t, registry::freed_at(t, d));
         if l.living != 1 {
             return d;
         }
-        d += 1;
     }
-    d
+    n
 }
 
 // Refusals 6 and 7 of a registration.
-fn lanes_verdict(t: &[u64], most: u64) -> Verdict
+fn lanes_verdict(t: &[u64], most: u64) -> Result<(), Refusal>
     requires { Shaped t.now }
     ensures { result ≡ lanes_verdict t.now most }
 {
-    match refusal::receiver_verdict(t) {
-        Verdict::Refuse { why } => Verdict::Refuse { why: why },
-        Verdict::Pass => capacity_verdict(t[Header::LANES], most),
-    }
+    refusal::receiver_verdict(t)?;
+    capacity_verdict(t[Header::LANES], most)
 }
 
-fn capacity_verdict(lanes: u64, most: u64) -> Verdict
+fn capacity_verdict(lanes: u64, most: u64) -> Result<(), Refusal>
     ensures { result ≡ capacity_verdict lanes most }
 {
     if lanes >= most {
-        return Verdict::Refuse {
-            why: Refusal::AtCapacity,
-        };
+        return Err(Refusal::AtCapacity);
     }
-    Verdict::Pass
+    Ok(())
 }
 
 // Refusals 8 and 9 of a registration that passes over `d` free slots.
-fn slot_verdict(t: &[u64], d: u64) -> Verdict
+fn slot_verdict(t: &[u64], d: u64) -> Result<(), Refusal>
     requires { Shaped t.now }
     ensures { result ≡ slot_verdict t.now d }
 {
-    if d < t[Header::FREE] {
-        return Verdict::Pass;
-    }
-    if t[Header::ISSUED] < t[Header::SLOTS] {
-        return Verdict::Pass;
+    if d < t[Header::FREE] || t[Header::ISSUED] < t[Header::SLOTS] {
+        return Ok(());
     }
     if t[Header::FREE] == 0 {
-        return Verdict::Refuse {
-            why: Refusal::NoFreeSlot,
-        };
+        return Err(Refusal::NoFreeSlot);
     }
-    Verdict::Refuse {
-        why: Refusal::OlderSenderLives,
-    }
+    Err(Refusal::OlderSenderLives)
 }
 
 // The key of the free slot below those passed over, with generation + 1; else of the next unused slot.
@@ -197,7 +181,7 @@ fn due_key(t: &[u64], d: u64) -> LaneKey
         let slot = registry::freed_at(t, d);
         let l = Lane::load(t, slot);
         return LaneKey {
-            slot: slot,
+            slot,
             generation: l.key.generation + 1,
         };
     }
@@ -241,11 +225,11 @@ fn register_slot(t: &mut [u64], r: &[u64], d: u64) -> Answer
     ensures { (result, t.new, r.now) ≡ register_slot t.old r.now d }
 {
     match slot_verdict(t, d) {
-        Verdict::Refuse { why } => Answer::Refused { why: why },
-        Verdict::Pass => {
+        Err(why) => Answer::Refused { why },
+        Ok(()) => {
             let key = due_key(t, d);
             register_lane(t, d, key);
-            Answer::Registered { key: key }
+            Answer::Registered { key }
         }
     }
 }
@@ -257,8 +241,8 @@ pub fn register_sender(t: &mut [u64], r: &[u64], most: u64) -> Answer
     ensures { (result, t.new, r.now) ≡ register_sender t.old r.now most }
 {
     match lanes_verdict(t, most) {
-        Verdict::Refuse { why } => Answer::Refused { why: why },
-        Verdict::Pass => {
+        Err(why) => Answer::Refused { why },
+        Ok(()) => {
             let d = passed_over(t);
             register_slot(t, r, d)
         }

@@ -1,60 +1,45 @@
 -- `order::in_order` meets its contract.
 -- Assumes nothing.
-use mathlib.Core.Path.{refl}
-use Rattle.order_slot.proofs.TellsLaws.{told, untold, tells_of}
-use Rattle.order.proofs.ClauseLaws.{shaped_header}
-use Rattle.order.proofs.AnswerLaws.{slots_by_lists, slots_by_bits, answers, refuses}
+use native.Mathlib.Omega.{arith}
+use Rattle.queues.specs.Queue.{queue_of}
+use Rattle.queues.specs.Registry.{free_of}
+use Rattle.order_slot.specs.Clauses.{SlotsHold, CountsHold}
+use Rattle.order.specs.Seen.{has, Seen}
+use Rattle.order_slot.proofs.TellsLaws.{told, untold, tells_true, tells_by, denied}
+use Rattle.order.proofs.AnswerLaws.{slots_by_lists, slots_by_bits, answers}
 use Rattle.order.proofs.in_order.Goals as goal
+use Rattle.order.proofs.in_order.Goals.{then-free_holds, else-free_holds}
 
-pub returns-then-not-header_holds : goal.returns-then-not-header_holds
-returns-then-not-header_holds c = refuses _ _ (λ p. untold c.header_holds.ensures c.if-not-header_holds.true p.header)
-
-pub queue_holds-requires : goal.queue_holds-requires
-queue_holds-requires c = (shaped_header _ _ (told c.header_holds.ensures c.if-not-header_holds.false), refl)
-
-pub returns-then-not-queue_holds : goal.returns-then-not-queue_holds
-returns-then-not-queue_holds c = refuses _ _ (λ p. untold c.queue_holds.ensures.tells c.if-not-queue_holds.true p.queue)
-
-pub free_holds-requires : goal.free_holds-requires
-free_holds-requires c = (shaped_header _ _ (told c.header_holds.ensures c.if-not-header_holds.false), refl)
-
-pub returns-then-not-free_holds : goal.returns-then-not-free_holds
-returns-then-not-free_holds c = refuses _ _ (λ p. untold c.free_holds.ensures.tells c.if-not-free_holds.true p.free)
-
-pub slots_hold-requires : goal.slots_hold-requires
-slots_hold-requires c =
-    let h = told c.header_holds.ensures c.if-not-header_holds.false in
-    (shaped_header _ _ h, h.lengths.power)
-
-pub returns-then-not-slots_hold : goal.returns-then-not-slots_hold
-returns-then-not-slots_hold c =
-    let q = c.queue_holds.ensures.seen c.if-not-queue_holds.false in
-    let f = c.free_holds.ensures.seen c.if-not-free_holds.false in
-    refuses _ _ (λ p. untold c.slots_hold.ensures c.if-not-slots_hold.true (slots_by_bits _ _ _ q f p.each_slot, p.counts))
-
-pub pages_hold-requires : goal.pages_hold-requires
-pages_hold-requires c = shaped_header _ _ (told c.header_holds.ensures c.if-not-header_holds.false)
-
-pub returns-then-not-pages_hold : goal.returns-then-not-pages_hold
-returns-then-not-pages_hold c = refuses _ _ (λ p. untold c.pages_hold.ensures c.if-not-pages_hold.true p.pages)
-
-pub groups_hold-requires : goal.groups_hold-requires
-groups_hold-requires c = shaped_header _ _ (told c.header_holds.ensures c.if-not-header_holds.false)
-
-pub returns : goal.returns
-returns c =
-    let q = c.queue_holds.ensures.seen c.if-not-queue_holds.false in
-    let f = c.free_holds.ensures.seen c.if-not-free_holds.false in
-    let s = told c.slots_hold.ensures c.if-not-slots_hold.false in
+pub returns-then-pages_hold : goal.returns-then-pages_hold
+returns-then-pages_hold c =
     answers _ _
-    (tells_of
-    (λ g. record {
-      header = told c.header_holds.ensures c.if-not-header_holds.false;
-      queue = told c.queue_holds.ensures.tells c.if-not-queue_holds.false;
-      free = told c.free_holds.ensures.tells c.if-not-free_holds.false;
+    (tells_by _
+    (λ e.
+    let t = c.args.t.now in
+    let q : Seen c.if-header_holds.queued.words (queue_of t) = λ x. grind arith in
+    let f : Seen c.if-queue_holds.free.words (free_of t) = λ x. grind arith in
+    let s : SlotsHold t (has c.if-header_holds.queued.words) (has c.if-queue_holds.free.words) × CountsHold t = grind (arith, told) in
+    record {
+      header = grind (arith, told);
+      queue = grind (arith, told);
+      free = grind (arith, told);
       each_slot = slots_by_lists _ _ _ q f s.0;
       counts = s.1;
-      pages = told c.pages_hold.ensures c.if-not-pages_hold.false;
-      groups = g;
+      pages = grind (arith, told);
+      groups = told c.groups_hold.ensures e;
     })
-    (λ p. p.groups) c.groups_hold.ensures)
+    (λ p. tells_true c.groups_hold.ensures p.groups))
+
+pub returns-else-pages_hold : goal.returns-else-pages_hold
+returns-else-pages_hold c =
+    answers _ _
+    (denied (cc)
+    (λ p. elim c.if-free_holds.branch [
+      | then-free_holds w ↦
+          let t = c.args.t.now in
+          let q : Seen c.if-header_holds.queued.words (queue_of t) = λ x. grind arith in
+          let f : Seen c.if-queue_holds.free.words (free_of t) = λ x. grind arith in
+          let s = slots_by_bits _ _ _ q f p.each_slot in
+          grind (arith, untold, p, s)
+      | else-free_holds w ↦ grind (arith, untold, p)
+    ]))

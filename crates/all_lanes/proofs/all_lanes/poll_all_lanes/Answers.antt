@@ -5,13 +5,10 @@ use Rattle.store.specs.Words.{unless_refused}
 use mathlib.Core.Path.{◌∙◌, sym}
 use Rattle.all_lanes.proofs.all_lanes.poll_all_lanes.Goals as goal
 
-pub poll_slots-requires : goal.poll_slots-requires
-poll_slots-requires c = (c.requires.stores.shaped, c.requires.stores.named)
-
-pub returns-in-Refuse : goal.returns-in-Refuse
+pub returns-in-Err : goal.returns-in-Err
 unfolding poll_all_lanes unless_refused
-returns-in-Refuse c = rw (sym c.receiver_verdict.ensures ∙ c.in-Refuse.is)
+returns-in-Err c = rw (sym c.receiver_verdict.ensures ∙ c.in-Err.is)
 
-pub returns-in-Pass : goal.returns-in-Pass
+pub returns-in-Ok : goal.returns-in-Ok
 unfolding poll_all_lanes unless_refused
-returns-in-Pass c = rw (sym c.receiver_verdict.ensures ∙ c.in-Pass.is, c.poll_slots.ensures)
+returns-in-Ok c = rw (sym c.receiver_verdict.ensures ∙ c.in-Ok.is, c.poll_slots.ensures)

@@ -14,8 +14,5 @@ poll_slot-requires c =
 pub loop-slot-preserved : goal.loop-slot-preserved
 loop-slot-preserved c = polling_next _ _ _ c.loop-slot.invariant c.loop-slot-test.true _ c.poll_slot.ensures
 
-pub shape_of-t : goal.shape_of-t
-shape_of-t c = c.loop-slot.invariant.kept.long
-
 pub returns : goal.returns
 returns c = polling_end _ _ _ c.loop-slot.invariant c.loop-slot-test.false

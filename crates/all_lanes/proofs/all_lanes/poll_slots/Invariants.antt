@@ -1,11 +1,7 @@
 -- `all_lanes::all_lanes::poll_slots` meets its contract.
 -- Assumes nothing.
 use Rattle.all_lanes.proofs.SlotLoops.{Polling}
-use Prim.Native.Nat.{◌-◌}
 use Rattle.all_lanes.proofs.all_lanes.poll_slots.Given as goal
 
 abbrev pub invariant-loop-slot : goal.invariant-loop-slot
 invariant-loop-slot l = Polling l.initial.t l.t l.slot
-
-abbrev pub decreases-loop-slot : goal.decreases-loop-slot
-decreases-loop-slot l = l.n - l.slot

@@ -15,8 +15,5 @@ release_slot-requires c =
 pub loop-slot-preserved : goal.loop-slot-preserved
 loop-slot-preserved c = releasing_next _ _ _ c.loop-slot.invariant c.loop-slot-test.true _ c.release_slot.ensures
 
-pub shape_of-t : goal.shape_of-t
-shape_of-t c = c.loop-slot.invariant.long
-
 pub returns : goal.returns
 returns c = releasing_end _ _ _ c.loop-slot.invariant c.loop-slot-test.false

@@ -9,10 +9,10 @@ use Rattle.all_lanes.proofs.all_lanes.release_consumed.Goals as goal
 pub release_all-requires : goal.release_all-requires
 release_all-requires c = (c.requires.stores.shaped, all_refundable _ _ c.requires)
 
-pub returns-in-Refuse : goal.returns-in-Refuse
+pub returns-in-Err : goal.returns-in-Err
 unfolding release_consumed unless_refused
-returns-in-Refuse c = rw (sym c.receiver_verdict.ensures ∙ c.in-Refuse.is)
+returns-in-Err c = rw (sym c.receiver_verdict.ensures ∙ c.in-Err.is)
 
-pub returns-in-Pass : goal.returns-in-Pass
+pub returns-in-Ok : goal.returns-in-Ok
 unfolding release_consumed unless_refused
-returns-in-Pass c = rw (sym c.receiver_verdict.ensures ∙ c.in-Pass.is, c.release_all.ensures)
+returns-in-Ok c = rw (sym c.receiver_verdict.ensures ∙ c.in-Ok.is, c.release_all.ensures)

@@ -1,6 +1,5 @@
 -- `control::lane_control::close` meets its contract.
 -- Assumes nothing.
-use native.Mathlib.Omega.{arith}
 use Rattle.control.specs.Control.{close}
 use Rattle.queues.proofs.QueueLaws.{queue_frames, shaped_removed}
 use Rattle.control.proofs.lane_control.close.Goals as goal
@@ -9,9 +8,6 @@ pub retire_lane-requires : goal.retire_lane-requires
 retire_lane-requires c =
     rw c.remove.ensures
     (shaped_removed _ c.requires.0 _, simp queue_frames c.requires.1, simp queue_frames c.requires.2, simp queue_frames c.requires.3)
-
-pub held_less-requires : goal.held_less-requires
-held_less-requires c = omega (arith, c.requires.0.room)
 
 pub returns : goal.returns
 unfolding close

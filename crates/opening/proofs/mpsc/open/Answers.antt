@@ -7,12 +7,12 @@ use Rattle.opening.proofs.OpeningBounds.{sizes_pass}
 use Rattle.opening.proofs.mpsc.open.Goals as goal
 
 pub open_sized-requires : goal.open_sized-requires
-open_sized-requires c = (sizes_pass _ (sym c.sizes_verdict.ensures ∙ c.in-Pass.is)).slots_most
+open_sized-requires c = let s = sizes_pass _ (sym c.sizes_verdict.ensures ∙ c.in-Ok.is) in (s.slots_most, s.capacity_most)
 
-pub returns-in-Refuse : goal.returns-in-Refuse
+pub returns-in-Err : goal.returns-in-Err
 unfolding open_store unless_refused
-returns-in-Refuse c = rw (sym c.sizes_verdict.ensures ∙ c.in-Refuse.is)
+returns-in-Err c = rw (sym c.sizes_verdict.ensures ∙ c.in-Err.is)
 
-pub returns-in-Pass : goal.returns-in-Pass
+pub returns-in-Ok : goal.returns-in-Ok
 unfolding open_store unless_refused
-returns-in-Pass c = rw (sym c.sizes_verdict.ensures ∙ c.in-Pass.is) c.open_sized.ensures
+returns-in-Ok c = rw (sym c.sizes_verdict.ensures ∙ c.in-Ok.is) c.open_sized.ensures

@@ -1,25 +1,18 @@
 -- `opening::mpsc::sizes_verdict` meets its contract.
 -- Assumes nothing.
-use borrow.Author.Tests.{le-leb, lt-leb}
+use native.Mathlib.Omega.{arith}
+use Rattle.std.proofs.lemmas.Bool.Decides.{nat_tests}
 use Rattle.opening.specs.Opening.{sizes_verdict}
 use Rattle.opening.proofs.mpsc.sizes_verdict.Goals as goal
 
-pub returns-then-opening-lt1 : goal.returns-then-opening-lt1
+pub returns-then-not-contains : goal.returns-then-not-contains
 unfolding sizes_verdict
-returns-then-opening-lt1 c = simp (lt-leb _ _ c.if-opening-lt1.true)
+returns-then-not-contains c = grind (arith, nat_tests)
 
-pub returns-then-opening-gt-MAX_CAPACITY : goal.returns-then-opening-gt-MAX_CAPACITY
+pub returns-then-not-contains-2 : goal.returns-then-not-contains-2
 unfolding sizes_verdict
-returns-then-opening-gt-MAX_CAPACITY c = simp (le-leb _ _ c.if-opening-lt1.false, lt-leb _ _ c.if-opening-gt-MAX_CAPACITY.true)
-
-pub returns-then-opening-lt1-2 : goal.returns-then-opening-lt1-2
-unfolding sizes_verdict
-returns-then-opening-lt1-2 c = simp (le-leb _ _ c.if-opening-lt1.false, le-leb _ _ c.if-opening-gt-MAX_CAPACITY.false, lt-leb _ _ c.if-opening-lt1-2.true)
-
-pub returns-then-opening-gt-MAX_SLOTS : goal.returns-then-opening-gt-MAX_SLOTS
-unfolding sizes_verdict
-returns-then-opening-gt-MAX_SLOTS c = simp (le-leb _ _ c.if-opening-lt1.false, le-leb _ _ c.if-opening-gt-MAX_CAPACITY.false, le-leb _ _ c.if-opening-lt1-2.false, lt-leb _ _ c.if-opening-gt-MAX_SLOTS.true)
+returns-then-not-contains-2 c = grind (arith, nat_tests)
 
 pub returns : goal.returns
 unfolding sizes_verdict
-returns c = simp (le-leb _ _ c.if-opening-lt1.false, le-leb _ _ c.if-opening-gt-MAX_CAPACITY.false, le-leb _ _ c.if-opening-lt1-2.false, le-leb _ _ c.if-opening-gt-MAX_SLOTS.false)
+returns c = grind (arith, nat_tests)

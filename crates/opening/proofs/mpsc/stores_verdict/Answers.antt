@@ -1,13 +1,8 @@
 -- `opening::mpsc::stores_verdict` meets its contract.
 -- Assumes nothing.
-use native.Mathlib.Nat.{mul-le-mul}
-use native.Mathlib.Omega.{arith}
 use borrow.Author.Tests.{le-leb, lt-leb}
 use Rattle.opening.specs.Opening.{stores_verdict}
 use Rattle.opening.proofs.mpsc.stores_verdict.Goals as goal
-
-pub overflow_mul-slots : goal.overflow_mul-slots
-overflow_mul-slots c = record { fits = omega (arith, mul-le-mul c.requires.0 c.requires.1) }
 
 pub returns-then-slots-capacity : goal.returns-then-slots-capacity
 unfolding stores_verdict

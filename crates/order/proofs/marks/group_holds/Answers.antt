@@ -10,5 +10,5 @@ use Rattle.order.proofs.marks.group_holds.Goals as goal
 
 pub returns : goal.returns
 returns c =
-    group_tells _ _ (ap (λ (g : Group). g.bits) c.load.ensures) (c.shared_slice_known-2-1.given (cell_at group_column c.args.group)).fits
+    group_tells _ _ (ap (λ (g : Group). g.bits) c.load.ensures) (c.type_inv.t (cell_at group_column c.args.group)).fits
     (λ b h. omega (arith, h)) (λ b h. omega (arith, h)) c.bits_below.ensures

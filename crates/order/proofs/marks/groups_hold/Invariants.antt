@@ -1,11 +1,8 @@
 -- `order::marks::groups_hold` meets its contract.
 -- Assumes nothing.
-use Prim.Native.Nat.{ℕ, ◌-◌, ◌≤◌, ◌<◌}
+use Prim.Native.Nat.{ℕ, ◌<◌}
 use Rattle.order_slot.specs.Clauses.{GroupHolds}
 use Rattle.order.proofs.marks.groups_hold.Given as goal
 
 abbrev pub invariant-loop-group : goal.invariant-loop-group
-invariant-loop-group l = (l.group ≤ 8192) × ((k : ℕ) → k < l.group → GroupHolds l.t k)
-
-abbrev pub decreases-loop-group : goal.decreases-loop-group
-decreases-loop-group l = l.issued - l.group
+invariant-loop-group l = (k : ℕ) → k < l.group → GroupHolds l.t k

@@ -10,18 +10,18 @@ use Rattle.store.proofs.StoreLaws.{living_counted}
 use Rattle.sender.proofs.sender.drop_sender.Goals as goal
 
 pub load-l-requires : goal.load-l-requires
-load-l-requires c = omega (arith, (sender_passes _ _ (sym c.sender_verdict.ensures ∙ c.in-Pass.is)).is_issued, c.requires.stores.shaped.issued_most, c.requires.stores.shaped.room)
+load-l-requires c = omega (arith, (sender_passes _ _ (sym c.sender_verdict.ensures ∙ c.in-Ok.is)).is_issued, c.requires.stores.shaped.issued_most, c.requires.stores.shaped.room)
 
 pub drop_lane-requires : goal.drop_lane-requires
 drop_lane-requires c =
-    let p = sender_passes _ _ (sym c.sender_verdict.ensures ∙ c.in-Pass.is) in
+    let p = sender_passes _ _ (sym c.sender_verdict.ensures ∙ c.in-Ok.is) in
     rw (c.load-l.ensures, slot_of_lane _ _)
     (c.requires.stores.shaped, omega (arith, p.is_issued, c.requires.stores.shaped.issued_most), living_counted _ _ c.requires.stores _ p.is_issued p.living)
 
-pub returns-in-Refuse : goal.returns-in-Refuse
+pub returns-in-Err : goal.returns-in-Err
 unfolding drop_sender unless_refused
-returns-in-Refuse c = rw (sym c.sender_verdict.ensures ∙ c.in-Refuse.is)
+returns-in-Err c = rw (sym c.sender_verdict.ensures ∙ c.in-Err.is)
 
-pub returns-in-Pass : goal.returns-in-Pass
+pub returns-in-Ok : goal.returns-in-Ok
 unfolding drop_sender unless_refused
-returns-in-Pass c = rw (sym c.sender_verdict.ensures ∙ c.in-Pass.is, c.drop_lane.ensures, c.load-l.ensures)
+returns-in-Ok c = rw (sym c.sender_verdict.ensures ∙ c.in-Ok.is, c.drop_lane.ensures, c.load-l.ensures)

@@ -1,14 +1,17 @@
 -- `sender::sender::lanes_verdict` meets its contract.
 -- Assumes nothing.
-use mathlib.Core.Path.{◌∙◌, sym}
+use Rattle.std.proofs.Common.{◌∙◌, refl, sym}
+use Rattle.std.proofs.lemmas.Result.{err_from_is_err_and}
 use Rattle.sender.specs.Sender.{lanes_verdict}
 use Rattle.store.specs.Refusal.{and_then}
 use Rattle.sender.proofs.sender.lanes_verdict.Goals as goal
 
-pub returns-in-Refuse : goal.returns-in-Refuse
+pub returns-in_err-receiver_verdict : goal.returns-in_err-receiver_verdict
 unfolding lanes_verdict and_then
-returns-in-Refuse c = rw (sym c.receiver_verdict.ensures ∙ c.in-Refuse.is)
+returns-in_err-receiver_verdict c =
+    let p = err_from_is_err_and c.from_residual.result c.from_residual.ensures.1 in
+    rw (p.1, p.2, sym c.receiver_verdict.ensures ∙ c.in_err-receiver_verdict.was) refl
 
-pub returns-in-Pass : goal.returns-in-Pass
+pub returns : goal.returns
 unfolding lanes_verdict and_then
-returns-in-Pass c = rw (sym c.receiver_verdict.ensures ∙ c.in-Pass.is) c.capacity_verdict.ensures
+returns c = rw (sym c.receiver_verdict.ensures ∙ c.in_ok-receiver_verdict.was) c.capacity_verdict.ensures

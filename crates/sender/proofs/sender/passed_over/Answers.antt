@@ -25,4 +25,4 @@ loop-d-preserved c =
     passing_next _ _ c.loop-d.invariant c.loop-d-test.true (sym e ∙ c.if-l-ne1.false)
 
 pub returns : goal.returns
-returns c = passing_end _ _ c.loop-d.invariant c.loop-d-test.false
+returns c = omega (arith, passing_end _ _ c.loop-d.invariant c.loop-d-test.false)

@@ -1,11 +1,7 @@
 -- `sender::sender::passed_over` meets its contract.
 -- Assumes nothing.
-use Prim.Native.Nat.{◌-◌}
 use Rattle.sender.proofs.PassedLaws.{Passing}
 use Rattle.sender.proofs.sender.passed_over.Given as goal
 
 abbrev pub invariant-loop-d : goal.invariant-loop-d
 invariant-loop-d l = Passing l.t l.d
-
-abbrev pub decreases-loop-d : goal.decreases-loop-d
-decreases-loop-d l = l.n - l.d

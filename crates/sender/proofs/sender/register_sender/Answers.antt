@@ -12,10 +12,10 @@ lanes_verdict-requires c = c.requires.stores.shaped
 pub passed_over-d-requires : goal.passed_over-d-requires
 passed_over-d-requires c = (c.requires.stores.shaped, free_issued _ _ c.requires)
 
-pub returns-in-Refuse : goal.returns-in-Refuse
+pub returns-in-Err : goal.returns-in-Err
 unfolding register_sender unless_refused
-returns-in-Refuse c = rw (sym c.lanes_verdict.ensures ∙ c.in-Refuse.is)
+returns-in-Err c = rw (sym c.lanes_verdict.ensures ∙ c.in-Err.is)
 
-pub returns-in-Pass : goal.returns-in-Pass
+pub returns-in-Ok : goal.returns-in-Ok
 unfolding register_sender unless_refused
-returns-in-Pass c = rw (sym c.lanes_verdict.ensures ∙ c.in-Pass.is, ← c.passed_over-d.ensures) c.register_slot.ensures
+returns-in-Ok c = rw (sym c.lanes_verdict.ensures ∙ c.in-Ok.is, ← c.passed_over-d.ensures) c.register_slot.ensures

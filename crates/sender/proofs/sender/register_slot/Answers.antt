@@ -14,13 +14,13 @@ due_key-key-requires c = (c.requires.stores.shaped, free_issued _ _ c.requires)
 
 pub register_lane-requires : goal.register_lane-requires
 register_lane-requires c =
-    let room = register_room _ _ c.requires _ (sym c.slot_verdict.ensures ∙ c.in-Pass.is) in
+    let room = register_room _ _ c.requires _ (sym c.slot_verdict.ensures ∙ c.in-Ok.is) in
     (room, rw c.due_key-key.ensures (due_in _ _ c.requires.stores.shaped (free_issued _ _ c.requires) room.due))
 
-pub returns-in-Refuse : goal.returns-in-Refuse
+pub returns-in-Err : goal.returns-in-Err
 unfolding register_slot unless_refused
-returns-in-Refuse c = rw (sym c.slot_verdict.ensures ∙ c.in-Refuse.is)
+returns-in-Err c = rw (sym c.slot_verdict.ensures ∙ c.in-Err.is)
 
-pub returns-in-Pass : goal.returns-in-Pass
+pub returns-in-Ok : goal.returns-in-Ok
 unfolding register_slot unless_refused
-returns-in-Pass c = rw (sym c.slot_verdict.ensures ∙ c.in-Pass.is, c.register_lane.ensures, c.due_key-key.ensures)
+returns-in-Ok c = rw (sym c.slot_verdict.ensures ∙ c.in-Ok.is, c.register_lane.ensures, c.due_key-key.ensures)

@@ -1,6 +1,5 @@
 -- `sender::sender::take_slot` meets its contract.
 -- Assumes nothing.
-use native.Mathlib.Omega.{arith}
 use borrow.Author.Tests.{lt-ltb, le-ltb}
 use Rattle.sender.specs.Sender.{take_slot}
 use Rattle.sender.proofs.sender.take_slot.Goals as goal
@@ -8,9 +7,6 @@ use Rattle.sender.proofs.sender.take_slot.Goals as goal
 pub returns-then-d-t : goal.returns-then-d-t
 unfolding take_slot
 returns-then-d-t c = simp (lt-ltb _ _ c.if-d-t.true, c.reissue.ensures)
-
-pub open_page-requires : goal.open_page-requires
-open_page-requires c = omega (arith, c.requires.1 c.if-d-t.false, c.requires.0.room)
 
 pub returns : goal.returns
 unfolding take_slot

@@ -7,12 +7,12 @@ use Rattle.sender.proofs.SenderBounds.{send_room}
 use Rattle.sender.proofs.sender.try_send_unsignaled.Goals as goal
 
 pub send_unsignaled-requires : goal.send_unsignaled-requires
-send_unsignaled-requires c = send_room _ _ _ c.requires (sym c.send_verdict.ensures ∙ c.in-Pass.is)
+send_unsignaled-requires c = send_room _ _ _ c.requires (sym c.send_verdict.ensures ∙ c.in-Ok.is)
 
-pub returns-in-Refuse : goal.returns-in-Refuse
+pub returns-in-Err : goal.returns-in-Err
 unfolding try_send_unsignaled unless_refused
-returns-in-Refuse c = rw (sym c.send_verdict.ensures ∙ c.in-Refuse.is)
+returns-in-Err c = rw (sym c.send_verdict.ensures ∙ c.in-Err.is)
 
-pub returns-in-Pass : goal.returns-in-Pass
+pub returns-in-Ok : goal.returns-in-Ok
 unfolding try_send_unsignaled unless_refused
-returns-in-Pass c = rw (sym c.send_verdict.ensures ∙ c.in-Pass.is) c.send_unsignaled.ensures
+returns-in-Ok c = rw (sym c.send_verdict.ensures ∙ c.in-Ok.is) c.send_unsignaled.ensures

@@ -1,8 +1,8 @@
--- `order::seen::has` meets its contract.
+-- `order::seen::Bitmap::has` meets its contract.
 -- Assumes nothing.
 use mathlib.Core.Path.{refl}
 use Rattle.order.specs.Seen.{has}
-use Rattle.order.proofs.seen.has.Goals as goal
+use Rattle.order.proofs.seen.Bitmap.has.Goals as goal
 
 pub returns : goal.returns
 unfolding has
