@@ -1,5 +1,6 @@
 -- What the code's ways out of a plain and of a lone lane's fair receive have for the definitions' parts.
 -- Assumes nothing.
+use Rattle.std.specs.Prelude.{Option, Some, None}
 use Rattle.store.specs.Order.{but_held}
 use mathlib.Core.Path.{◌≡◌, sym, ap, ap₂, ◌∙◌}
 use mathlib.Core.List.{List}
@@ -10,7 +11,6 @@ use borrow.Author.Tests.{ne_eqb, lt-ltb, le-ltb}
 use Rattle.yring.specs.declared.ring.Ring.{Ring}
 use Rattle.lane.specs.declared.consumer.Taken.{Taken}
 use Rattle.lane.specs.declared.lane.Lane.{Lane}
-use Rattle.lane.specs.declared.lane.Popped.{Popped}
 use Rattle.yring.specs.Ring.{Within, new_ring}
 use Rattle.lane.specs.Lane.{pop_window, fair_window, pop_fair, pop_fast, pop_lone}
 use Rattle.lane.specs.Table.{lane_at, put_lane}
@@ -29,9 +29,9 @@ use Rattle.turns.proofs.DueLaws.{turning_of, ringed_of}
 -- ---- the plain receive
 
 module _ (t r : List ℕ) where
-  refill_is : take_fast t r ≡ (Took.Nothing, t) → try_recv_refill t r ≡ take_one t r
+  refill_is : take_fast t r ≡ (None, t) → try_recv_refill t r ≡ take_one t r
   unfolding take_one else_take
-  refill_is e = sym (ap (λ (o : Took × List ℕ). else_take o (λ u. try_recv_refill u r)) e)
+  refill_is e = sym (ap (λ (o : Option Took × List ℕ). else_take o (λ u. try_recv_refill u r)) e)
 
   pub unissued_refill : issued t ≤ fast_slot t → try_recv_refill t r ≡ take_one t r
   unfolding take_fast
@@ -48,7 +48,7 @@ module _ (t r : List ℕ) where
     closed_refill g w =
         refill_is
         (sym
-        (take_fast_is t r h (sym (ap (λ (m : Lane). m.registered) e) ∙ g) (Popped.Nothing (lane_at t (fast_slot t)))
+        (take_fast_is t r h (sym (ap (λ (m : Lane). m.registered) e) ∙ g) None
         (pop_fast_none (new_ring (fast_slot t) (capacity t)) r (lane_at t (fast_slot t)) (sym (ap (λ (m : Lane). m.window) e) ∙ w))))
 
 module _ (t r : List ℕ) (l : Lane) (k : FastOpen t r l) where
@@ -75,11 +75,11 @@ unfolding take_from_window
 window_rests t item l = omega arith
 
 -- and what names the opening as it was
-pub window_channel : (t u : List ℕ) (took : Took) (item : ℕ) (l : Lane) → (took, u) ≡ take_from_window t item l → channel u ≡ channel t
+pub window_channel : (t u : List ℕ) (took : Option Took) (item : ℕ) (l : Lane) → (took, u) ≡ take_from_window t item l → channel u ≡ channel t
 unfolding take_from_window
 window_channel t u took item l e =
     let same : channel (set_budget (put_lane t l) (budget t - 1)) ≡ channel t = simp frames in
-    ap (λ (o : Took × List ℕ). channel o.1) e ∙ same
+    ap (λ (o : Option Took × List ℕ). channel o.1) e ∙ same
 
 module _ (t r : List ℕ) (l : Lane) (k : FastOpen t r l) (ring : Ring) (a : ring ≡ new_ring (fast_slot t) (capacity t)) (x : Taken) (e : x ≡ pop_window ring r l) where
   here : x ≡ pop_window (new_ring (fast_slot t) (capacity t)) r (lane_at t (fast_slot t))
@@ -88,17 +88,17 @@ module _ (t r : List ℕ) (l : Lane) (k : FastOpen t r l) (ring : Ring) (a : rin
   registered : (lane_at t (fast_slot t)).registered ≡ 1
   registered = sym (ap (λ (m : Lane). m.registered) k.is_lane) ∙ k.is_registered
 
-  popped : pop_fast (new_ring (fast_slot t) (capacity t)) r (lane_at t (fast_slot t)) ≡ Popped.Item x.item x.lane
+  popped : pop_fast (new_ring (fast_slot t) (capacity t)) r (lane_at t (fast_slot t)) ≡ Some x
   popped =
       pop_fast_some (new_ring (fast_slot t) (capacity t)) r (lane_at t (fast_slot t)) (λ z. k.is_open (ap (λ (m : Lane). m.window) k.is_lane ∙ z))
-      ∙ ap (λ (y : Taken). Popped.Item y.item y.lane) (sym here)
+      ∙ ap (λ (y : Taken). Some y) (sym here)
 
   pub open_room : Shaped t × (x.lane.key.slot < slots t) × (0 < budget t)
-  open_room = fast_room t r k.in_order k.is_issued registered x.item x.lane popped
+  open_room = fast_room t r k.in_order k.is_issued registered x popped
 
   pub open_take : take_from_window t x.item x.lane ≡ take_one t r
   unfolding take_one else_take fast_took take_from_window
-  open_take = ap (λ (o : Took × List ℕ). else_take o (λ u. try_recv_refill u r)) (take_fast_is t r k.is_issued registered (Popped.Item x.item x.lane) popped)
+  open_take = ap (λ (o : Option Took × List ℕ). else_take o (λ u. try_recv_refill u r)) (take_fast_is t r k.is_issued registered (Some x) popped)
 
 -- ---- the fair receive of a lone lane
 
@@ -110,20 +110,20 @@ fair_open C b l m e n =
     e ∙ sym same
 
 module _ (t r : List ℕ) (one : queue_count t ≡ 1) (l : Lane) (b : l ≡ fair_window (capacity t) (budget t) (front_lane t)) where
-  pub lone_none : l.window ≡ 0 → (Took.Nothing, t) ≡ take_lone t r
+  pub lone_none : l.window ≡ 0 → (None, t) ≡ take_lone t r
   unfolding take_if_popped
   lone_none e =
-      take_lone_is t r one (Popped.Nothing (fair_window (capacity t) (budget t) (front_lane t)))
+      take_lone_is t r one None
       (sym (pop_fair_none (new_ring (front_slot t) (capacity t)) r (budget t) (front_lane t) (sym (ap (λ (m : Lane). m.window) b) ∙ e)))
 
   module _ (n : l.window ≡ 0 → ⊥) (ring : Ring) (a : ring ≡ new_ring (front_slot t) (capacity t)) (x : Taken) (e : x ≡ pop_fair ring r l) where
-    fair_popped : Popped.Item x.item x.lane ≡ pop_lone (new_ring (front_slot t) (capacity t)) r (budget t) (front_lane t)
+    fair_popped : Some x ≡ pop_lone (new_ring (front_slot t) (capacity t)) r (budget t) (front_lane t)
     fair_popped =
-        ap (λ (y : Taken). Popped.Item y.item y.lane) (e ∙ ap₂ (λ (g : Ring) (m : Lane). pop_fair g r m) a b)
+        ap (λ (y : Taken). Some y) (e ∙ ap₂ (λ (g : Ring) (m : Lane). pop_fair g r m) a b)
         ∙ sym (pop_fair_some (new_ring (front_slot t) (capacity t)) r (budget t) (front_lane t) (λ z. n (ap (λ (m : Lane). m.window) b ∙ z)))
 
-    pub lone_item : take_if_popped t (Popped.Item x.item x.lane) ≡ take_lone t r
-    lone_item = take_lone_is t r one (Popped.Item x.item x.lane) fair_popped
+    pub lone_item : take_if_popped t (Some x) ≡ take_lone t r
+    lone_item = take_lone_is t r one (Some x) fair_popped
 
     pub lone_item_room : Turning t → 0 < budget t → Shaped t × (x.lane.key.slot < slots t) × (0 < budget t)
-    lone_item_room k h = lone_room t r k (λ z. omega (arith, one, z)) h (Popped.Item x.item x.lane) fair_popped
+    lone_item_room k h = lone_room t r k (λ z. omega (arith, one, z)) h x fair_popped

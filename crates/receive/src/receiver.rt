@@ -3,25 +3,24 @@
 // They differ in the window that the item comes through: `take_from_window` one that is open, `take_from_new_window`
 // one that was opened for this item, `take_if_popped` the same if it gave one; `take_front_window` opens one on the
 // front lane (plain), `take_lone` on the only queued lane (fair), whose item `take_from_lone_window` takes.
-ghost use Rattle.std.specs.Prelude.{◌≡◌, ◌≤◌, ◌<◌, length};
+ghost use Rattle.std.specs.Prelude.{◌≡◌, ◌≤◌, ◌<◌, Some, length};
 ghost use Rattle.lane.specs.Lane.{pop_fair};
-ghost use Rattle.lane.specs.Order.{popped_lane};
+ghost use Rattle.lane.specs.declared.consumer.Taken.{Taken};
 ghost use Rattle.lane.specs.Table.{header_words};
 ghost use Rattle.yring.specs.Ring.{Within};
-ghost use Rattle.lane.specs.declared.lane.Popped.TheVariants as Popped;
 ghost use Rattle.queues.specs.Header.{Shaped, slots, budget, channel};
 ghost use Rattle.store.specs.Order.{StoreInOrder};
 ghost use Rattle.turns.specs.Turn.{Turning, Ringed};
 ghost use Rattle.turns.specs.Drained.{Rests};
 ghost use Rattle.receive.specs.Receive.{take_from_window, Affords, FastOpen, take_if_popped, take_front_window, poll_loop, try_recv_refill, take_one, take_lone, take_fair, answer_one, try_recv, try_recv_fair};
 
-use lane::lane::{Lane, Popped};
+use lane::consumer::Taken;
+use lane::lane::Lane;
 use model::{Answer, LaneId, OpenedChannel};
 use queues::header::Header;
 use queues::queue;
 use ready::ready as marks;
 use store::refusal;
-use store::refusal::Verdict;
 use turns::turn::Took;
 use turns::{drained, due, turn};
 use yring::ring::Ring;
@@ -29,21 +28,17 @@ use yring::ring::Ring;
 // An item of a window: its lane goes back, and the budget is charged.
 fn take_from_window(t: &mut [u64], item: u64, l: Lane) -> Took
     requires { Shaped t.old × (l.key.slot < slots t.old) × (0 < budget t.old) }
-    ensures { (result, t.new) ≡ take_from_window t.old item l }
+    ensures { (Some result, t.new) ≡ take_from_window t.old item l }
 {
     l.store(t);
-    t[Header::BUDGET] = t[Header::BUDGET] - 1;
-    let key = l.key;
-    Took::Item {
-        item: item,
-        key: key,
-    }
+    t[Header::BUDGET] -= 1;
+    Took { item, key: l.key }
 }
 
 // An item of a window that was just opened: the next plain receive looks there first.
 fn take_from_new_window(t: &mut [u64], item: u64, l: Lane) -> Took
     requires { Shaped t.old × (l.key.slot < slots t.old) × (0 < budget t.old) }
-    ensures { (result, t.new) ≡ take_if_popped t.old (Popped.Item item l) }
+    ensures { (Some result, t.new) ≡ take_if_popped t.old (Some (record { item = item; lane = l })) }
 {
     let took = take_from_window(t, item, l);
     t[Header::FAST] = l.key.slot;
@@ -51,23 +46,21 @@ fn take_from_new_window(t: &mut [u64], item: u64, l: Lane) -> Took
 }
 
 // The item of a window that was just opened, if it has one.
-fn take_if_popped(t: &mut [u64], popped: Popped) -> Took
-    requires { Shaped t.old × ((popped_lane popped).key.slot < slots t.old) × Affords t.old popped }
+fn take_if_popped(t: &mut [u64], popped: Option<Taken>) -> Option<Took>
+    requires { Shaped t.old × ((x : Taken) → popped ≡ Some x → x.lane.key.slot < slots t.old) × Affords t.old popped }
     ensures { (result, t.new) ≡ take_if_popped t.old popped }
 {
-    match popped {
-        Popped::Nothing { lane: _ } => Took::Nothing,
-        Popped::Item { item, lane } => take_from_new_window(t, item, lane),
-    }
+    let taken = popped?;
+    Some(take_from_new_window(t, taken.item, taken.lane))
 }
 
 // Opens a window on the front lane and takes its first item.
-fn take_front_window(t: &mut [u64], r: &[u64]) -> Took
+fn take_front_window(t: &mut [u64], r: &[u64]) -> Option<Took>
     requires { Turning t.old × Ringed t.old r.now }
     ensures { (result, t.new) ≡ take_front_window t.old r.now }
 {
     if t[Header::QUEUED] == 0 {
-        return Took::Nothing;
+        return None;
     }
     let slot = queue::front_slot(t);
     let ring = Ring::new(slot, t[Header::CAPACITY]);
@@ -77,95 +70,84 @@ fn take_front_window(t: &mut [u64], r: &[u64]) -> Took
 }
 
 // Turns at the front, and once more after a look for ready lanes.
-fn poll_loop(t: &mut [u64], r: &[u64]) -> Took
+fn poll_loop(t: &mut [u64], r: &[u64]) -> Option<Took>
     requires { Turning t.old × Ringed t.old r.now }
     ensures { (result, t.new) ≡ poll_loop t.old r.now }
 {
-    match turn::turns(t, r, false) {
-        Took::Item { item, key } => Took::Item {
-            item: item,
-            key: key,
-        },
-        Took::Nothing => {
-            marks::collect_ready(t, true);
-            turn::turns(t, r, false)
-        }
+    if let Some(took) = turn::turns(t, r, false) {
+        return Some(took);
     }
+    marks::collect_ready(t, true);
+    turn::turns(t, r, false)
 }
 
-fn try_recv_refill(t: &mut [u64], r: &[u64]) -> Took
+fn try_recv_refill(t: &mut [u64], r: &[u64]) -> Option<Took>
     requires { Turning t.old × Ringed t.old r.now }
     ensures { (result, t.new) ≡ try_recv_refill t.old r.now }
 {
     due::collect_if_due(t);
-    match take_front_window(t, r) {
-        Took::Item { item, key } => Took::Item {
-            item: item,
-            key: key,
-        },
-        Took::Nothing => poll_loop(t, r),
+    if let Some(took) = take_front_window(t, r) {
+        return Some(took);
     }
+    poll_loop(t, r)
 }
 
 // An item for a fair receive through the open window of the only queued lane.
 fn take_from_lone_window(t: &mut [u64], r: &[u64], ring: Ring, l: Lane) -> Took
     requires { Within ring (length r.now) × (0 < l.window) × Shaped t.old × (l.key.slot < slots t.old) × (0 < budget t.old) }
-    ensures { (result, t.new) ≡ take_if_popped t.old (Popped.Item (pop_fair ring r.now l).item (pop_fair ring r.now l).lane) }
+    ensures { (Some result, t.new) ≡ take_if_popped t.old (Some (pop_fair ring r.now l)) }
 {
     let taken = l.pop_fair(ring, r);
     take_from_new_window(t, taken.item, taken.lane)
 }
 
 // The only queued lane has nothing to rotate past.
-fn take_lone(t: &mut [u64], r: &[u64]) -> Took
+fn take_lone(t: &mut [u64], r: &[u64]) -> Option<Took>
     requires { Turning t.old × Ringed t.old r.now × (0 < budget t.old) }
     ensures { (result, t.new) ≡ take_lone t.old r.now }
 {
     if t[Header::QUEUED] != 1 {
-        return Took::Nothing;
+        return None;
     }
     let slot = queue::front_slot(t);
     let ring = Ring::new(slot, t[Header::CAPACITY]);
     let l = Lane::load(t, slot);
     if l.window != 0 {
-        return take_from_lone_window(t, r, ring, l);
+        return Some(take_from_lone_window(t, r, ring, l));
     }
     let opened = l.fair_window(t[Header::CAPACITY], t[Header::BUDGET]);
     if opened.window == 0 {
-        return Took::Nothing;
+        return None;
     }
-    take_from_lone_window(t, r, ring, opened)
+    Some(take_from_lone_window(t, r, ring, opened))
 }
 
-fn take_fair(t: &mut [u64], r: &[u64]) -> Took
+fn take_fair(t: &mut [u64], r: &[u64]) -> Option<Took>
     requires { Turning t.old × Ringed t.old r.now }
     ensures { (result, t.new) ≡ take_fair t.old r.now }
 {
     marks::collect_if_ready(t, true);
     t[Header::BUDGET] = Header::POLL_BUDGET;
-    match take_lone(t, r) {
-        Took::Item { item, key } => Took::Item {
-            item: item,
-            key: key,
-        },
-        Took::Nothing => turn::fair_turns(t, r),
+    if let Some(took) = take_lone(t, r) {
+        return Some(took);
     }
+    turn::fair_turns(t, r)
 }
 
 // The item with its lane's id, held no more, or Empty or Disconnected.
-fn answer_one(t: &mut [u64], channel: OpenedChannel, took: Took) -> Answer
+fn answer_one(t: &mut [u64], channel: OpenedChannel, took: Option<Took>) -> Answer
     requires { (header_words ≤ length t.old) × Rests (took, t.old) }
     ensures { (result, t.new) ≡ answer_one channel (took, t.old) }
 {
     match took {
-        Took::Nothing => drained::nothing_taken(t),
-        Took::Item { item, key } => {
+        None => drained::nothing_taken(t),
+        Some(took) => {
             Header::held_less(t, 1);
             Answer::Item {
-                item: item,
+                item: took.item,
                 lane: LaneId {
-                    channel: channel,
-                    key: key,
+                    channel,
+                    key: took.key,
                 },
             }
         }
@@ -214,7 +196,7 @@ fn answer_window(t: &mut [u64], r: &[u64], l: Lane) -> Answer
     let taken = l.pop_window(Ring::new(l.key.slot, t[Header::CAPACITY]), r);
     let took = take_from_window(t, taken.item, taken.lane);
     let channel = Header::channel(t);
-    answer_one(t, channel, took)
+    answer_one(t, channel, Some(took))
 }
 
 // Receives one item, in bursts of at most 64 of a lane.
@@ -223,8 +205,8 @@ pub fn try_recv(t: &mut [u64], r: &[u64]) -> Answer
     ensures { (result, t.new, r.now) ≡ try_recv t.old r.now }
 {
     match refusal::receiver_verdict(t) {
-        Verdict::Refuse { why } => Answer::Refused { why: why },
-        Verdict::Pass => try_recv_output(t, r),
+        Err(why) => Answer::Refused { why },
+        Ok(()) => try_recv_output(t, r),
     }
 }
 
@@ -234,8 +216,8 @@ pub fn try_recv_fair(t: &mut [u64], r: &[u64]) -> Answer
     ensures { (result, t.new, r.now) ≡ try_recv_fair t.old r.now }
 {
     match refusal::receiver_verdict(t) {
-        Verdict::Refuse { why } => Answer::Refused { why: why },
-        Verdict::Pass => {
+        Err(why) => Answer::Refused { why },
+        Ok(()) => {
             let channel = Header::channel(t);
             let took = take_fair(t, r);
             answer_one(t, channel, took)

@@ -23,8 +23,8 @@ use Rattle.queues.specs.Queue.{queue_of}
 use Rattle.queues.specs.Registry.{free_of}
 use Rattle.queues.proofs.RegistryLaws.{registry_frames}
 use Rattle.store.specs.View.{flag}
-use Rattle.store.specs.declared.refusal.Verdict.{Verdict}
-use Rattle.store.specs.declared.refusal.Verdict.TheVariants.{Pass, Refuse}
+use Rattle.store.specs.Refusal.{Verdict}
+use Rattle.std.specs.Prelude.{Ok, Err}
 use Rattle.store.specs.Refusal.{receiver_verdict, and_then}
 use Rattle.store.specs.Words.{unless_refused, with_rings}
 use Rattle.turns.specs.Turn.{Turning}
@@ -85,17 +85,17 @@ turning_refunds t k = (k.shaped, λ x h e. refundable (capacity t) k.power.most 
 
 -- ---- the refusals
 
-pub batch_room : (t : List ℕ) (limit room : ℕ) → batch_verdict t limit room ≡ Pass → limit ≤ room
+pub batch_room : (t : List ℕ) (limit room : ℕ) → batch_verdict t limit room ≡ Ok tt → limit ≤ room
 unfolding batch_verdict room_verdict and_then
 batch_room t limit room e = go (receiver_verdict t) e
   where
-    short : (b : Bool) → ltb room limit ≡ b → cond b (Refuse OutputShort) Pass ≡ Pass → limit ≤ room
-    short true s f = let z : ◌≡◌ {A = ℕ} 0 1 = cc in absurd (omega arith)
+    short : (b : Bool) → ltb room limit ≡ b → ◌≡◌ {A = Verdict} (cond b (Err OutputShort) (Ok tt)) (Ok tt) → limit ≤ room
+    short true s f = absurd cc
     short false s f = ltb-false room limit s
 
-    go : (v : Verdict) → and_then v (cond (ltb room limit) (Refuse OutputShort) Pass) ≡ Pass → limit ≤ room
-    go Pass f = short (ltb room limit) refl f
-    go (Refuse why) f = let z : ◌≡◌ {A = ℕ} 0 1 = cc in absurd (omega arith)
+    go : (v : Verdict) → and_then v (cond (ltb room limit) (Err OutputShort) (Ok tt)) ≡ Ok tt → limit ≤ room
+    go (Ok u) f = short (ltb room limit) refl f
+    go (Err why) f = absurd cc
 
 module _ (t r out : List ℕ) (limit : ℕ) where
   by_verdict : (v : Verdict) → Answer × List ℕ × List ℕ × List ℕ
@@ -107,12 +107,12 @@ module _ (t r out : List ℕ) (limit : ℕ) where
   unfolding try_recv_batch_into batch_words batch_hands by_verdict
   is_by_verdict = refl
 
-  pub batch_refused : (why : Refusal) → batch_verdict t limit (length out) ≡ Refuse why → (Refused why, t, r, out) ≡ try_recv_batch_into t r out limit
+  pub batch_refused : (why : Refusal) → batch_verdict t limit (length out) ≡ Err why → (Refused why, t, r, out) ≡ try_recv_batch_into t r out limit
   unfolding by_verdict unless_refused handed_by
   batch_refused why e = sym (is_by_verdict ∙ ap by_verdict e ∙ ap (λ (o : List ℕ). (Refused why, t, r, o)) (output_none out))
 
   module _ (n : ℕ) (u o : List ℕ) (d : (n, u, o) ≡ drain_into t r out limit) where
-    pub batch_done : (a : Answer) (v w : List ℕ) → batch_verdict t limit (length out) ≡ Pass → w ≡ release_all u → (a, v) ≡ answer_items limit n w → (a, v, r, o) ≡ try_recv_batch_into t r out limit
+    pub batch_done : (a : Answer) (v w : List ℕ) → batch_verdict t limit (length out) ≡ Ok tt → w ≡ release_all u → (a, v) ≡ answer_items limit n w → (a, v, r, o) ≡ try_recv_batch_into t r out limit
     unfolding by_verdict unless_refused handed_by batch_answer drain_into
     batch_done a v w e p q =
         ap (λ (z : Answer × List ℕ). (z.0, z.1, r, o)) (q ∙ ap (answer_items limit n) p)

@@ -1,5 +1,6 @@
 -- Chunk after chunk: the loop's state is what was handed out so far and what the definition still hands out.
 -- Assumes nothing.
+use Rattle.std.specs.Prelude.{Option, Some, None}
 use mathlib.Core.Path.{◌≡◌, refl, sym, ap, ap₂, ◌∙◌, subst}
 use mathlib.Core.Bool.{Bool, true, false, cond}
 use mathlib.Core.List.{List, [], ◌++◌, map, append-nil, append_assoc}
@@ -13,7 +14,6 @@ use Rattle.model.specs.Receive as rules
 use Rattle.lane.specs.declared.lane.Lane.{Lane}
 use Rattle.yring.specs.Lists.{tab, written}
 use Rattle.yring.specs.Ring.{items}
-use Rattle.receive_batch.specs.declared.batch.Front.{Front}
 use Rattle.turns.specs.Turn.{Turning}
 use Rattle.turns.specs.Drained.{Idle}
 use Rattle.receive_batch.specs.Batch.{refresh_active, Fronts, chunk_size, chunk_items, chunk_given, give_chunk, HandsAndTable, chunk_then, drained_within, drained, drain_into}
@@ -106,11 +106,8 @@ module _ {t₀ r out₀ : List ℕ} {limit : ℕ} {t out : List ℕ} {received :
     step n e =
         ap (onto d.handed) (sym (ap (λ (f : ℕ). drained_within f t r (limit - received)) (sym e) ∙ within_next n t r (limit - received) (omega (arith, h)))) ∙ d.rest
 
-    pub drain_long : (front : Front) (u : List ℕ) → (front, u) ≡ refresh_active t → length u ≡ length t₀
-    drain_long front u e = subst (λ (o : Front × List ℕ). length o.1 ≡ length t) (sym e) (refresh_searched t turning).keeps.long ∙ d.keeps.long
-
     -- nothing is queued and nothing is ready
-    pub draining_none : (u : List ℕ) → (Front.None, u) ≡ refresh_active t → (received, u, out) ≡ drain_into t₀ r out₀ limit
+    pub draining_none : (u : List ℕ) → (None, u) ≡ refresh_active t → (received, u, out) ≡ drain_into t₀ r out₀ limit
     unfolding drain_into chunk_then
     draining_none u e = go d.fuel refl
       where
@@ -118,13 +115,13 @@ module _ {t₀ r out₀ : List ℕ} {limit : ℕ} {t out : List ℕ} {received :
         go zero z = absurd (fuel_some zero z refl)
         go (suc n) z =
             let s : onto d.handed ([], u) ≡ drained t₀ r limit =
-            ap (λ (o : Front × List ℕ). onto d.handed (chunk_then o r (limit - received) (λ u m. drained_within n u r m))) e ∙ step n z in
+            ap (λ (o : Option Lane × List ℕ). onto d.handed (chunk_then o r (limit - received) (λ u m. drained_within n u r m))) e ∙ step n z in
             let all : (d.handed, u) ≡ drained t₀ r limit = ap (λ (l : Handed). (l, u)) (sym (append-nil d.handed)) ∙ s in
             rw (← d.counted, d.wrote) (ap (λ (x : HandsAndTable). (length x.0, x.1, rules.written_to x.0 out₀)) all)
 
     -- a lane has items
-    module _ (u : List ℕ) (l : Lane) (e : (Front.Ready l, u) ≡ refresh_active t) where
-      searched : Searched t (Front.Ready l, u)
+    module _ (u : List ℕ) (l : Lane) (e : (Some l, u) ≡ refresh_active t) where
+      searched : Searched t (Some l, u)
       searched = subst (Searched t) (sym e) (refresh_searched t turning)
 
       pub drain_front : Fronts u l
@@ -188,7 +185,7 @@ module _ {t₀ r out₀ : List ℕ} {limit : ℕ} {t out : List ℕ} {received :
                   let more : HandsAndTable = drained_within f (chunk_given u n l) r (limit - received - n) in
                   ap (λ (m : ℕ). onto (d.handed ++ chunk_handed u r n l) (drained_within f (chunk_given u n l) r m)) left_is
                   ∙ ap (λ (x : Handed). (x, more.1)) (append_assoc d.handed (chunk_handed u r n l) more.0)
-                  ∙ ap (λ (o : Front × List ℕ). onto d.handed (chunk_then o r (limit - received) (λ u m. drained_within f u r m))) e ∙ step f z
+                  ∙ ap (λ (o : Option Lane × List ℕ). onto d.handed (chunk_then o r (limit - received) (λ u m. drained_within f u r m))) e ∙ step f z
 
 -- ---- what the whole leaves
 
@@ -197,10 +194,10 @@ unfolding drained_within chunk_then
 drained_keeps_within zero t r left k = keeps_self t k
 drained_keeps_within (suc n) t r left k = go (λ u m i. drained_keeps_within n u r m i) (eqb left 0)
   where
-    by : (o : Front × List ℕ) → Searched t o → ((u : List ℕ) (m : ℕ) → Turning u → Keeps u (drained_within n u r m).1)
+    by : (o : Option Lane × List ℕ) → Searched t o → ((u : List ℕ) (m : ℕ) → Turning u → Keeps u (drained_within n u r m).1)
         → Keeps t (chunk_then o r left (λ u m. drained_within n u r m)).1
-    by (Front.None, u) s ih = s.keeps
-    by (Front.Ready l, u) s ih =
+    by (None, u) s ih = s.keeps
+    by (Some l, u) s ih =
         let c = chunk_keeps u l s.reached (chunk_size u left l) (chunk_least u left l).2 in
         keeps_then (keeps_then s.keeps c) (ih (chunk_given u (chunk_size u left l) l) (left - chunk_size u left l) c.turning)
 
@@ -221,10 +218,10 @@ drained_rests t r (suc limit) k h z =
     let e = within_next limit t r (suc limit) (omega arith) in
     subst (λ (d : HandsAndTable). Idle d.1) (sym e) (go (refresh_active t) (refresh_searched t k) (ap (λ (d : HandsAndTable). length d.0) (sym e) ∙ z))
   where
-    go : (o : Front × List ℕ) → Searched t o → length (chunk_then o r (suc limit) (λ u m. drained_within limit u r m)).0 ≡ 0
+    go : (o : Option Lane × List ℕ) → Searched t o → length (chunk_then o r (suc limit) (λ u m. drained_within limit u r m)).0 ≡ 0
         → Idle (chunk_then o r (suc limit) (λ u m. drained_within limit u r m)).1
-    go (Front.None, u) s z = s.reached
-    go (Front.Ready l, u) s z =
+    go (None, u) s z = s.reached
+    go (Some l, u) s z =
         let n = chunk_size u (suc limit) l in
         let some : 0 < n = chunk_some u (suc limit) l (chunk_filled u l s.reached) (omega arith) in
         absurd (omega (arith, z, some, length-append (chunk_handed u r n l) (drained_within limit (chunk_given u n l) r (suc limit - n)).0, length_handed u r n l))

@@ -1,70 +1,68 @@
 -- The batch, as words: a loop over one step, which looks for a lane with items and takes a chunk of it.
 -- Assumes nothing.
-use Rattle.std.specs.Prelude.{◌≡◌, true, cond, List, [], ◌++◌, map, ℕ, zero, suc, ◌-◌, min, eqb, ltb, length}
+use Rattle.std.specs.Prelude.{◌≡◌, true, cond, List, [], ◌++◌, map, ℕ, zero, suc, ◌-◌, min, eqb, ltb, length, Option, Some, None, Result, Ok, Err}
 use Rattle.model.specs.declared.LaneKey.{LaneKey}
 use Rattle.model.specs.declared.Answer.{Answer}
 use Rattle.model.specs.declared.Answer.TheVariants.{Items}
 use Rattle.model.specs.declared.Refusal.TheVariants.{OutputShort}
 use Rattle.model.specs.Receive as rules
 use Rattle.lane.specs.declared.lane.Lane.{Lane}
-use Rattle.lane.specs.declared.lane.Refill.{Refill}
 use Rattle.yring.specs.Lists.{written}
 use Rattle.yring.specs.Ring.{new_ring, items}
 use Rattle.lane.specs.Lane.{refill, end_full_burst, chunk_limit, move_chunk}
 use Rattle.lane.specs.Table.{put_lane}
 use Rattle.queues.specs.Header.{set_budget, queue_count, budget, capacity, held_less}
 use Rattle.ready.specs.Ready.{collect_ready}
-use Rattle.store.specs.declared.refusal.Verdict.{Verdict}
-use Rattle.store.specs.declared.refusal.Verdict.TheVariants.{Pass, Refuse}
-use Rattle.receive_batch.specs.declared.batch.Front.{Front}
-use Rattle.receive_batch.specs.declared.batch.Look.{Look}
-use Rattle.store.specs.Refusal.{receiver_verdict, and_then}
+use Rattle.store.specs.Refusal.{Verdict, receiver_verdict, and_then}
 use Rattle.store.specs.Words.{Words, unless_refused, with_rings}
 use Rattle.turns.specs.Turn.{Turning, front_lane, settle_empty_front, meet_budget, rotate_if}
 use Rattle.turns.specs.Drained.{Idle, nothing_taken}
 use Rattle.turns.specs.Due.{collect_if_due}
 use Rattle.all_lanes.specs.AllLanes.{release_all}
+use Rattle.lane.specs.declared.lane.EmptyLane.{EmptyLane}
+use Rattle.std.specs.declared.ops.ControlFlow.{ControlFlow}
+use Rattle.std.specs.declared.ops.ControlFlow.TheVariants.{Continue, Break}
 
 -- ---- the lane whose turn it is
 
 -- a front lane with items is handed on and nothing is stored; one found empty leaves the queue
-unfoldable pub look_by : List ℕ → Refill → Look × List ℕ
-look_by t (Refill.Ready l) = (Look.Ends (Front.Ready l), t)
-look_by t (Refill.Idle found) = (Look.Left, meet_budget (settle_empty_front t found))
+unfoldable pub look_by : List ℕ → Result Lane EmptyLane → ControlFlow (Option Lane) (Unit {0}) × List ℕ
+look_by t (Ok l) = (Break (Some l), t)
+look_by t (Err found) = (Continue tt, meet_budget (settle_empty_front t found))
 
-unfoldable pub look_front : List ℕ → Look × List ℕ
-look_front t = cond (eqb (queue_count t) 0) (Look.Ends Front.None, t) (look_by t (refill (front_lane t)))
+unfoldable pub look_front : List ℕ → ControlFlow (Option Lane) (Unit {0}) × List ℕ
+look_front t = cond (eqb (queue_count t) 0) (Break None, t) (look_by t (refill (front_lane t)))
 
 -- what follows a look at a lane that left
-unfoldable pub after_look : Look × List ℕ → Front × List ℕ → Front × List ℕ
-after_look (Look.Ends front, t) more = (front, t)
-after_look (Look.Left, t) more = more
+unfoldable pub after_look : ControlFlow (Option Lane) (Unit {0}) × List ℕ → Option Lane × List ℕ → Option Lane × List ℕ
+after_look (Break front, t) more = (front, t)
+after_look (Continue u, t) more = more
 
 -- "lanes may settle or retire on the way": n lanes at most can leave a queue of n
-unfoldable pub run_down_within : ℕ → List ℕ → Front × List ℕ
-run_down_within zero t = (Front.None, t)
+unfoldable pub run_down_within : ℕ → List ℕ → Option Lane × List ℕ
+run_down_within zero t = (None, t)
 run_down_within (suc n) t = let u = look_front t in after_look u (run_down_within n u.1)
 
-unfoldable pub run_down : List ℕ → Front × List ℕ
+unfoldable pub run_down : List ℕ → Option Lane × List ℕ
 run_down t = run_down_within (queue_count t) t
 
-unfoldable pub else_front : Front × List ℕ → (List ℕ → Front × List ℕ) → Front × List ℕ
-else_front (Front.Ready l, t) more = (Front.Ready l, t)
-else_front (Front.None, t) more = more t
+unfoldable pub else_front : Option Lane × List ℕ → (List ℕ → Option Lane × List ℕ) → Option Lane × List ℕ
+else_front (Some l, t) more = (Some l, t)
+else_front (None, t) more = more t
 
 -- "until nothing is queued and nothing is ready": the look that is due first, as in a plain receive, and a look for every ready lane where none is queued
-unfoldable pub refresh_active : List ℕ → Front × List ℕ
+unfoldable pub refresh_active : List ℕ → Option Lane × List ℕ
 refresh_active t = else_front (run_down (collect_if_due t)) (λ u. run_down (collect_ready true u))
 
 -- what is known of the table then: the lane is the front lane's, refilled; without one no lane is queued
 pub record Fronts (t : List ℕ) (l : Lane) : Type 0 where
   pub turning : Turning t
   pub some : queue_count t ≡ 0 → ⊥
-  pub filled : refill (front_lane t) ≡ Refill.Ready l
+  pub filled : refill (front_lane t) ≡ Ok l
 
-abbrev pub Reached : Front × List ℕ → Type 0
-Reached (Front.Ready l, t) = Fronts t l
-Reached (Front.None, t) = Idle t
+abbrev pub Reached : Option Lane × List ℕ → Type 0
+Reached (Some l, t) = Fronts t l
+Reached (None, t) = Idle t
 
 -- ---- a chunk of it
 
@@ -101,9 +99,9 @@ abbrev pub HandsAndTable : Type 0
 HandsAndTable = List (LaneKey × ℕ) × List ℕ
 
 -- "A batch hands out its output in order, each item of the lane the rules take it from"
-unfoldable pub chunk_then : Front × List ℕ → List ℕ → ℕ → (List ℕ → ℕ → HandsAndTable) → HandsAndTable
-chunk_then (Front.None, t) r left more = ([], t)
-chunk_then (Front.Ready l, t) r left more =
+unfoldable pub chunk_then : Option Lane × List ℕ → List ℕ → ℕ → (List ℕ → ℕ → HandsAndTable) → HandsAndTable
+chunk_then (None, t) r left more = ([], t)
+chunk_then (Some l, t) r left more =
     let n = chunk_size t left l in
     let d = more (chunk_given t n l) (left - n) in
     (map (λ v. (l.key, v)) (chunk_items t r n l) ++ d.0, d.1)
@@ -124,7 +122,7 @@ drain_into t r out limit = let d = drained t r limit in (length d.0, d.1, rules.
 
 -- "output shorter than the limit"
 unfoldable pub room_verdict : ℕ → ℕ → Verdict
-room_verdict limit room = cond (ltb room limit) (Refuse OutputShort) Pass
+room_verdict limit room = cond (ltb room limit) (Err OutputShort) (Ok tt)
 
 -- refusals 6 and 14
 unfoldable pub batch_verdict : List ℕ → ℕ → ℕ → Verdict
@@ -147,8 +145,8 @@ batch_words t r limit room = unless_refused (batch_verdict t limit room) t r (wi
 
 -- what is handed out; nothing by a call that is refused
 unfoldable pub handed_by : Verdict → List (LaneKey × ℕ) → List (LaneKey × ℕ)
-handed_by Pass l = l
-handed_by (Refuse why) l = []
+handed_by (Ok u) l = l
+handed_by (Err why) l = []
 
 unfoldable pub batch_hands : List ℕ → List ℕ → ℕ → ℕ → List (LaneKey × ℕ)
 batch_hands t r limit room = handed_by (batch_verdict t limit room) (drained t r limit).0

@@ -23,88 +23,60 @@ ghost use Rattle.receive_batch.specs.Batch.{
   try_recv_batch_into,
 };
 
-use lane::lane::{Lane, Refill};
+use lane::lane::Lane;
 use model::{Answer, Refusal};
 use queues::header::Header;
 use queues::queue;
 use ready::ready as marks;
+use std::ops::ControlFlow;
 use store::refusal;
-use store::refusal::Verdict;
 use turns::{drained, due, turn};
-use yring::num;
 use yring::ring::Ring;
 
-// The front lane with items at hand, or no lane is queued.
-#[derive(Clone, Copy)]
-pub enum Front {
-    Ready { lane: Lane },
-    None,
-}
-
-// A look at the front lane ends the search, or the lane was empty and has left the queue.
-#[derive(Clone, Copy)]
-pub enum Look {
-    Ends { front: Front },
-    Left,
-}
-
-// Looks at the front lane. One with items is handed on as it then is, and nothing is stored.
-fn look_front(t: &mut [u64]) -> Look
+// Looks at the front lane. One with items is handed on as it then is, and nothing is stored; an empty one leaves the queue,
+// and the search goes on.
+fn look_front(t: &mut [u64]) -> ControlFlow<Option<Lane>>
     requires { Turning t.old }
     ensures { (result, t.new) ≡ look_front t.old }
 {
     if t[Header::QUEUED] == 0 {
-        return Look::Ends { front: Front::None };
+        return ControlFlow::Break(None);
     }
     let slot = queue::front_slot(t);
     match Lane::load(t, slot).refill() {
-        Refill::Idle { found } => {
+        Ok(lane) => ControlFlow::Break(Some(lane)),
+        Err(found) => {
             turn::settle_empty_front(t, found);
             turn::meet_budget(t);
-            Look::Left
+            ControlFlow::Continue(())
         }
-        Refill::Ready { lane } => Look::Ends {
-            front: Front::Ready { lane: lane },
-        },
     }
 }
 
-// Empty lanes at the front leave, until one has items or none is queued.
-fn run_down(t: &mut [u64]) -> Front
+// The front lane, once empty ones have left: one with items, or none where no lane is queued. Out of line it would hand the lane on through memory.
+#[inline(always)]
+fn run_down(t: &mut [u64]) -> Option<Lane>
     requires { Turning t.old }
     ensures { (result, t.new) ≡ run_down t.old }
 {
     loop {
-        match look_front(t) {
-            Look::Ends { front } => {
-                return front;
-            }
-            Look::Left => {}
+        if let ControlFlow::Break(front) = look_front(t) {
+            return front;
         }
     }
 }
 
 // The lane whose turn it is. Collects ready lanes when that is due, and once when none is queued.
-pub fn refresh_active(t: &mut [u64]) -> Front
+pub fn refresh_active(t: &mut [u64]) -> Option<Lane>
     requires { Turning t.old }
     ensures { (result, t.new) ≡ refresh_active t.old }
 {
     due::collect_if_due(t);
-    let mut collected = false;
-    loop {
-        match run_down(t) {
-            Front::Ready { lane } => {
-                return Front::Ready { lane: lane };
-            }
-            Front::None => {
-                if collected {
-                    return Front::None;
-                }
-                marks::collect_ready(t, true);
-                collected = true;
-            }
-        }
+    if let Some(lane) = run_down(t) {
+        return Some(lane);
     }
+    marks::collect_ready(t, true);
+    run_down(t)
 }
 
 // The budget that a chunk is charged to. Where it is 0 the Rust takes a chunk of no items, and sets it to 64 in its next round.
@@ -136,7 +108,7 @@ pub fn chunk_size(t: &[u64], left: u64, l: Lane) -> u64
     ensures { result ≡ chunk_size t.now left l }
 {
     let budget = full_budget(t[Header::BUDGET]);
-    num::least(num::least(left, budget), l.chunk_limit(t[Header::CAPACITY]))
+    left.min(budget).min(l.chunk_limit(t[Header::CAPACITY]))
 }
 
 // Moves a chunk of the front lane to the output, from place `at` on, and counts it as that many receives would. The lane is
@@ -161,39 +133,31 @@ fn drain_into(t: &mut [u64], r: &[u64], out: &mut [u64], limit: u64) -> u64
 {
     let mut received = 0;
     while received < limit {
-        match refresh_active(t) {
-            Front::None => {
-                return received;
-            }
-            Front::Ready { lane } => {
-                received += give_chunk(t, r, out, received as usize, limit - received, lane);
-            }
-        }
+        let Some(lane) = refresh_active(t) else {
+            return received;
+        };
+        received += give_chunk(t, r, out, received as usize, limit - received, lane);
     }
     received
 }
 
 // Whether the output has room for the limit.
-fn room_verdict(limit: u64, room: u64) -> Verdict
+fn room_verdict(limit: u64, room: u64) -> Result<(), Refusal>
     ensures { result ≡ room_verdict limit room }
 {
     if room < limit {
-        return Verdict::Refuse {
-            why: Refusal::OutputShort,
-        };
+        return Err(Refusal::OutputShort);
     }
-    Verdict::Pass
+    Ok(())
 }
 
 // Refusals 6 and 14 of a batch.
-pub fn batch_verdict(t: &[u64], limit: u64, room: u64) -> Verdict
+pub fn batch_verdict(t: &[u64], limit: u64, room: u64) -> Result<(), Refusal>
     requires { Shaped t.now }
     ensures { result ≡ batch_verdict t.now limit room }
 {
-    match refusal::receiver_verdict(t) {
-        Verdict::Refuse { why } => Verdict::Refuse { why: why },
-        Verdict::Pass => room_verdict(limit, room),
-    }
+    refusal::receiver_verdict(t)?;
+    room_verdict(limit, room)
 }
 
 // The number of items, which are held no more; Empty or Disconnected where some were asked for and there were none.
@@ -217,8 +181,8 @@ pub fn try_recv_batch_into(t: &mut [u64], r: &[u64], out: &mut [u64], limit: u64
     ensures { (result, t.new, r.now, out.new) ≡ try_recv_batch_into t.old r.now out.old limit }
 {
     match batch_verdict(t, limit, out.len() as u64) {
-        Verdict::Refuse { why } => Answer::Refused { why: why },
-        Verdict::Pass => {
+        Err(why) => Answer::Refused { why },
+        Ok(()) => {
             let received = drain_into(t, r, out, limit);
             all_lanes::all_lanes::release_all(t);
             answer_items(t, limit, received)

@@ -1,5 +1,6 @@
 -- What the targeted receive asks of a store in order.
 -- Assumes nothing.
+use Rattle.std.specs.Prelude.{Result, Ok, Err}
 use mathlib.Core.Path.{◌≡◌, refl, sym, ap, ap₂, ◌∙◌, subst}
 use mathlib.Core.Bool.{Bool, true, false, cond}
 use mathlib.Core.List.{List}
@@ -8,7 +9,6 @@ use Rattle.model.specs.declared.Answer.{Answer}
 use Rattle.model.specs.declared.Answer.TheVariants.{Item, Empty, Disconnected}
 use Rattle.lane.specs.declared.lane.Lane.{Lane}
 use Rattle.lane.specs.declared.lane.EmptyLane.{EmptyLane}
-use Rattle.lane.specs.declared.lane.Refill.{Refill}
 use Rattle.yring.specs.Cursor.{Capacity}
 use Rattle.yring.specs.Ring.{new_ring, Within}
 use Rattle.lane.specs.Order.{InOrder, Filled, Refundable}
@@ -46,13 +46,13 @@ module _ (t r : List ℕ) (o : StoreInOrder t r) (x : ℕ) (h : x < issued t) (e
   pub target_ring : Within (new_ring x (capacity t)) (length r)
   target_ring = ring_in t turning x h r (ringed_of t r (but_held o))
 
-  pub settled_room : (found : EmptyLane) → refill (lane_at t x) ≡ Refill.Idle found
+  pub settled_room : (found : EmptyLane) → refill (lane_at t x) ≡ Err found
       → Shaped t × (found.lane.key.slot < slots t) × (free_count t < slots t) × (0 < lane_count t)
   settled_room found p =
       let k = subst (RefillKept (lane_at t x)) p (refill_kept (lane_at t x)) in
       (o.stores.shaped, rw (ap (λ (z : Fixed). z.0.slot) k.0 ∙ slot_of_lane t x) target_below, free_room t turning x h e, some_lane t turning x h e)
 
-  module _ (l : Lane) (p : refill (lane_at t x) ≡ Refill.Ready l) where
+  module _ (l : Lane) (p : refill (lane_at t x) ≡ Ok l) where
     same_flags : flagged l ≡ flagged (lane_at t x)
     same_flags = subst (RefillKept (lane_at t x)) p (refill_kept (lane_at t x))
 
@@ -68,11 +68,11 @@ module _ (t r : List ℕ) (o : StoreInOrder t r) (x : ℕ) (h : x < issued t) (e
           λ q. queue_has_room t o.stores.shaped o.stores.named x h (sym (o.stores.named.flagged x h e) ∙ sym (ap (λ (z : Flagged). z.4) f) ∙ q),
         )
 
-pub take_from_is : (t r : List ℕ) (x : ℕ) (p : Refill) → refill (lane_at t x) ≡ p → target_took t r x p ≡ take_from t r x
+pub take_from_is : (t r : List ℕ) (x : ℕ) (p : Result Lane EmptyLane) → refill (lane_at t x) ≡ p → target_took t r x p ≡ take_from t r x
 unfolding take_from
 take_from_is t r x p e = ap (target_took t r x) (sym e)
 
-pub refilled_as : (t : List ℕ) (x : ℕ) (l : Lane) (p : Refill) → l ≡ lane_at t x → p ≡ refill l → p ≡ refill (lane_at t x)
+pub refilled_as : (t : List ℕ) (x : ℕ) (l : Lane) (p : Result Lane EmptyLane) → l ≡ lane_at t x → p ≡ refill l → p ≡ refill (lane_at t x)
 refilled_as t x l p a e = e ∙ ap refill a
 
 -- ---- a queued lane with an item at hand
@@ -114,7 +114,7 @@ module _ (t r : List ℕ) (l : Lane) (k : AtHand t r l) where
   unfolding target_took
   hand_taken =
       ap (λ (u : List ℕ). (Item (pop_targeted (new_ring x (capacity t)) r l).item (record { channel = channel t; key = l.key }), held_less u 1)) stored
-      ∙ take_from_is t r x (Refill.Ready l) (sym (ap refill k.is_lane) ∙ refill_filled (capacity t) l k.filled)
+      ∙ take_from_is t r x (Ok l) (sym (ap refill k.is_lane) ∙ refill_filled (capacity t) l k.filled)
 
 module _ (t r : List ℕ) (o : StoreInOrder t r) (x : ℕ) (h : x < issued t) (e : (lane_at t x).registered ≡ 1) (l : Lane) (q : l ≡ lane_at t x) where
   pub loaded_slot : l.key.slot ≡ x

@@ -1,12 +1,11 @@
 -- The targeted receive, as words.
 -- Assumes nothing.
-use Rattle.std.specs.Prelude.{cond, List, ◌≡◌, ℕ, ◌<◌, eqb}
+use Rattle.std.specs.Prelude.{cond, List, ◌≡◌, ℕ, ◌<◌, eqb, Result, Ok, Err}
 use Rattle.model.specs.declared.LaneId.{LaneId}
 use Rattle.model.specs.declared.Answer.{Answer}
 use Rattle.model.specs.declared.Answer.TheVariants.{Item, Empty, Disconnected}
 use Rattle.lane.specs.declared.lane.Lane.{Lane}
 use Rattle.lane.specs.declared.lane.EmptyLane.{EmptyLane}
-use Rattle.lane.specs.declared.lane.Refill.{Refill}
 use Rattle.yring.specs.Ring.{new_ring}
 use Rattle.lane.specs.Order.{Filled}
 use Rattle.lane.specs.Lane.{refill, pop_targeted}
@@ -45,9 +44,9 @@ unfoldable pub keep_target : List ℕ → Lane → List ℕ
 keep_target t l = cond (eqb l.paused 0) (cond (eqb l.queued 0) (queue_target t l) (put_lane t l)) (put_lane t l)
 
 -- "Targeted: counts in neither burst nor budget". An item handed out is held no more.
-unfoldable pub target_took : List ℕ → List ℕ → ℕ → Refill → Answer × List ℕ
-target_took t r x (Refill.Idle found) = settle_target t found
-target_took t r x (Refill.Ready l) = (
+unfoldable pub target_took : List ℕ → List ℕ → ℕ → Result Lane EmptyLane → Answer × List ℕ
+target_took t r x (Err found) = settle_target t found
+target_took t r x (Ok l) = (
   Item (pop_targeted (new_ring x (capacity t)) r l).item (record { channel = channel t; key = l.key }),
   held_less (keep_target t (pop_targeted (new_ring x (capacity t)) r l).lane) 1,
 )

@@ -6,11 +6,10 @@ ghost use Rattle.store.specs.Order.{StoreInOrder};
 ghost use Rattle.receive_from.specs.Target.{AtHand, settle_target, queue_target, keep_target, take_from, try_recv_from};
 
 use control::lane_control;
-use lane::lane::{EmptyLane, Lane, Refill};
+use lane::lane::{EmptyLane, Lane};
 use model::{Answer, LaneId};
 use queues::header::Header;
 use queues::queue;
-use store::refusal::Verdict;
 use store::{refusal, signal};
 use turns::turn;
 use yring::ring::Ring;
@@ -64,18 +63,15 @@ fn take_refilled(t: &mut [u64], r: &[u64], slot: u64) -> Answer
     let channel = Header::channel(t);
     let ring = Ring::new(slot, t[Header::CAPACITY]);
     match Lane::load(t, slot).refill() {
-        Refill::Idle { found } => settle_target(t, found),
-        Refill::Ready { lane } => {
+        Err(found) => settle_target(t, found),
+        Ok(lane) => {
             let key = lane.key;
             let taken = lane.pop_targeted(ring, r);
             keep_target(t, taken.lane);
             Header::held_less(t, 1);
             Answer::Item {
                 item: taken.item,
-                lane: LaneId {
-                    channel: channel,
-                    key: key,
-                },
+                lane: LaneId { channel, key },
             }
         }
     }
@@ -93,10 +89,7 @@ fn take_at_hand(t: &mut [u64], r: &[u64], l: Lane) -> Answer
     let channel = Header::channel(t);
     Answer::Item {
         item: taken.item,
-        lane: LaneId {
-            channel: channel,
-            key: key,
-        },
+        lane: LaneId { channel, key },
     }
 }
 
@@ -125,7 +118,7 @@ pub fn try_recv_from(t: &mut [u64], r: &[u64], id: LaneId) -> Answer
     ensures { (result, t.new, r.now) ≡ try_recv_from t.old r.now id }
 {
     match refusal::id_verdict(t, id) {
-        Verdict::Refuse { why } => Answer::Refused { why: why },
-        Verdict::Pass => take_from(t, r, id.key.slot),
+        Err(why) => Answer::Refused { why },
+        Ok(()) => take_from(t, r, id.key.slot),
     }
 }

@@ -13,14 +13,13 @@ use Rattle.model.specs.declared.Answer.TheVariants.{Refused}
 use Rattle.model.specs.declared.Refusal.{Refusal}
 use Rattle.model.specs.Receive as rules
 use Rattle.queues.specs.Header.{Shaped}
-use Rattle.store.specs.declared.refusal.Verdict.{Verdict}
-use Rattle.store.specs.declared.refusal.Verdict.TheVariants.{Pass, Refuse}
+use Rattle.store.specs.Refusal.{Verdict}
+use Rattle.std.specs.Prelude.{Ok, Err, Option, Some, None}
 use Rattle.store.specs.Words.{unless_refused, with_rings}
 use Rattle.turns.specs.Turn.{Turning}
 use Rattle.turns.specs.Drained.{Idle}
 use Rattle.turns.proofs.FrontLaws.{Keeps, keeps_self, keeps_then}
 use Rattle.all_lanes.specs.AllLanes.{AllRefundable, release_all}
-use Rattle.receive_batch.specs.declared.batch.Front.{Front}
 use Rattle.receive_while.specs.declared.batch_while.Drained.{Drained}
 use Rattle.receive_batch.specs.Batch.{refresh_active, chunk_size, chunk_given, batch_verdict, RestsAt, handed_by}
 use Rattle.receive_while.specs.While.{chunk_admitted, DrainedWhile, while_then, drained_while_within, drained_while, drain_while, answer_while, while_answer, while_words, while_hands, try_recv_batch_into_while}
@@ -30,13 +29,14 @@ use Rattle.receive_batch.proofs.DrainLaws.{chunk_handed, length_handed}
 use Rattle.receive_while.proofs.WhileLaws.{admitted_most, within_next}
 use Rattle.receive_batch.proofs.BatchLaws.{idle_release_all, turning_refunds}
 use Rattle.receive_batch.proofs.OutputLaws.{output_none}
+use Rattle.lane.specs.declared.lane.Lane.{Lane}
 
 -- ---- what the loop leaves
 
-admitted_keeps : (t r : List ℕ) (bound left : ℕ) (o : Front × List ℕ) (more : List ℕ → ℕ → DrainedWhile) → Searched t o → ((u : List ℕ) (m : ℕ) → Turning u → Keeps u (more u m).1.1) → Keeps t (while_then o r bound left more).1.1
+admitted_keeps : (t r : List ℕ) (bound left : ℕ) (o : Option Lane × List ℕ) (more : List ℕ → ℕ → DrainedWhile) → Searched t o → ((u : List ℕ) (m : ℕ) → Turning u → Keeps u (more u m).1.1) → Keeps t (while_then o r bound left more).1.1
 unfolding while_then
-admitted_keeps t r bound left (Front.None, u) more s ih = s.keeps
-admitted_keeps t r bound left (Front.Ready l, u) more s ih = go (ltb k n)
+admitted_keeps t r bound left (None, u) more s ih = s.keeps
+admitted_keeps t r bound left (Some l, u) more s ih = go (ltb k n)
   where
     n : ℕ
     n = chunk_size u left l
@@ -83,9 +83,9 @@ drained_while_rests t r (suc limit) bound i h s z =
     more : List ℕ → ℕ → DrainedWhile
     more u m = drained_while_within limit u r bound m
 
-    go : (o : Front × List ℕ) → Searched t o → (while_then o r bound (suc limit) more).0 ≡ false → length (while_then o r bound (suc limit) more).1.0 ≡ 0 → Idle (while_then o r bound (suc limit) more).1.1
-    go (Front.None, u) w s z = w.reached
-    go (Front.Ready l, u) w s z = by (ltb k n) refl s z
+    go : (o : Option Lane × List ℕ) → Searched t o → (while_then o r bound (suc limit) more).0 ≡ false → length (while_then o r bound (suc limit) more).1.0 ≡ 0 → Idle (while_then o r bound (suc limit) more).1.1
+    go (None, u) w s z = w.reached
+    go (Some l, u) w s z = by (ltb k n) refl s z
       where
         n : ℕ
         n = chunk_size u (suc limit) l
@@ -100,7 +100,7 @@ drained_while_rests t r (suc limit) bound i h s z =
         outcome b = cond b (true, (chunk_handed u r k l, chunk_given u k l)) (rest.0, (chunk_handed u r k l ++ rest.1.0, rest.1.1))
 
         by : (b : Bool) → ltb k n ≡ b → (outcome b).0 ≡ false → length (outcome b).1.0 ≡ 0 → Idle (outcome b).1.1
-        by true e s z = let clash : ◌≡◌ {A = ℕ} 0 1 = cc in absurd (omega arith)
+        by true e s z = absurd cc
         by false e s z =
             let some : 0 < n = chunk_some u (suc limit) l (chunk_filled u l w.reached) (omega arith) in
             absurd (omega (arith, z, some, ltb-false k n e, length-append (chunk_handed u r k l) rest.1.0, length_handed u r k l))
@@ -117,12 +117,12 @@ module _ (t r out : List ℕ) (limit bound : ℕ) where
   unfolding try_recv_batch_into_while while_words while_hands by_verdict
   is_by_verdict = refl
 
-  pub while_refused : (why : Refusal) → batch_verdict t limit (length out) ≡ Refuse why → (Refused why, t, r, out) ≡ try_recv_batch_into_while t r out limit bound
+  pub while_refused : (why : Refusal) → batch_verdict t limit (length out) ≡ Err why → (Refused why, t, r, out) ≡ try_recv_batch_into_while t r out limit bound
   unfolding by_verdict unless_refused handed_by
   while_refused why e = sym (is_by_verdict ∙ ap by_verdict e ∙ ap (λ (o : List ℕ). (Refused why, t, r, o)) (output_none out))
 
   module _ (m : Drained) (u o : List ℕ) (d : (m, u, o) ≡ drain_while t r out limit bound) where
-    pub while_done : (a : Answer) (v w : List ℕ) → batch_verdict t limit (length out) ≡ Pass → w ≡ release_all u → (a, v) ≡ answer_while limit m w → (a, v, r, o) ≡ try_recv_batch_into_while t r out limit bound
+    pub while_done : (a : Answer) (v w : List ℕ) → batch_verdict t limit (length out) ≡ Ok tt → w ≡ release_all u → (a, v) ≡ answer_while limit m w → (a, v, r, o) ≡ try_recv_batch_into_while t r out limit bound
     unfolding by_verdict unless_refused handed_by while_answer drain_while
     while_done a v w e p q =
         ap (λ (z : Answer × List ℕ). (z.0, z.1, r, o)) (q ∙ ap (answer_while limit m) p)

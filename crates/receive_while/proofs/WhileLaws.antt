@@ -1,5 +1,6 @@
 -- Chunk after chunk, up to an item that is not admitted: the loop's state, as the batch's, and where it ends.
 -- Assumes nothing.
+use Rattle.std.specs.Prelude.{Option, Some, None}
 use mathlib.Core.Path.{◌≡◌, refl, sym, ap, ap₂, ◌∙◌, subst}
 use mathlib.Core.Bool.{Bool, true, false, cond}
 use mathlib.Core.List.{List, [], ◌∷◌, ◌++◌, append-nil, append_assoc}
@@ -13,7 +14,6 @@ use Rattle.model.specs.Receive as rules
 use Rattle.lane.specs.declared.lane.Lane.{Lane}
 use Rattle.yring.specs.Lists.{written}
 use Rattle.yring.specs.Ring.{accepted_prefix}
-use Rattle.receive_batch.specs.declared.batch.Front.{Front}
 use Rattle.receive_while.specs.declared.batch_while.Drained.{Drained}
 use Rattle.turns.specs.Turn.{Turning}
 use Rattle.receive_batch.specs.Batch.{refresh_active, Fronts, chunk_size, chunk_items, chunk_given}
@@ -108,21 +108,18 @@ module _ {t₀ r out₀ : List ℕ} {limit bound : ℕ} {t out : List ℕ} {rece
     step n e =
         ap (onto_while d.handed) (sym (ap (λ (f : ℕ). drained_while_within f t r bound (limit - received)) (sym e) ∙ within_next n t r bound (limit - received) (omega (arith, h)))) ∙ d.rest
 
-    pub admit_long : (front : Front) (u : List ℕ) → (front, u) ≡ refresh_active t → length u ≡ length t₀
-    admit_long front u e = subst (λ (o : Front × List ℕ). length o.1 ≡ length t) (sym e) (refresh_searched t turning).keeps.long ∙ d.keeps.long
-
     -- nothing is queued and nothing is ready
-    pub admitting_none : (u : List ℕ) → (Front.None, u) ≡ refresh_active t → (record { received = received; rejected = false }, u, out) ≡ drain_while t₀ r out₀ limit bound
+    pub admitting_none : (u : List ℕ) → (None, u) ≡ refresh_active t → (record { received = received; rejected = false }, u, out) ≡ drain_while t₀ r out₀ limit bound
     unfolding while_then
     admitting_none u e = go d.fuel refl
       where
         go : (n : ℕ) → n ≡ d.fuel → (record { received = received; rejected = false }, u, out) ≡ drain_while t₀ r out₀ limit bound
         go zero z = absurd (fuel_some zero z refl)
-        go (suc n) z = ended u (ap (λ (o : Front × List ℕ). onto_while d.handed (while_then o r bound (limit - received) (λ u m. drained_while_within n u r bound m))) e ∙ step n z)
+        go (suc n) z = ended u (ap (λ (o : Option Lane × List ℕ). onto_while d.handed (while_then o r bound (limit - received) (λ u m. drained_while_within n u r bound m))) e ∙ step n z)
 
     -- a lane has items
-    module _ (u : List ℕ) (l : Lane) (e : (Front.Ready l, u) ≡ refresh_active t) where
-      searched : Searched t (Front.Ready l, u)
+    module _ (u : List ℕ) (l : Lane) (e : (Some l, u) ≡ refresh_active t) where
+      searched : Searched t (Some l, u)
       searched = subst (Searched t) (sym e) (refresh_searched t turning)
 
       pub admit_front : Fronts u l
@@ -159,9 +156,6 @@ module _ {t₀ r out₀ : List ℕ} {limit bound : ℕ} {t out : List ℕ} {rece
         unfolding give_admitted
         table_is = ap (λ (z : Drained × List ℕ × List ℕ). z.1) g
 
-        handed_then : Handed
-        handed_then = d.handed ++ chunk_handed u r k l
-
         output_is : o ≡ rules.written_to (d.handed ++ chunk_handed u r k l) out₀
         unfolding give_admitted
         output_is =
@@ -197,7 +191,7 @@ module _ {t₀ r out₀ : List ℕ} {limit bound : ℕ} {t out : List ℕ} {rece
                 let more : DrainedWhile = drained_while_within f (chunk_given u k l) r bound (limit - received - k) in
                 let all : (true, (d.handed ++ chunk_handed u r k l, chunk_given u k l)) ≡ drained_while t₀ r limit bound =
                 ap (λ (b : Bool). onto_while d.handed (cond b (true, (chunk_handed u r k l, chunk_given u k l)) (more.0, (chunk_handed u r k l ++ more.1.0, more.1.1)))) (sym short)
-                ∙ ap (λ (p : Front × List ℕ). onto_while d.handed (while_then p r bound (limit - received) (λ u m. drained_while_within f u r bound m))) e ∙ step f z in
+                ∙ ap (λ (p : Option Lane × List ℕ). onto_while d.handed (while_then p r bound (limit - received) (λ u m. drained_while_within f u r bound m))) e ∙ step f z in
                 rw (count_is, table_is, output_is, ← counted_is) (ap (leaves out₀) all)
 
         pub admitting_next : m.rejected ≡ false → Admitting t₀ r out₀ limit bound v o (received + m.received)
@@ -232,4 +226,4 @@ module _ {t₀ r out₀ : List ℕ} {limit bound : ℕ} {t out : List ℕ} {rece
                     ap (λ (j : ℕ). onto_while (d.handed ++ chunk_handed u r k l) (drained_while_within f (chunk_given u k l) r bound j)) left_is
                     ∙ ap (λ (x : Handed). (more.0, (x, more.1.1))) (append_assoc d.handed (chunk_handed u r k l) more.1.0)
                     ∙ ap (λ (b : Bool). onto_while d.handed (cond b (true, (chunk_handed u r k l, chunk_given u k l)) (more.0, (chunk_handed u r k l ++ more.1.0, more.1.1)))) (sym whole)
-                    ∙ ap (λ (p : Front × List ℕ). onto_while d.handed (while_then p r bound (limit - received) (λ u m. drained_while_within f u r bound m))) e ∙ step f z
+                    ∙ ap (λ (p : Option Lane × List ℕ). onto_while d.handed (while_then p r bound (limit - received) (λ u m. drained_while_within f u r bound m))) e ∙ step f z

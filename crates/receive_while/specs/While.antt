@@ -1,7 +1,7 @@
 -- The batch that stops in front of an item, as words: the batch's loop, with a step that takes the admitted items of a chunk.
 -- The sentences are those of document 02, N2.
 -- Assumes nothing.
-use Rattle.std.specs.Prelude.{Bool, true, false, cond, List, [], ◌++◌, map, ℕ, zero, suc, ◌-◌, eqb, ltb, length}
+use Rattle.std.specs.Prelude.{Bool, true, false, cond, List, [], ◌++◌, map, ℕ, zero, suc, ◌-◌, eqb, ltb, length, Option, Some, None}
 use Rattle.model.specs.declared.LaneKey.{LaneKey}
 use Rattle.model.specs.declared.Answer.{Answer}
 use Rattle.model.specs.declared.Answer.TheVariants.{Stopped}
@@ -12,7 +12,6 @@ use Rattle.yring.specs.Lists.{written}
 use Rattle.yring.specs.Ring.{accepted_prefix}
 use Rattle.store.specs.Words.{Words, unless_refused, with_rings}
 use Rattle.all_lanes.specs.AllLanes.{release_all}
-use Rattle.receive_batch.specs.declared.batch.Front.{Front}
 use Rattle.receive_while.specs.declared.batch_while.Drained.{Drained}
 use Rattle.receive_batch.specs.Batch.{refresh_active, chunk_size, chunk_items, chunk_given, HandsAndTable, batch_verdict, answer_items, handed_by}
 
@@ -33,9 +32,9 @@ abbrev pub DrainedWhile : Type 0
 DrainedWhile = Bool × HandsAndTable
 
 -- what follows a look: nothing is left, or the admitted items of a chunk and, where all of it was admitted, the rest
-unfoldable pub while_then : Front × List ℕ → List ℕ → ℕ → ℕ → (List ℕ → ℕ → DrainedWhile) → DrainedWhile
-while_then (Front.None, t) r bound left more = (false, ([], t))
-while_then (Front.Ready l, t) r bound left more =
+unfoldable pub while_then : Option Lane × List ℕ → List ℕ → ℕ → ℕ → (List ℕ → ℕ → DrainedWhile) → DrainedWhile
+while_then (None, t) r bound left more = (false, ([], t))
+while_then (Some l, t) r bound left more =
     let n = chunk_size t left l in
     let k = chunk_admitted t r bound n l in
     let hs : List (LaneKey × ℕ) = map (λ v. (l.key, v)) (chunk_items t r k l) in

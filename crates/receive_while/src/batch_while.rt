@@ -11,11 +11,9 @@ use lane::lane::Lane;
 use model::Answer;
 use queues::header::Header;
 use receive_batch::batch;
-use receive_batch::batch::Front;
-use store::refusal::Verdict;
 use yring::ring::Ring;
 
-// How many items were moved, and whether the next was above the bound.
+// How many items were moved, and whether the next was above the bound: a batch that stops has both, so this is no Result.
 #[derive(Clone, Copy)]
 pub struct Drained {
     pub received: u64,
@@ -56,35 +54,23 @@ fn drain_while(t: &mut [u64], r: &[u64], out: &mut [u64], limit: u64, bound: u64
 {
     let mut received = 0;
     while received < limit {
-        match batch::refresh_active(t) {
-            Front::None => {
-                return Drained {
-                    received: received,
-                    rejected: false,
-                };
-            }
-            Front::Ready { lane } => {
-                let moved = give_admitted(
-                    t,
-                    r,
-                    out,
-                    received as usize,
-                    limit - received,
-                    bound,
-                    lane,
-                );
-                received += moved.received;
-                if moved.rejected {
-                    return Drained {
-                        received: received,
-                        rejected: true,
-                    };
-                }
-            }
+        let Some(lane) = batch::refresh_active(t) else {
+            return Drained {
+                received,
+                rejected: false,
+            };
+        };
+        let moved = give_admitted(t, r, out, received as usize, limit - received, bound, lane);
+        received += moved.received;
+        if moved.rejected {
+            return Drained {
+                received,
+                rejected: true,
+            };
         }
     }
     Drained {
-        received: received,
+        received,
         rejected: false,
     }
 }
@@ -97,7 +83,7 @@ fn answer_while(t: &mut [u64], limit: u64, drained: Drained) -> Answer
     let count = drained.received;
     if drained.rejected {
         Header::held_less(t, count);
-        return Answer::Stopped { count: count };
+        return Answer::Stopped { count };
     }
     batch::answer_items(t, limit, count)
 }
@@ -115,8 +101,8 @@ pub fn try_recv_batch_into_while(
     ensures { (result, t.new, r.now, out.new) ≡ try_recv_batch_into_while t.old r.now out.old limit bound }
 {
     match batch::batch_verdict(t, limit, out.len() as u64) {
-        Verdict::Refuse { why } => Answer::Refused { why: why },
-        Verdict::Pass => {
+        Err(why) => Answer::Refused { why },
+        Ok(()) => {
             let drained = drain_while(t, r, out, limit, bound);
             all_lanes::all_lanes::release_all(t);
             answer_while(t, limit, drained)

@@ -1,5 +1,6 @@
 -- Chunk after chunk is the rules' item after item, and leaves a store in order.
 -- Assumes nothing.
+use Rattle.std.specs.Prelude.{Option, Some, None}
 use mathlib.Core.Path.{◌≡◌, refl, sym, ap, ap₂, ◌∙◌, subst}
 use mathlib.Core.List.{List, [], ◌∷◌}
 use Prim.Native.Nat.{ℕ, zero, suc, ◌-◌, ◌≤◌}
@@ -13,7 +14,6 @@ use Rattle.lane.specs.declared.lane.Lane.{Lane}
 use Rattle.lane.specs.Lane.{chunk_limit}
 use Rattle.queues.specs.Header.{budget, capacity}
 use Rattle.queues.specs.Queue.{queue_of, front_slot, pop_front}
-use Rattle.receive_batch.specs.declared.batch.Front.{Front}
 use Rattle.store.specs.View.{view}
 use Rattle.store.specs.Order.{InOrderButHeld}
 use Rattle.receive_batch.specs.Batch.{refresh_active, Reached, full_budget, chunk_size, chunk_given, HandsAndTable, chunk_then, drained_within, drained}
@@ -35,14 +35,14 @@ Goes r n more = (u : List ℕ) (m : ℕ) → m ≤ n → InOrderButHeld u r → 
 
 module _ (r : List ℕ) (s : State) (n left : ℕ) (some : 1 ≤ left) (enough : left ≤ suc n) (more : List ℕ → ℕ → HandsAndTable) (ih : Goes r n more) where
   -- nothing is queued and nothing is ready
-  none_left : (u : List ℕ) → ReachedAs r (Front.None, u) (polled s) → Reached (Front.None, u) → DrainedAs r ([], u) (take_up_to left s)
+  none_left : (u : List ℕ) → ReachedAs r (None, u) (polled s) → Reached (None, u) → DrainedAs r ([], u) (take_up_to left s)
   unfolding view
   none_left u a k =
       let none : (polled s).queue ≡ [] = sym (ap (λ (z : State). z.queue) a.alike) ∙ none_queued u k in
       record { alike = ap (λ (z : State). ([], z)) a.alike ∙ sym (take_up_to_none left s some none); in_order = a.in_order }
 
   -- a lane has items
-  module _ (l : Lane) (u : List ℕ) (a : ReachedAs r (Front.Ready l, u) (polled s)) (k : Reached (Front.Ready l, u)) where
+  module _ (l : Lane) (u : List ℕ) (a : ReachedAs r (Some l, u) (polled s)) (k : Reached (Some l, u)) where
     abbrev c : ℕ
     c = chunk_size u left l
 
@@ -72,7 +72,7 @@ module _ (r : List ℕ) (s : State) (n left : ℕ) (some : 1 ≤ left) (enough :
         subst (λ (z : State). DrainedAs r (more (chunk_given u c l) (left - c)) (take_up_to (left - c) z)) (chunk_view u r a.in_order l k c least.2 least.1)
         (ih (chunk_given u c l) (left - c) (omega (arith, one, enough)) chunked)
 
-    some_left : DrainedAs r (chunk_then (Front.Ready l, u) r left more) (take_up_to left s)
+    some_left : DrainedAs r (chunk_then (Some l, u) r left more) (take_up_to left s)
     unfolding chunk_then
     some_left =
         record {
@@ -82,10 +82,10 @@ module _ (r : List ℕ) (s : State) (n left : ℕ) (some : 1 ≤ left) (enough :
           in_order = rest.in_order;
         }
 
-  chunk_then_alike : (w : Front × List ℕ) → ReachedAs r w (polled s) → Reached w → DrainedAs r (chunk_then w r left more) (take_up_to left s)
+  chunk_then_alike : (w : Option Lane × List ℕ) → ReachedAs r w (polled s) → Reached w → DrainedAs r (chunk_then w r left more) (take_up_to left s)
   unfolding chunk_then
-  chunk_then_alike (Front.None, u) a k = none_left u a k
-  chunk_then_alike (Front.Ready l, u) a k = some_left l u a k
+  chunk_then_alike (None, u) a k = none_left u a k
+  chunk_then_alike (Some l, u) a k = some_left l u a k
 
 drained_within_alike : (n : ℕ) (t r : List ℕ) (left : ℕ) → left ≤ n → InOrderButHeld t r → DrainedAs r (drained_within n t r left) (take_up_to left (view t r))
 unfolding drained_within take_up_to

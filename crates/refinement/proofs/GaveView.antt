@@ -1,5 +1,6 @@
 -- The front lane gives an item: what the rules see of it, and that a store in order is left.
 -- Assumes nothing.
+use Rattle.std.specs.Prelude.{Result, Ok}
 use mathlib.Core.Path.{◌≡◌, refl, sym, ap, ap₂, ◌∙◌, subst}
 use mathlib.Core.Bool.{Bool}
 use mathlib.Core.List.{List, [], ◌∷◌, ◌++◌}
@@ -32,6 +33,7 @@ use Rattle.store.proofs.LaneFields.{flagged, PollKept, poll_kept}
 use Rattle.store.proofs.LaneView.{Polled, poll_counts}
 use Rattle.store.proofs.BetweenTurns.{FrontLane, front_lane_lem}
 use Rattle.refinement.proofs.FrontBack.{Back, back_view, back_stores}
+use Rattle.lane.specs.declared.lane.EmptyLane.{EmptyLane}
 
 -- the budget after an item is the rules'
 less_one_alike : (n : ℕ) → less_one n ≡ rules.refill n - 1
@@ -48,14 +50,14 @@ pub record Gives (t r : List ℕ) (x : ℕ) (fair : Bool) (item : ℕ) (rotate :
   pub order : InOrder (capacity t) m
 
 pub gives_by_poll : (t r : List ℕ) → Stores t r → (x : ℕ) → x < issued t → (lane_at t x).registered ≡ 1 → (fair : Bool) (item : ℕ) (rotate gave : Bool) (m : Lane)
-    → poll (new_ring x (capacity t)) r fair (lane_at t x) ≡ LanePoll.Item item rotate gave m → Gives t r x fair item rotate m
+    → poll (new_ring x (capacity t)) r fair (lane_at t x) ≡ Ok (record { item = item; rotate = rotate; released = gave; lane = m }) → Gives t r x fair item rotate m
 gives_by_poll t r o x h g fair item rotate gave m e =
     let i = o.lanes x h g in
     record {
       takes = poll_takes_first (new_ring x (capacity t)) r (lane_at t x) (issued_ring_in t r o x h) i fair item rotate gave m e;
       counts = poll_counts (new_ring x (capacity t)) r fair (lane_at t x) i item rotate gave m e;
       same_flags = subst (PollKept (lane_at t x)) e (poll_kept (new_ring x (capacity t)) r fair (lane_at t x));
-      order = subst (λ (p : LanePoll). InOrder (capacity t) (polled_lane p)) e (poll_keeps (new_ring x (capacity t)) o.power.most r (lane_at t x) i fair);
+      order = subst (λ (p : Result LanePoll EmptyLane). InOrder (capacity t) (polled_lane p)) e (poll_keeps (new_ring x (capacity t)) o.power.most r (lane_at t x) i fair);
     }
 
 -- ---- it goes back to its slot, and to the back where its turn is over

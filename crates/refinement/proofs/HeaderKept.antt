@@ -1,6 +1,7 @@
 -- No call changes a header word that none writes: first cursor, channel id, opening number, capacity, slots, first generation.
 -- Of any words, in order or not.
 -- Assumes nothing.
+use Rattle.std.specs.Prelude.{Option, Some, None, Result, Ok, Err}
 use mathlib.Core.Path.{◌≡◌, refl, ◌∙◌}
 use mathlib.Core.Bool.{Bool, true, false}
 use mathlib.Core.List.{List, []}
@@ -17,8 +18,6 @@ use Rattle.model.specs.Lists.{either}
 use Rattle.demands.proofs.Counting.{no}
 use Rattle.demands.proofs.LaneIds.{channel_path}
 use Rattle.lane.specs.declared.lane.Lane.{Lane}
-use Rattle.lane.specs.declared.lane.Popped.{Popped}
-use Rattle.lane.specs.declared.lane.Refill.{Refill}
 use Rattle.lane.specs.declared.lane.LanePoll.{LanePoll}
 use Rattle.lane.specs.declared.lane.EmptyLane.{EmptyLane}
 use Rattle.yring.specs.Ring.{new_ring}
@@ -32,9 +31,6 @@ use Rattle.queues.proofs.QueueLaws.{head_rotated}
 use Rattle.all_lanes.specs.AllLanes.{release_all}
 use Rattle.control.specs.Control.{with_turn}
 use Rattle.turns.specs.declared.turn.Took.{Took}
-use Rattle.turns.specs.declared.turn.Turn.{Turn}
-use Rattle.receive_batch.specs.declared.batch.Front.{Front}
-use Rattle.receive_batch.specs.declared.batch.Look.{Look}
 use Rattle.turns.specs.Turn.{front_lane, retire_if, settle_empty_front, meet_budget, rotate_if, turn_by, poll_front, after_turn, turns_within, turns}
 use Rattle.turns.specs.Drained.{retire_empty_paused, retire_empty_paused_lanes, empty_or_drained, nothing_taken}
 use Rattle.receive.specs.Receive.{else_take, take_from_window, fast_took, take_fast, take_if_popped, take_front_window, poll_loop, try_recv_refill, take_one, take_lone, take_fair, answer_one, try_recv, try_recv_fair}
@@ -46,6 +42,9 @@ use Rattle.refinement.specs.Runs.{receive_words, call_words}
 use Rattle.store.proofs.HeaderWords.{place_of, Beside, beside, apart}
 use Rattle.turns.proofs.FrontLaws.{head_left, head_met, head_gave}
 use Rattle.refinement.proofs.HeaderSteps.{parts_write, Unwritten, KeptWord, NotHeld, At, at_by, at_put, at_head, at_held, at_pushed_back, at_removed, at_marked_if_idle, at_retired, at_slots, at_collected, unless_at, sender_at, control_at, at_release_all}
+use Rattle.lane.specs.declared.consumer.Taken.{Taken}
+use Rattle.std.specs.declared.ops.ControlFlow.{ControlFlow}
+use Rattle.std.specs.declared.ops.ControlFlow.TheVariants.{Continue, Break}
 
 -- of an answer with a table
 abbrev TableAt : {A : Type 0} → KeptWord → A × List ℕ → Type 0
@@ -66,22 +65,22 @@ module _ {c : KeptWord} where
       ∙ head_left t found c.word c.unwritten.in_header (apart c.unwritten (place_of queue_front) refl) (apart c.unwritten (place_of queue_count) refl)
       (apart c.unwritten (place_of free_count) refl) (apart c.unwritten (place_of lane_count) refl))
 
-  at_turn : (t : List ℕ) → At c t → (p : LanePoll) → At c (turn_by t p).1
+  at_turn : (t : List ℕ) → At c t → (p : Result LanePoll EmptyLane) → At c (turn_by t p).1
   unfolding turn_by
-  at_turn t h (LanePoll.Item item rotate released l) =
-      at_by t h _ (head_gave t rotate l c.word c.unwritten.in_header (apart c.unwritten (place_of queue_front) refl) (apart c.unwritten (place_of budget) refl))
-  at_turn t h (LanePoll.Idle found) = at_left t h found
+  at_turn t h (Ok p) =
+      at_by t h _ (head_gave t p.rotate p.lane c.word c.unwritten.in_header (apart c.unwritten (place_of queue_front) refl) (apart c.unwritten (place_of budget) refl))
+  at_turn t h (Err found) = at_left t h found
 
   at_front : (t r : List ℕ) (fair : Bool) → At c t → At c (poll_front t r fair).1
   unfolding poll_front
   at_front t r fair h =
-      cond_holds (TableAt c) (eqb (queue_count t) 0) (Turn.Ends Took.Nothing, t) _ (λ e. h)
+      cond_holds (TableAt c) (eqb (queue_count t) 0) (Break None, t) _ (λ e. h)
       (λ e. at_turn t h (poll (new_ring (front_slot t) (capacity t)) r fair (front_lane t)))
 
-  at_after : (u : Turn × List ℕ) (more : Took × List ℕ) → At c u.1 → At c more.1 → At c (after_turn u more).1
+  at_after : (u : ControlFlow (Option Took) (Unit {0}) × List ℕ) (more : Option Took × List ℕ) → At c u.1 → At c more.1 → At c (after_turn u more).1
   unfolding after_turn
-  at_after (Turn.Ends took, t) more h k = h
-  at_after (Turn.Left, t) more h k = k
+  at_after (Break took, t) more h k = h
+  at_after (Continue u, t) more h k = k
 
   at_turns_within : (n : ℕ) (t r : List ℕ) (fair : Bool) → At c t → At c (turns_within n t r fair).1
   unfolding turns_within
@@ -96,35 +95,35 @@ module _ {c : KeptWord} where
 
   -- ---- takes
 
-  at_else : (o : Took × List ℕ) (more : List ℕ → Took × List ℕ) → At c o.1 → ((u : List ℕ) → At c u → At c (more u).1) → At c (else_take o more).1
+  at_else : (o : Option Took × List ℕ) (more : List ℕ → Option Took × List ℕ) → At c o.1 → ((u : List ℕ) → At c u → At c (more u).1) → At c (else_take o more).1
   unfolding else_take
-  at_else (Took.Item item k, t) more h f = h
-  at_else (Took.Nothing, t) more h f = f t h
+  at_else (Some took, t) more h f = h
+  at_else (None, t) more h f = f t h
 
   at_from_window : (t : List ℕ) → At c t → (item : ℕ) (l : Lane) → At c (take_from_window t item l).1
   unfolding take_from_window
   at_from_window t h item l = at_head (put_lane t l) (at_put t h l) (place_of budget) (budget t - 1) refl
 
-  at_fast_took : (t : List ℕ) → At c t → (p : Popped) → At c (fast_took t p).1
+  at_fast_took : (t : List ℕ) → At c t → (p : Option Taken) → At c (fast_took t p).1
   unfolding fast_took
-  at_fast_took t h (Popped.Item item l) = at_from_window t h item l
-  at_fast_took t h (Popped.Nothing l) = h
+  at_fast_took t h (Some taken) = at_from_window t h taken.item taken.lane
+  at_fast_took t h None = h
 
-  at_if_popped : (t : List ℕ) → At c t → (p : Popped) → At c (take_if_popped t p).1
+  at_if_popped : (t : List ℕ) → At c t → (p : Option Taken) → At c (take_if_popped t p).1
   unfolding take_if_popped
-  at_if_popped t h (Popped.Item item l) = at_from_window (set_fast_slot t l.key.slot) (at_head t h (place_of fast_slot) l.key.slot refl) item l
-  at_if_popped t h (Popped.Nothing l) = h
+  at_if_popped t h (Some taken) = at_from_window (set_fast_slot t taken.lane.key.slot) (at_head t h (place_of fast_slot) taken.lane.key.slot refl) taken.item taken.lane
+  at_if_popped t h None = h
 
   at_fast : (t r : List ℕ) → At c t → At c (take_fast t r).1
   unfolding take_fast
   at_fast t r h =
-      cond_holds (TableAt c) (ltb (fast_slot t) (issued t)) _ (Took.Nothing, t)
-      (λ e. cond_holds (TableAt c) (eqb (lane_at t (fast_slot t)).registered 1) _ (Took.Nothing, t) (λ f. at_fast_took t h _) (λ f. h)) (λ e. h)
+      cond_holds (TableAt c) (ltb (fast_slot t) (issued t)) _ (None, t)
+      (λ e. cond_holds (TableAt c) (eqb (lane_at t (fast_slot t)).registered 1) _ (None, t) (λ f. at_fast_took t h _) (λ f. h)) (λ e. h)
 
   at_window : (t r : List ℕ) → At c t → At c (take_front_window t r).1
   unfolding take_front_window
   at_window t r h =
-      cond_holds (TableAt c) (eqb (queue_count t) 0) (Took.Nothing, t) _ (λ e. h) (λ e. at_if_popped t h _)
+      cond_holds (TableAt c) (eqb (queue_count t) 0) (None, t) _ (λ e. h) (λ e. at_if_popped t h _)
 
   at_due : (t : List ℕ) → At c t → At c (collect_if_due t)
   unfolding collect_if_due
@@ -145,7 +144,7 @@ module _ {c : KeptWord} where
   at_lone : (t r : List ℕ) → At c t → At c (take_lone t r).1
   unfolding take_lone
   at_lone t r h =
-      cond_holds (TableAt c) (eqb (queue_count t) 1) _ (Took.Nothing, t) (λ e. at_if_popped t h _) (λ e. h)
+      cond_holds (TableAt c) (eqb (queue_count t) 1) _ (None, t) (λ e. at_if_popped t h _) (λ e. h)
 
   at_fair : (t r : List ℕ) → At c t → At c (take_fair t r).1
   unfolding take_fair
@@ -167,10 +166,10 @@ module _ {c : KeptWord} where
       cond_holds (TableAt c) (eqb (living_count t) 0) _ (Empty, t)
       (λ e. at_slots retire_empty_paused at_empty_paused (issued t) 0 t h) (λ e. h)
 
-  at_answer : NotHeld c → (channel : OpenedChannel) (took : Took × List ℕ) → At c took.1 → At c (answer_one channel took).1
+  at_answer : NotHeld c → (channel : OpenedChannel) (took : Option Took × List ℕ) → At c took.1 → At c (answer_one channel took).1
   unfolding answer_one
-  at_answer n channel (Took.Item item k, t) h = at_held t h n _
-  at_answer n channel (Took.Nothing, t) h = at_nothing t h
+  at_answer n channel (Some took, t) h = at_held t h n _
+  at_answer n channel (None, t) h = at_nothing t h
 
   -- ---- the targeted receive
 
@@ -186,27 +185,27 @@ module _ {c : KeptWord} where
       let q = at_pushed_back _ (at_marked_if_idle _ (at_put t h (with_turn 1 1 0 l)) l) l.key.slot in
       cond_holds (At c) (eqb l.paused 0) _ (put_lane t l) (λ e. cond_holds (At c) (eqb l.queued 0) _ (put_lane t l) (λ f. q) (λ f. p)) (λ e. p)
 
-  at_target : NotHeld c → (t r : List ℕ) → At c t → (x : ℕ) (p : Refill) → At c (target_took t r x p).1
+  at_target : NotHeld c → (t r : List ℕ) → At c t → (x : ℕ) (p : Result Lane EmptyLane) → At c (target_took t r x p).1
   unfolding target_took
-  at_target n t r h x (Refill.Idle found) = at_settled t h found
-  at_target n t r h x (Refill.Ready l) = at_held _ (at_kept t h (pop_targeted (new_ring x (capacity t)) r l).lane) n _
+  at_target n t r h x (Err found) = at_settled t h found
+  at_target n t r h x (Ok l) = at_held _ (at_kept t h (pop_targeted (new_ring x (capacity t)) r l).lane) n _
 
   -- ---- the batch
 
-  at_look : (t : List ℕ) → At c t → (p : Refill) → At c (look_by t p).1
+  at_look : (t : List ℕ) → At c t → (p : Result Lane EmptyLane) → At c (look_by t p).1
   unfolding look_by
-  at_look t h (Refill.Ready l) = h
-  at_look t h (Refill.Idle found) = at_left t h found
+  at_look t h (Ok l) = h
+  at_look t h (Err found) = at_left t h found
 
   at_look_front : (t : List ℕ) → At c t → At c (look_front t).1
   unfolding look_front
   at_look_front t h =
-      cond_holds (TableAt c) (eqb (queue_count t) 0) (Look.Ends Front.None, t) _ (λ e. h) (λ e. at_look t h (refill (front_lane t)))
+      cond_holds (TableAt c) (eqb (queue_count t) 0) (Break None, t) _ (λ e. h) (λ e. at_look t h (refill (front_lane t)))
 
-  at_after_look : (u : Look × List ℕ) (more : Front × List ℕ) → At c u.1 → At c more.1 → At c (after_look u more).1
+  at_after_look : (u : ControlFlow (Option Lane) (Unit {0}) × List ℕ) (more : Option Lane × List ℕ) → At c u.1 → At c more.1 → At c (after_look u more).1
   unfolding after_look
-  at_after_look (Look.Ends front, t) more h k = h
-  at_after_look (Look.Left, t) more h k = k
+  at_after_look (Break front, t) more h k = h
+  at_after_look (Continue u, t) more h k = k
 
   at_run_down_within : (n : ℕ) (t : List ℕ) → At c t → At c (run_down_within n t).1
   unfolding run_down_within
@@ -219,10 +218,10 @@ module _ {c : KeptWord} where
   unfolding run_down
   at_run_down t h = at_run_down_within (queue_count t) t h
 
-  at_else_front : (o : Front × List ℕ) (more : List ℕ → Front × List ℕ) → At c o.1 → ((u : List ℕ) → At c u → At c (more u).1) → At c (else_front o more).1
+  at_else_front : (o : Option Lane × List ℕ) (more : List ℕ → Option Lane × List ℕ) → At c o.1 → ((u : List ℕ) → At c u → At c (more u).1) → At c (else_front o more).1
   unfolding else_front
-  at_else_front (Front.Ready l, t) more h f = h
-  at_else_front (Front.None, t) more h f = f t h
+  at_else_front (Some l, t) more h f = h
+  at_else_front (None, t) more h f = f t h
 
   at_refresh : (t : List ℕ) → At c t → At c (refresh_active t).1
   unfolding refresh_active
@@ -239,11 +238,11 @@ module _ {c : KeptWord} where
       (λ d. at_by (put_lane t e.lane) p _ (head_rotated (put_lane t e.lane) c.word c.unwritten.in_header (apart c.unwritten (place_of queue_front) refl))) (λ d. p))
       (place_of budget) (full_budget (budget t) - n) refl
 
-  at_chunk_then : (f : Front × List ℕ) (r : List ℕ) (left : ℕ) (more : List ℕ → ℕ → HandsAndTable) → At c f.1 → ((u : List ℕ) (m : ℕ) → At c u → At c (more u m).1)
+  at_chunk_then : (f : Option Lane × List ℕ) (r : List ℕ) (left : ℕ) (more : List ℕ → ℕ → HandsAndTable) → At c f.1 → ((u : List ℕ) (m : ℕ) → At c u → At c (more u m).1)
       → At c (chunk_then f r left more).1
   unfolding chunk_then
-  at_chunk_then (Front.None, t) r left more h g = h
-  at_chunk_then (Front.Ready l, t) r left more h g = g (chunk_given t (chunk_size t left l) l) (left - chunk_size t left l) (at_chunk t h (chunk_size t left l) l)
+  at_chunk_then (None, t) r left more h g = h
+  at_chunk_then (Some l, t) r left more h g = g (chunk_given t (chunk_size t left l) l) (left - chunk_size t left l) (at_chunk t h (chunk_size t left l) l)
 
   at_drained_within : (n : ℕ) (t r : List ℕ) (left : ℕ) → At c t → At c (drained_within n t r left).1
   unfolding drained_within
@@ -266,11 +265,11 @@ module _ {c : KeptWord} where
   unfolding batch_answer
   at_batch n t r limit h = at_items n limit (length (drained t r limit).0) (release_all (drained t r limit).1) (at_released t r limit h)
 
-  at_while_then : (f : Front × List ℕ) (r : List ℕ) (bound left : ℕ) (more : List ℕ → ℕ → DrainedWhile) → At c f.1 → ((u : List ℕ) (m : ℕ) → At c u → At c (more u m).1.1)
+  at_while_then : (f : Option Lane × List ℕ) (r : List ℕ) (bound left : ℕ) (more : List ℕ → ℕ → DrainedWhile) → At c f.1 → ((u : List ℕ) (m : ℕ) → At c u → At c (more u m).1.1)
       → At c (while_then f r bound left more).1.1
   unfolding while_then
-  at_while_then (Front.None, t) r bound left more h g = h
-  at_while_then (Front.Ready l, t) r bound left more h g =
+  at_while_then (None, t) r bound left more h g = h
+  at_while_then (Some l, t) r bound left more h g =
       cond_holds (λ (d : DrainedWhile). At c d.1.1) (ltb (chunk_admitted t r bound (chunk_size t left l) l) (chunk_size t left l)) _ _
       (λ e. at_chunk t h (chunk_admitted t r bound (chunk_size t left l) l) l)
       (λ e. g (chunk_given t (chunk_admitted t r bound (chunk_size t left l) l) l) (left - chunk_admitted t r bound (chunk_size t left l) l) (at_chunk t h (chunk_admitted t r bound (chunk_size t left l) l) l))

@@ -1,6 +1,7 @@
 -- A header word that no part of a call writes, and one that no call writes, stays what it is: every store of a lane, a mark, the queue, the free list or another header word, and what is made of
 -- these for sender calls and control calls. Of any words, in order or not.
 -- Assumes nothing.
+use Rattle.std.specs.Prelude.{Option, Some, None}
 use mathlib.Core.Path.{◌≡◌, refl, ◌∙◌}
 use mathlib.Core.Bool.{Bool, true, false, cond}
 use mathlib.Core.List.{List, [], ◌∷◌, foldl}
@@ -25,7 +26,7 @@ use Rattle.queues.specs.Registry.{free, reissue}
 use Rattle.ready.specs.Ready.{page_column, group_column, page_word, group_word, enqueue, wanted, offer, collect_page, collect_group, group_at, group_count, collected_from, collect_ready, open_page}
 use Rattle.queues.proofs.QueueLaws.{head_pushed_back, head_removed}
 use Rattle.queues.proofs.RegistryLaws.{head_freed, head_reissued}
-use Rattle.store.specs.declared.refusal.Verdict.{Verdict}
+use Rattle.store.specs.Refusal.{Verdict}
 use Rattle.store.specs.Words.{Words, unless_refused}
 use Rattle.store.specs.Registry.{retired, retire_lane}
 use Rattle.store.specs.Signal.{mark_if_idle}
@@ -178,15 +179,15 @@ module _ {c : KeptWord} (t : List ℕ) (h : At c t) where
   unfolding take_signaled
   take_signaled_at l free = at_marked_if_idle _ (at_put t h (with_sender 1 l.living l)) l
 
-  signaled_at : NotHeld c → (s : Sent × List ℕ) → At c (send_signaled t s).1
+  signaled_at : NotHeld c → (s : Option Sent × List ℕ) → At c (send_signaled t s).1
   unfolding send_signaled
-  signaled_at n (Sent.Taken l free, r) = at_held _ (take_signaled_at l free) n _
-  signaled_at n (Sent.Full l, r) = h
+  signaled_at n (Some s, r) = at_held _ (take_signaled_at s.lane s.free) n _
+  signaled_at n (None, r) = h
 
-  unsignaled_at : NotHeld c → (s : Sent × List ℕ) → At c (send_unsignaled t s).1
+  unsignaled_at : NotHeld c → (s : Option Sent × List ℕ) → At c (send_unsignaled t s).1
   unfolding send_unsignaled
-  unsignaled_at n (Sent.Taken l free, r) = at_held _ (at_put t h l) n _
-  unsignaled_at n (Sent.Full l, r) = h
+  unsignaled_at n (Some s, r) = at_held _ (at_put t h s.lane) n _
+  unsignaled_at n (None, r) = h
 
   pub dropped_at : (l : Lane) → At c (drop_lane t l)
   unfolding drop_lane

@@ -28,7 +28,6 @@ use Rattle.model.specs.HeldCalls.{items_sent, items_discarded}
 use Rattle.model.specs.Rules.{outcome}
 use Rattle.demands.proofs.HeldCalls.{sender_hands, control_hands}
 use Rattle.lane.specs.declared.lane.EmptyLane.{EmptyLane}
-use Rattle.lane.specs.declared.lane.Refill.{Refill}
 use Rattle.lane.specs.declared.producer.Sent.{Sent}
 use Rattle.yring.specs.Cursor.{after, distance}
 use Rattle.yring.specs.Ring.{new_ring}
@@ -38,8 +37,8 @@ use Rattle.lane.proofs.OrderLaws.{cond_holds}
 use Rattle.yring.proofs.RingLaws.{length_items}
 use Rattle.queues.specs.Header.{Shaped, issued, alive, capacity, channel, living_count, lane_count, held_count, held_more, held_less}
 use Rattle.queues.specs.Queue.{remove}
-use Rattle.store.specs.declared.refusal.Verdict.{Verdict}
-use Rattle.store.specs.declared.refusal.Verdict.TheVariants.{Pass, Refuse}
+use Rattle.store.specs.Refusal.{Verdict}
+use Rattle.std.specs.Prelude.{Ok, Err, Option, Some, None, Result}
 use Rattle.store.specs.View.{slot_at, view}
 use Rattle.store.specs.Order.{StoreInOrder}
 use Rattle.store.specs.Refusal.{receiver_verdict, send_verdict, id_verdict}
@@ -64,6 +63,7 @@ use Rattle.store.proofs.RefusalLaws.{id_passes, unless_refused_case}
 use Rattle.store.proofs.HeldLaws.{held_count_set, held_count_most, HeldMoved}
 use Rattle.refinement.proofs.HeaderSteps.{parts_write, At, at_put, at_head, unless_at, registered_at, take_signaled_at, dropped_at, at_release_all, at_poll_all, paused_at, resumed_at, gone_at}
 use Rattle.refinement.proofs.HeaderKept.{kept_now, holds_now, take_one_leaves, take_fair_leaves, at_nothing, at_settled, at_kept, at_released, at_while_released}
+use Rattle.lane.specs.declared.lane.Lane.{Lane}
 
 -- ---- answers that hand out nothing
 
@@ -133,15 +133,15 @@ module _ (t r : List ℕ) (o : StoreInOrder t r) where
   sent_one c a u q e b d f g = omega (arith, held_count_set u (after (held_count u) 1) g, f.holds, e, b, d, below)
 
   module _ (k : LaneKey) (v : ℕ) where
-    signaled_held : (s : Sent × List ℕ) → Shaped (send_signaled t s).1 → HeldMoved t r (Sender (TrySend k v)) (send_signaled t s)
+    signaled_held : (s : Option Sent × List ℕ) → Shaped (send_signaled t s).1 → HeldMoved t r (Sender (TrySend k v)) (send_signaled t s)
     unfolding send_signaled take_signaled items_sent items_discarded accepted
-    signaled_held (Sent.Taken l free, q) g = sent_one (Sender (TrySend k v)) (take_signaled t l free).0 (take_signaled t l free).1 q refl (sender_none (TrySend k v)) refl (take_signaled_at t (here t) l free) g
-    signaled_held (Sent.Full l, q) g = quiet (Sender (TrySend k v)) (send_signaled t (Sent.Full l, q)) refl (sender_none (TrySend k v)) refl (here t)
+    signaled_held (Some s, q) g = sent_one (Sender (TrySend k v)) (take_signaled t s.lane s.free).0 (take_signaled t s.lane s.free).1 q refl (sender_none (TrySend k v)) refl (take_signaled_at t (here t) s.lane s.free) g
+    signaled_held (None, q) g = quiet (Sender (TrySend k v)) (send_signaled t (None, q)) refl (sender_none (TrySend k v)) refl (here t)
 
-    unsignaled_held : (s : Sent × List ℕ) → Shaped (send_unsignaled t s).1 → HeldMoved t r (Sender (TrySendUnsignaled k v)) (send_unsignaled t s)
+    unsignaled_held : (s : Option Sent × List ℕ) → Shaped (send_unsignaled t s).1 → HeldMoved t r (Sender (TrySendUnsignaled k v)) (send_unsignaled t s)
     unfolding send_unsignaled items_sent items_discarded accepted
-    unsignaled_held (Sent.Taken l free, q) g = sent_one (Sender (TrySendUnsignaled k v)) (Taken false free) (put_lane t l) q refl (sender_none (TrySendUnsignaled k v)) refl (at_put t (here t) l) g
-    unsignaled_held (Sent.Full l, q) g = quiet (Sender (TrySendUnsignaled k v)) (send_unsignaled t (Sent.Full l, q)) refl (sender_none (TrySendUnsignaled k v)) refl (here t)
+    unsignaled_held (Some s, q) g = sent_one (Sender (TrySendUnsignaled k v)) (Taken false s.free) (put_lane t s.lane) q refl (sender_none (TrySendUnsignaled k v)) refl (at_put t (here t) s.lane) g
+    unsignaled_held (None, q) g = quiet (Sender (TrySendUnsignaled k v)) (send_unsignaled t (None, q)) refl (sender_none (TrySendUnsignaled k v)) refl (here t)
 
   pub sender_held : (s : SenderCall) → Shaped (sender_words t r s).1 → HeldMoved t r (Sender s) (sender_words t r s)
   unfolding sender_words register_sender register_slot try_send try_send_unsignaled drop_sender items_sent items_discarded accepted
@@ -204,22 +204,22 @@ module _ (t r : List ℕ) (o : StoreInOrder t r) where
   nothing_less : (u : List ℕ) → Found t u → LessByAnswer (nothing_taken u)
   nothing_less u f g = none_off (nothing_taken u).1 (at_nothing u f) ∙ ap (λ (l : List (LaneKey × ℕ)). distance H (length l)) (sym (nothing_hands u))
 
-  answer_less : (channel : OpenedChannel) (took : Took × List ℕ) → Found t took.1 → LessByAnswer (answer_one channel took)
+  answer_less : (channel : OpenedChannel) (took : Option Took × List ℕ) → Found t took.1 → LessByAnswer (answer_one channel took)
   unfolding answer_one hands_of
-  answer_less channel (Took.Item item k, u) f g = less u 1 f g
-  answer_less channel (Took.Nothing, u) f g = nothing_less u f g
+  answer_less channel (Some took, u) f g = less u 1 f g
+  answer_less channel (None, u) f g = nothing_less u f g
 
-  target_less : (x : ℕ) (p : Refill) → LessByAnswer (target_took t r x p)
+  target_less : (x : ℕ) (p : Result Lane EmptyLane) → LessByAnswer (target_took t r x p)
   unfolding target_took hands_of
-  target_less x (Refill.Idle e) g =
+  target_less x (Err e) g =
       none_off (settle_target t e).1 (at_settled t (here t) e) ∙ ap (λ (l : List (LaneKey × ℕ)). distance H (length l)) (sym (settled_hands t e))
-  target_less x (Refill.Ready l) g = less _ 1 (at_kept t (here t) (pop_targeted (new_ring x (capacity t)) r l).lane) g
+  target_less x (Ok l) g = less _ 1 (at_kept t (here t) (pop_targeted (new_ring x (capacity t)) r l).lane) g
 
   -- a single receive that may be refused
   single_less : (v : Verdict) (w : Answer × List ℕ) → LessByAnswer w → let z = unless_refused v t r (with_rings r w) in LessByAnswer (z.0, z.1)
   unfolding unless_refused hands_of
-  single_less Pass w k g = k g
-  single_less (Refuse why) w k g = none_off t (here t)
+  single_less (Ok u) w k g = k g
+  single_less (Err why) w k g = none_off t (here t)
 
   items_less : (limit n : ℕ) (u : List ℕ) → Found t u → Shaped (answer_items limit n u).1 → held_count (answer_items limit n u).1 ≡ distance H n
   unfolding answer_items
@@ -244,8 +244,8 @@ module _ (t r : List ℕ) (o : StoreInOrder t r) where
   batch_less : (v : Verdict) (w : Answer × List ℕ) (l : List (LaneKey × ℕ)) → (Shaped w.1 → held_count w.1 ≡ distance H (length l))
       → let z = unless_refused v t r (with_rings r w) in Shaped z.1 → held_count z.1 ≡ distance H (length (handed_by v l))
   unfolding unless_refused handed_by
-  batch_less Pass w l k g = k g
-  batch_less (Refuse why) w l k g = none_off t (here t)
+  batch_less (Ok u) w l k g = k g
+  batch_less (Err why) w l k g = none_off t (here t)
 
   receive_less : (c : ReceiveCall) → Shaped (receive_words t r c).1 → held_count (receive_words t r c).1 ≡ distance H (length (hands_words t r c))
   unfolding receive_words hands_words try_recv try_recv_fair try_recv_from take_from batch_words batch_answer batch_hands while_words while_answer while_hands

@@ -15,7 +15,6 @@ use Rattle.model.specs.Order.{Ordered}
 use Rattle.model.specs.Outcome.{says}
 use Rattle.model.specs.Turn as turns
 use Rattle.model.specs.Receive as rules
-use Rattle.demands.proofs.Moves.{nothing_taken_gives_none}
 use Rattle.demands.proofs.OrderKept.{retire_empty_paused_ordered}
 use Rattle.lane.specs.declared.lane.Lane.{Lane}
 use Rattle.lane.specs.Lane.{held_items, close_fast, prefetch, reload, reload_is_empty, refill, ready_or_idle}
@@ -232,7 +231,3 @@ module _ (t r : List ℕ) (o : InOrderButHeld t r) where
   nothing_taken_keeps =
       cond_holds (λ (w : Answer × List ℕ). InOrderButHeld w.1 r) (eqb (living_count t) 0) (empty_or_drained (retire_empty_paused_lanes t)) (Empty, t)
       (λ e. all_in_order_lem t r o) (λ e. o)
-
--- the rules hand out nothing with it
-pub nothing_taken_hands_none : (t r : List ℕ) → (rules.nothing_taken (view t r)).0 ≡ []
-nothing_taken_hands_none t r = nothing_taken_gives_none (view t r)

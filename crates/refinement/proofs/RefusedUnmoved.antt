@@ -21,13 +21,12 @@ use Rattle.model.specs.Receive.{written_to}
 use Rattle.model.specs.Runs.{accepted}
 use Rattle.demands.proofs.Counting.{no}
 use Rattle.yring.specs.Cursor.{distance}
-use Rattle.lane.specs.declared.lane.Refill.{Refill}
 use Rattle.yring.specs.Ring.{push_item}
 use Rattle.lane.specs.Lane.{sent, push_and_flush_item, refill}
 use Rattle.lane.specs.Table.{lane_at}
 use Rattle.queues.specs.Header.{capacity, channel, lane_count, living_count, held_less}
-use Rattle.store.specs.declared.refusal.Verdict.{Verdict}
-use Rattle.store.specs.declared.refusal.Verdict.TheVariants.{Pass, Refuse}
+use Rattle.store.specs.Refusal.{Verdict}
+use Rattle.std.specs.Prelude.{Ok, Err, Option, Some, None, Result}
 use Rattle.turns.specs.declared.turn.Took.{Took}
 use Rattle.store.specs.Words.{Words, unless_refused, with_rings}
 use Rattle.opening.specs.Opening.{open_sized, open_store}
@@ -43,6 +42,8 @@ use Rattle.receive_from.specs.Target.{settle_target, target_took, take_from, try
 use Rattle.refinement.specs.Runs.{}
 use Rattle.control.specs.Calls.{control_words}
 use Rattle.store.proofs.RefusalLaws.{unless_refused_case}
+use Rattle.lane.specs.declared.lane.EmptyLane.{EmptyLane}
+use Rattle.lane.specs.declared.lane.Lane.{Lane}
 
 -- "a refusal leaves state, both stores and the output unchanged"
 abbrev pub Unmoved : List ℕ → List ℕ → Words → Type 0
@@ -117,10 +118,10 @@ nothing_taken_accepted t = go (eqb (living_count t) 0) (eqb (lane_count (retire_
     go true false = refl
     go false c = refl
 
-pub answer_one_accepted : (channel : OpenedChannel) (took : Took × List ℕ) → accepted (answer_one channel took).0 ≡ true
+pub answer_one_accepted : (channel : OpenedChannel) (took : Option Took × List ℕ) → accepted (answer_one channel took).0 ≡ true
 unfolding answer_one accepted
-answer_one_accepted channel (Took.Item item k, t) = refl
-answer_one_accepted channel (Took.Nothing, t) = nothing_taken_accepted t
+answer_one_accepted channel (Some took, t) = refl
+answer_one_accepted channel (None, t) = nothing_taken_accepted t
 
 pub take_from_accepted : (t r : List ℕ) (x : ℕ) → accepted (take_from t r x).0 ≡ true
 unfolding take_from target_took settle_target accepted
@@ -130,9 +131,9 @@ take_from_accepted t r x = go (refill (lane_at t x))
     settled true = refl
     settled false = refl
 
-    go : (p : Refill) → accepted (target_took t r x p).0 ≡ true
-    go (Refill.Idle found) = settled found.disconnected
-    go (Refill.Ready l) = refl
+    go : (p : Result Lane EmptyLane) → accepted (target_took t r x p).0 ≡ true
+    go (Err found) = settled found.disconnected
+    go (Ok l) = refl
 
 module _ (t r : List ℕ) where
   pub try_recv_unmoved : Unmoved t r (try_recv t r)
@@ -172,8 +173,8 @@ unfolding batch_words try_recv_batch_into batch_hands unless_refused handed_by w
 batch_output_unmoved t r out limit why e = go (batch_verdict t limit (length out)) e
   where
     go : (v : Verdict) → (unless_refused v t r (with_rings r (batch_answer t r limit))).0 ≡ Refused why → written_to (handed_by v (drained t r limit).0) out ≡ out
-    go Pass f = absurd (no (batch_accepted t r limit) (ap accepted f))
-    go (Refuse n) f = refl
+    go (Ok u) f = absurd (no (batch_accepted t r limit) (ap accepted f))
+    go (Err n) f = refl
 
 -- ---- the batch that stops
 
@@ -199,8 +200,8 @@ unfolding while_words try_recv_batch_into_while while_hands unless_refused hande
 while_output_unmoved t r out limit bound why e = go (batch_verdict t limit (length out)) e
   where
     go : (v : Verdict) → (unless_refused v t r (with_rings r (while_answer t r limit bound))).0 ≡ Refused why → written_to (handed_by v (drained_while t r limit bound).1.0) out ≡ out
-    go Pass f = absurd (no (while_accepted t r limit bound) (ap accepted f))
-    go (Refuse n) f = refl
+    go (Ok u) f = absurd (no (while_accepted t r limit bound) (ap accepted f))
+    go (Err n) f = refl
 
 module _ (t r : List ℕ) where
   -- ---- the opening

@@ -1,5 +1,6 @@
 -- The fair take is the rules' fair take, and leaves a store in order.
 -- Assumes nothing.
+use Rattle.std.specs.Prelude.{Option, Some, None}
 use mathlib.Core.Path.{◌≡◌, refl, sym, ap, ◌∙◌, subst}
 use mathlib.Core.Bool.{true}
 use mathlib.Core.List.{List, [], ◌∷◌}
@@ -14,9 +15,8 @@ use Rattle.model.specs.Ready as marks
 use Rattle.model.specs.Turn as rules
 use Rattle.demands.proofs.Counting.{no}
 use Rattle.lane.specs.declared.lane.Lane.{Lane}
-use Rattle.lane.specs.declared.lane.Popped.{Popped}
 use Rattle.yring.specs.Ring.{new_ring}
-use Rattle.lane.specs.Lane.{held_items, pop_lone}
+use Rattle.lane.specs.Lane.{held_items, fair_window, pop_lone}
 use Rattle.lane.specs.Order.{Counts, InOrder, popped_lane}
 use Rattle.lane.specs.Table.{lane_at}
 use Rattle.lane.proofs.OrderLaws.{cond_holds, pop_fair_keeps}
@@ -26,7 +26,6 @@ use Rattle.queues.specs.Header.{issued, queue_count, budget, capacity, set_budge
 use Rattle.queues.specs.Queue.{queue_of, front_slot, pop_front}
 use Rattle.ready.specs.Ready.{collect_ready}
 use Rattle.queues.proofs.QueueLaws.{header_in, length_queue, queue_front_lem}
-use Rattle.turns.specs.declared.turn.Took.TheVariants as Took
 use Rattle.store.specs.View.{view}
 use Rattle.store.specs.Order.{Stores, InOrderButHeld}
 use Rattle.turns.specs.Turn.{front_lane, turns}
@@ -43,23 +42,25 @@ use Rattle.refinement.proofs.TurnView.{TookAs, turns_from, turns_from_front, tur
 use Rattle.refinement.proofs.WindowView.{Pops, window_took, window_first, step_fast_moved}
 use Rattle.refinement.proofs.WindowTakes.{TakesAs}
 use Rattle.refinement.proofs.TakeOneView.{else_took}
+use Rattle.lane.specs.declared.consumer.Taken.{Taken}
 
 -- ---- the lone lane's item
 
 -- with a budget of 64, above every window
 pops_fair : (t r : List ℕ) → Stores t r → (x : ℕ) → x < issued t → (lane_at t x).registered ≡ 1 → budget t ≡ 64 → (item : ℕ) (m : Lane)
-    → pop_lone (new_ring x (capacity t)) r (budget t) (lane_at t x) ≡ Popped.Item item m → Pops t r x item 0 m
+    → pop_lone (new_ring x (capacity t)) r (budget t) (lane_at t x) ≡ Some (record { item = item; lane = m }) → Pops t r x item 0 m
 pops_fair t r o x h g b item m e =
     let ring = new_ring x (capacity t) in
     let i = o.lanes x h g in
     let more = pop_fair_more ring o.power.most r (budget t) (lane_at t x) i item m e in
-    let order : InOrder (capacity t) m = subst (λ (p : Popped). InOrder (capacity t) (popped_lane p)) e (pop_fair_keeps ring o.power.most r (lane_at t x) i (budget t)) in
+    let w : Lane = fair_window (capacity t) (budget t) (lane_at t x) in
+    let order : InOrder (capacity t) m = subst (λ (p : Option Taken). InOrder (capacity t) (popped_lane w p)) e (pop_fair_keeps ring o.power.most r (lane_at t x) i (budget t)) in
     record {
       takes = pop_fair_takes_first ring r (lane_at t x) (issued_ring_in t r o x h) i (budget t) item m e;
       unreleased_more = more.0;
       below_batch = more.2;
       burst_is = more.1;
-      same_flags = sym (ap (λ (p : Popped). flagged (popped_lane p)) e) ∙ flagged_pop_fair ring r (budget t) (lane_at t x);
+      same_flags = sym (ap (λ (p : Option Taken). flagged (popped_lane w p)) e) ∙ flagged_pop_fair ring r (budget t) (lane_at t x);
       order = order;
       within = omega (arith, most order.counts, b);
     }
@@ -80,7 +81,7 @@ module _ (t r : List ℕ) (o : InOrderButHeld t r) (b : budget t ≡ 64) where
     front : FrontLane t x []
     front = front_lane_lem t r o x [] queue_is
 
-    lone_taken : (item : ℕ) (m : Lane) → pop_lone (new_ring x (capacity t)) r (budget t) (front_lane t) ≡ Popped.Item item m
+    lone_taken : (item : ℕ) (m : Lane) → pop_lone (new_ring x (capacity t)) r (budget t) (front_lane t) ≡ Some (record { item = item; lane = m })
         → TookAs r (take_from_window (set_fast_slot t m.key.slot) item m) (turns_from true (view t r).queue (view t r))
     unfolding view
     lone_taken item m e =
@@ -99,12 +100,12 @@ module _ (t r : List ℕ) (o : InOrderButHeld t r) (b : budget t ≡ 64) where
   take_lone_takes : TakesAs r (take_lone t r) (turns_from true (view t r).queue (view t r))
   unfolding take_lone take_if_popped take_from_window
   take_lone_takes =
-      cond_holds (λ p. TakesAs r p (turns_from true (view t r).queue (view t r))) (eqb (queue_count t) 1) _ (Took.Nothing, t)
+      cond_holds (λ p. TakesAs r p (turns_from true (view t r).queue (view t r))) (eqb (queue_count t) 1) _ (None, t)
       (λ a. go (eqb-true (queue_count t) 1 a) (pop_lone (new_ring x (capacity t)) r (budget t) (front_lane t)) refl) (λ a. omega arith)
     where
-      go : queue_count t ≡ 1 → (p : Popped) → pop_lone (new_ring x (capacity t)) r (budget t) (front_lane t) ≡ p → TakesAs r (take_if_popped t p) (turns_from true (view t r).queue (view t r))
-      go one (Popped.Item item m) e = lone_taken one item m e
-      go one (Popped.Nothing m) e = omega arith
+      go : queue_count t ≡ 1 → (p : Option Taken) → pop_lone (new_ring x (capacity t)) r (budget t) (front_lane t) ≡ p → TakesAs r (take_if_popped t p) (turns_from true (view t r).queue (view t r))
+      go one (Some taken) e = lone_taken one taken.item taken.lane e
+      go one None e = omega arith
 
 -- ---- the fair take
 

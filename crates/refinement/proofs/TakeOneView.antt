@@ -1,5 +1,6 @@
 -- The plain take, from the fast window to the poll loop, is the rules' take of one item, and leaves a store in order.
 -- Assumes nothing.
+use Rattle.std.specs.Prelude.{Option, Some, None}
 use mathlib.Core.Path.{◌≡◌, refl, sym, ap, ap₂, ◌∙◌, subst}
 use mathlib.Core.Bool.{Bool, true, false, cond}
 use mathlib.Core.List.{List, [], ◌∷◌}
@@ -85,12 +86,12 @@ module _ (t r : List ℕ) (o : InOrderButHeld t r) where
   unfolding poll_loop else_take after_due rules.collect_if_none_queued view
   loop_alike = go (turns t r false) (turns_alike t r false o) (turns_rest t r false (turning_of t r o))
     where
-      go : (w : Took × List ℕ) → TookAs r w (rules.give_front false d d.queue) → Rests w → TookAs r (else_take w (λ u. turns (collect_ready true u) r false)) (after_due (view t r))
-      go (Took.Item item key, u) a k =
-          subst (TookAs r (Took.Item item key, u)) (ap (λ (v : State). rules.give_front false v v.queue) (sym (gave_some false d (view u r) d.queue _ _ a.alike))) a
-      go (Took.Nothing, u) a k =
+      go : (w : Option Took × List ℕ) → TookAs r w (rules.give_front false d d.queue) → Rests w → TookAs r (else_take w (λ u. turns (collect_ready true u) r false)) (after_due (view t r))
+      go (Some took, u) a k =
+          subst (TookAs r (Some took, u)) (ap (λ (v : State). rules.give_front false v v.queue) (sym (gave_some false d (view u r) d.queue _ _ a.alike))) a
+      go (None, u) a k =
           let same : view u r ≡ d = gave_none false d (view u r) d.queue a.alike in
-          let none : d.queue ≡ [] = sym (ap (λ (v : State). v.queue) same) ∙ rests_queue (Took.Nothing, u) k refl in
+          let none : d.queue ≡ [] = sym (ap (λ (v : State). v.queue) same) ∙ rests_queue (None, u) k refl in
           let seen : view (collect_ready true u) r ≡ marks.collect_ready d = view_collect_all u r a.in_order.stores ∙ ap marks.collect_ready same in
           let next : rules.run_down (view (collect_ready true u) r) ≡ rules.collect_if_none_queued d.queue d = ap rules.run_down seen ∙ sym (ap (λ (q : List ℕ). rules.collect_if_none_queued q d) none) in
           subst (λ (v : State). TookAs r (turns (collect_ready true u) r false) (rules.give_front false v v.queue)) next
@@ -125,10 +126,10 @@ module _ (t r : List ℕ) (o : InOrderButHeld t r) where
 -- ---- one take after another
 
 -- a first take that hands out what the rules take, or hands out nothing and changes nothing
-pub else_took : (t r : List ℕ) (w : rules.Took) (o : Took × List ℕ) (f : List ℕ → Took × List ℕ) → TakesAs r o w → Unmoved t o → TookAs r (f t) w → TookAs r (else_take o f) w
+pub else_took : (t r : List ℕ) (w : rules.Took) (o : Option Took × List ℕ) (f : List ℕ → Option Took × List ℕ) → TakesAs r o w → Unmoved t o → TookAs r (f t) w → TookAs r (else_take o f) w
 unfolding else_take
-else_took t r w (Took.Item item key, u) f a e b = a
-else_took t r w (Took.Nothing, u) f a e b = subst (λ (v : List ℕ). TookAs r (f v) w) (sym e) b
+else_took t r w (Some took, u) f a e b = a
+else_took t r w (None, u) f a e b = subst (λ (v : List ℕ). TookAs r (f v) w) (sym e) b
 
 module _ (t r : List ℕ) (o : InOrderButHeld t r) where
   abbrev u : List ℕ

@@ -1,5 +1,6 @@
 -- A targeted receive of a lane that has an item: what the rules see of it, and that a store in order is left.
 -- Assumes nothing.
+use Rattle.std.specs.Prelude.{Ok}
 use mathlib.Core.Path.{◌≡◌, refl, sym, ap, ◌∙◌, subst}
 use mathlib.Core.Bool.{Bool, true, false, cond, not, ◌&&◌}
 use mathlib.Core.List.{List, [], ◌∷◌, ◌++◌}
@@ -14,7 +15,6 @@ use Rattle.model.specs.Changes.{with_queue, put, with_signal, popped, signalled}
 use Rattle.model.specs.Turn as turns
 use Rattle.model.specs.Receive as rules
 use Rattle.lane.specs.declared.lane.Lane.{Lane}
-use Rattle.lane.specs.declared.lane.Refill.TheVariants as Refill
 use Rattle.yring.specs.Ring.{new_ring}
 use Rattle.lane.specs.Lane.{held_items, refill, ready_or_idle, targeted, pop_targeted}
 use Rattle.lane.specs.Order.{InOrder, Filled}
@@ -71,7 +71,7 @@ module _ (t r : List ℕ) (o : StoreInOrder t r) (x : ℕ) (h : x < issued t) (g
   sees : slot ≡ slot_at t r x
   sees = slot_in t r x h
 
-  pub target_ready : refill (lane_at t x) ≡ Refill.Ready (looked (lane_at t x))
+  pub target_ready : refill (lane_at t x) ≡ Ok (looked (lane_at t x))
   unfolding refill ready_or_idle
   target_ready = rw s
 

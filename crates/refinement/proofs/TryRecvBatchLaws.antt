@@ -22,8 +22,8 @@ use Rattle.model.specs.Receive as rules
 use Rattle.demands.proofs.Moves.{nothing_taken_gives_none}
 use Rattle.demands.proofs.OrderKept.{release_all_ordered}
 use Rattle.queues.specs.Header.{held_less}
-use Rattle.store.specs.declared.refusal.Verdict.{Verdict}
-use Rattle.store.specs.declared.refusal.Verdict.TheVariants.{Pass, Refuse}
+use Rattle.store.specs.Refusal.{Verdict}
+use Rattle.std.specs.Prelude.{Ok, Err}
 use Rattle.store.specs.View.{view}
 use Rattle.store.specs.Order.{InOrderButHeld}
 use Rattle.store.specs.Refusal.{and_then}
@@ -89,7 +89,7 @@ unfolding handed_by first_of unless
 handed_by_tests [] s o = refl
 handed_by_tests (c ∷ cs) s o = go c.0 (handed_by_tests cs s o)
   where
-    go : (b : Bool) → handed_by (first_of cs) o.0 ≡ (unless cs s o).0 → handed_by (if b (Refuse c.1) (first_of cs)) o.0 ≡ (if b ([], (Refused c.1, s)) (unless cs s o)).0
+    go : (b : Bool) → handed_by (first_of cs) o.0 ≡ (unless cs s o).0 → handed_by (if b (Err c.1) (first_of cs)) o.0 ≡ (if b ([], (Refused c.1, s)) (unless cs s o)).0
     go true e = refl
     go false e = e
 
@@ -104,7 +104,7 @@ module _ (t r : List ℕ) (limit room : ℕ) where
       ∙ ap (and_then (first_of ((not (view t r).is_open, ReceiverClosed) ∷ []))) (go (ltb room limit))
       ∙ sym (first_of_append ((not (view t r).is_open, ReceiverClosed) ∷ []) ((ltb room limit, OutputShort) ∷ []))
     where
-      go : (b : Bool) → cond b (Refuse OutputShort) Pass ≡ if b (Refuse OutputShort) Pass
+      go : (b : Bool) → ◌≡◌ {A = Verdict} (cond b (Err OutputShort) (Ok tt)) (if b (Err OutputShort) (Ok tt))
       go true = refl
       go false = refl
 

@@ -1,5 +1,6 @@
 -- The targeted receive does what the rules say, and leaves a store in order.
 -- Assumes nothing.
+use Rattle.std.specs.Prelude.{Ok, Err}
 use mathlib.Core.Path.{◌≡◌, refl, sym, ap, ap₂, ◌∙◌, subst}
 use mathlib.Core.Bool.{Bool, true, false, cond, not}
 use mathlib.Core.List.{List, []}
@@ -20,7 +21,6 @@ use Rattle.model.specs.Rules.{outcome}
 use Rattle.demands.proofs.Counting.{without_own, without_other}
 use Rattle.lane.specs.declared.lane.Lane.{Lane}
 use Rattle.lane.specs.declared.lane.EmptyLane.{EmptyLane}
-use Rattle.lane.specs.declared.lane.Refill.TheVariants as Refill
 use Rattle.lane.specs.Lane.{settle_empty, refill, ready_or_idle, pop_targeted}
 use Rattle.yring.specs.Ring.{new_ring}
 use Rattle.lane.specs.Table.{head, lane_at, put_lane}
@@ -117,7 +117,7 @@ module _ (t r : List ℕ) (o : StoreInOrder t r) (x : ℕ) (h : x < issued t) (g
   empties e = empties_by_refill t r o.stores x h g (settle_empty (looked old)) (rw e)
 
   took_alike : eqb (looked old).cached 0 ≡ false
-      → seen (with_rings r (target_took t r x (Refill.Ready (looked old)))) ≡ (rules.take_from ((view t r).slot_of x).ring x (view t r)).1
+      → seen (with_rings r (target_took t r x (Ok (looked old)))) ≡ (rules.take_from ((view t r).slot_of x).ring x (view t r)).1
   unfolding target_took rules.take_from view
   took_alike e =
       ap₂ (λ (k : LaneKey) (s : State). (Item (pop_targeted (new_ring x (capacity t)) r (looked old)).item (record { channel = channel t; key = k }), s)) same_key
@@ -129,7 +129,7 @@ module _ (t r : List ℕ) (o : StoreInOrder t r) (x : ℕ) (h : x < issued t) (g
   take_from_alike = go (eqb (looked old).cached 0) refl
     where
       go : (b : Bool) → eqb (looked old).cached 0 ≡ b
-          → seen (with_rings r (target_took t r x (cond b (Refill.Idle (settle_empty (looked old))) (Refill.Ready (looked old))))) ≡ (rules.take_from ((view t r).slot_of x).ring x (view t r)).1
+          → seen (with_rings r (target_took t r x (cond b (Err (settle_empty (looked old))) (Ok (looked old))))) ≡ (rules.take_from ((view t r).slot_of x).ring x (view t r)).1
       go true e = settled_alike t r o x h g (settle_empty (looked old)) (empties e)
       go false e = took_alike e
 
@@ -137,7 +137,7 @@ module _ (t r : List ℕ) (o : StoreInOrder t r) (x : ℕ) (h : x < issued t) (g
   unfolding take_from refill ready_or_idle target_took
   take_from_stores = go (eqb (looked old).cached 0) refl
     where
-      go : (b : Bool) → eqb (looked old).cached 0 ≡ b → Stores (target_took t r x (cond b (Refill.Idle (settle_empty (looked old))) (Refill.Ready (looked old)))).1 r
+      go : (b : Bool) → eqb (looked old).cached 0 ≡ b → Stores (target_took t r x (cond b (Err (settle_empty (looked old))) (Ok (looked old)))).1 r
       go true e = settled_kept t r o x h g (settle_empty (looked old)) (empties e)
       go false e = stores_held_count _ r _ (target_stores t r o x h g e)
 

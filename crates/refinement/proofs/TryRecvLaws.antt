@@ -1,5 +1,6 @@
 -- The plain receive does what the rules say, hands out what they hand out, and leaves a store in order.
 -- Assumes nothing.
+use Rattle.std.specs.Prelude.{Option, Some, None}
 use mathlib.Core.Path.{◌≡◌, sym, ap, ◌∙◌}
 use mathlib.Core.Bool.{not}
 use mathlib.Core.List.{List, [], ◌∷◌}
@@ -30,20 +31,20 @@ use Rattle.refinement.proofs.HeaderKept.{take_one_channel}
 
 -- ---- the answer to a take that is the rules'
 
-pub answer_one_alike : (r : List ℕ) (c : OpenedChannel) (w : Took × List ℕ) (v : RulesTook) → TookAs r w v → channel w.1 ≡ c
+pub answer_one_alike : (r : List ℕ) (c : OpenedChannel) (w : Option Took × List ℕ) (v : RulesTook) → TookAs r w v → channel w.1 ≡ c
     → seen (with_rings r (answer_one c w)) ≡ (rules.answer_one v.0 v.1).1
 unfolding answer_one rules.answer_one view
-answer_one_alike r c (Took.Item item key, u) v a e =
-    ap (λ (s : State). (Item item (record { channel = c; key = key }), s)) (view_held_count u r a.in_order.stores.shaped _)
-    ∙ ap (λ (n : OpenedChannel). (Item item (record { channel = n; key = key }), view u r)) (sym e)
+answer_one_alike r c (Some took, u) v a e =
+    ap (λ (s : State). (Item took.item (record { channel = c; key = took.key }), s)) (view_held_count u r a.in_order.stores.shaped _)
+    ∙ ap (λ (n : OpenedChannel). (Item took.item (record { channel = n; key = took.key }), view u r)) (sym e)
     ∙ ap (λ (z : RulesTook). (rules.answer_one z.0 z.1).1) a.alike
-answer_one_alike r c (Took.Nothing, u) v a e =
+answer_one_alike r c (None, u) v a e =
     nothing_taken_alike u r a.in_order ∙ ap (λ (z : RulesTook). (rules.answer_one z.0 z.1).1) a.alike
 
-pub answer_one_keeps : (r : List ℕ) (c : OpenedChannel) (w : Took × List ℕ) (v : RulesTook) → TookAs r w v → InOrderButHeld (answer_one c w).1 r
+pub answer_one_keeps : (r : List ℕ) (c : OpenedChannel) (w : Option Took × List ℕ) (v : RulesTook) → TookAs r w v → InOrderButHeld (answer_one c w).1 r
 unfolding answer_one
-answer_one_keeps r c (Took.Item item key, u) v a = but_held_count u r _ a.in_order
-answer_one_keeps r c (Took.Nothing, u) v a = nothing_taken_keeps u r a.in_order
+answer_one_keeps r c (Some took, u) v a = but_held_count u r _ a.in_order
+answer_one_keeps r c (None, u) v a = nothing_taken_keeps u r a.in_order
 
 -- ---- the call
 

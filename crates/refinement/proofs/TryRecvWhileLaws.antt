@@ -12,7 +12,7 @@ use Rattle.model.specs.State.{State}
 use Rattle.model.specs.Outcome.{Outcome}
 use Rattle.model.specs.Turn.{Took}
 use Rattle.model.specs.Receive as rules
-use Rattle.store.specs.declared.refusal.Verdict.{Verdict}
+use Rattle.store.specs.Refusal.{Verdict}
 use Rattle.store.specs.View.{view}
 use Rattle.store.specs.Order.{InOrderButHeld}
 use Rattle.store.specs.Words.{Words, with_rings}

@@ -1,5 +1,6 @@
 -- A turn at the front changes no lane's key: the Rust's entries, which are keys, still name the lanes that they were made for when the next turn starts.
 -- Assumes nothing.
+use Rattle.std.specs.Prelude.{Option, None, Result, Ok, Err}
 use mathlib.Core.Path.{◌≡◌, refl, sym, ap, ◌∙◌}
 use mathlib.Core.Bool.{Bool}
 use mathlib.Core.List.{List}
@@ -13,7 +14,6 @@ use Rattle.demands.proofs.Counting.{equal, other, same?}
 use Rattle.lane.specs.declared.lane.Lane.{Lane}
 use Rattle.lane.specs.declared.lane.EmptyLane.{EmptyLane}
 use Rattle.lane.specs.declared.lane.LanePoll.{LanePoll}
-use Rattle.lane.specs.declared.lane.Refill.{Refill}
 use Rattle.yring.specs.Ring.{new_ring}
 use Rattle.lane.specs.Lane.{refill}
 use Rattle.lane.specs.Table.{HasRow, lane_at, put_lane}
@@ -26,14 +26,13 @@ use Rattle.queues.proofs.RegistryLaws.{registry_frames}
 use Rattle.store.specs.Registry.{retired, retire_lane}
 use Rattle.store.proofs.RetireFrames.{freed_unless_last_is}
 use Rattle.store.proofs.LaneFields.{Fixed, Flagged, Emptied, PollKept, poll_kept, RefillKept, refill_kept}
-use Rattle.turns.specs.declared.turn.Took.TheVariants as Took
-use Rattle.turns.specs.declared.turn.Turn.{Turn}
-use Rattle.receive_batch.specs.declared.batch.Front.TheVariants as Front
-use Rattle.receive_batch.specs.declared.batch.Look.{Look}
 use Rattle.turns.specs.Turn.{Turning, front_lane, retire_if, settle_empty_front, meet_budget, rotate_if, gave_front, turn_by, poll_front}
 use Rattle.receive_batch.specs.Batch.{look_by, look_front}
 use Rattle.turns.proofs.TurnLaws.{slot_below, front_issued}
 use Rattle.turns.proofs.FrontLaws.{polled_front}
+use Rattle.turns.specs.declared.turn.Took.{Took}
+use Rattle.std.specs.declared.ops.ControlFlow.{ControlFlow}
+use Rattle.std.specs.declared.ops.ControlFlow.TheVariants.{Break}
 
 -- every slot's lane has its key still
 pub record SameKeys (t u : List ℕ) : Type 0 where
@@ -101,26 +100,26 @@ module _ (t : List ℕ) (k : Turning t) (some : queue_count t ≡ 0 → ⊥) whe
       (keys_then (cond_holds (SameKeys (put_lane t l)) rotate (rotate_left (put_lane t l)) (put_lane t l) (λ d. record { keys = λ y. simp queue_frames; long = simp queue_frames }) (λ d. keys_self _))
       (record { keys = λ y. simp frames; long = simp frames }))
 
-  keys_turn : (p : LanePoll) → PollKept (front_lane t) p → SameKeys t (turn_by t p).1
+  keys_turn : (p : Result LanePoll EmptyLane) → PollKept (front_lane t) p → SameKeys t (turn_by t p).1
   unfolding turn_by
-  keys_turn (LanePoll.Item item rotate released l) e = keys_gave rotate l (ap (λ (z : Flagged). z.0) e)
-  keys_turn (LanePoll.Idle found) e = keys_then (keys_left found e) (keys_met (settle_empty_front t found))
+  keys_turn (Ok p) e = keys_gave p.rotate p.lane (ap (λ (z : Flagged). z.0) e)
+  keys_turn (Err found) e = keys_then (keys_left found e) (keys_met (settle_empty_front t found))
 
-  keys_look : (p : Refill) → RefillKept (front_lane t) p → SameKeys t (look_by t p).1
+  keys_look : (p : Result Lane EmptyLane) → RefillKept (front_lane t) p → SameKeys t (look_by t p).1
   unfolding look_by
-  keys_look (Refill.Ready l) e = keys_self t
-  keys_look (Refill.Idle found) e = keys_then (keys_left found e) (keys_met (settle_empty_front t found))
+  keys_look (Ok l) e = keys_self t
+  keys_look (Err found) e = keys_then (keys_left found e) (keys_met (settle_empty_front t found))
 
 -- one turn of the poll loop
 pub turn_keeps_keys : (t r : List ℕ) (fair : Bool) → Turning t → SameKeys t (poll_front t r fair).1
 unfolding poll_front
 turn_keeps_keys t r fair k =
-    cond_holds (λ (o : Turn × List ℕ). SameKeys t o.1) (eqb (queue_count t) 0) (Turn.Ends Took.Nothing, t) (turn_by t (polled_front t r fair)) (λ e. keys_self t)
+    cond_holds (λ (o : ControlFlow (Option Took) (Unit {0}) × List ℕ). SameKeys t o.1) (eqb (queue_count t) 0) (Break None, t) (turn_by t (polled_front t r fair)) (λ e. keys_self t)
     (λ e. keys_turn t k (eqb-false (queue_count t) 0 e) (polled_front t r fair) (poll_kept (new_ring (front_slot t) (capacity t)) r fair (front_lane t)))
 
 -- one look of the batch's search
 pub look_keeps_keys : (t : List ℕ) → Turning t → SameKeys t (look_front t).1
 unfolding look_front
 look_keeps_keys t k =
-    cond_holds (λ (o : Look × List ℕ). SameKeys t o.1) (eqb (queue_count t) 0) (Look.Ends Front.None, t) (look_by t (refill (front_lane t))) (λ e. keys_self t)
+    cond_holds (λ (o : ControlFlow (Option Lane) (Unit {0}) × List ℕ). SameKeys t o.1) (eqb (queue_count t) 0) (Break None, t) (look_by t (refill (front_lane t))) (λ e. keys_self t)
     (λ e. keys_look t k (eqb-false (queue_count t) 0 e) (refill (front_lane t)) (refill_kept (front_lane t)))

@@ -1,5 +1,6 @@
 -- Turn after turn at the front of the queue does what the rules say, and leaves a store in order.
 -- Assumes nothing.
+use Rattle.std.specs.Prelude.{Option, Some, None, Result, Ok, Err}
 use mathlib.Core.Path.{◌≡◌, refl, sym, ap, ap₂, ◌∙◌, subst}
 use mathlib.Core.Bool.{Bool}
 use mathlib.Core.List.{List, [], ◌∷◌}
@@ -23,7 +24,6 @@ use Rattle.queues.specs.Header.{queue_count, capacity}
 use Rattle.queues.specs.Queue.{queue_of}
 use Rattle.queues.proofs.QueueLaws.{length_queue, front_is}
 use Rattle.turns.specs.declared.turn.Took.{Took}
-use Rattle.turns.specs.declared.turn.Turn.{Turn}
 use Rattle.store.specs.View.{slot_at, view}
 use Rattle.store.specs.Order.{InOrderButHeld}
 use Rattle.turns.specs.Turn.{settle_empty_front, meet_budget, gave_front, turn_by, poll_front, after_turn, turns_within, turns}
@@ -36,16 +36,17 @@ use Rattle.turns.proofs.DueLaws.{turning_of}
 use Rattle.refinement.proofs.EmptyLaneLaws.{Empties, empties_by_poll}
 use Rattle.refinement.proofs.LeftView.{left_view, left_in_order, left_queue, met_view, met_in_order}
 use Rattle.refinement.proofs.GaveView.{Gives, gives_by_poll, gave_first, gave_view, gave_in_order}
+use Rattle.std.specs.declared.ops.ControlFlow.{ControlFlow}
 
 -- ---- a take on words and a take of the rules
 
 -- what a take hands out, as the rules say it
-abbrev pub handed : Took → List (LaneKey × ℕ)
-handed (Took.Item item key) = (key, item) ∷ []
-handed Took.Nothing = []
+abbrev pub handed : Option Took → List (LaneKey × ℕ)
+handed (Some took) = (took.key, took.item) ∷ []
+handed None = []
 
 -- the same is handed out, the rules see the same state, and the words are in order
-pub record TookAs (r : List ℕ) (o : Took × List ℕ) (w : rules.Took) : Type 0 where
+pub record TookAs (r : List ℕ) (o : Option Took × List ℕ) (w : rules.Took) : Type 0 where
   pub alike : (handed o.0, view o.1 r) ≡ w
   pub in_order : InOrderButHeld o.1 r
 
@@ -86,7 +87,7 @@ module _ (t r : List ℕ) (o : InOrderButHeld t r) (fair : Bool) (x : ℕ) (q : 
     turns_given : turns_from fair (x ∷ q) s ≡ ((key_of s x, item) ∷ [], rules.give_item s x q (held_items (new_ring x (capacity t)) r m) (either fair (leb 63 (s.slot_of x).burst)))
     turns_given = turns_from_front fair s x item q (held_items (new_ring x (capacity t)) r m) queue_seen (gave_first t r o x q e fair item rotate m k)
 
-    took_given : TookAs r (Took.Item item m.key, gave_front t rotate m) (turns_from fair (x ∷ q) s)
+    took_given : TookAs r (Some (record { item = item; key = m.key }), gave_front t rotate m) (turns_from fair (x ∷ q) s)
     took_given =
         record {
           alike = ap₂ (λ (a : LaneKey) (b : State). ((a, item) ∷ [], b)) (key_by t x m k.same_flags r front.is_issued) (gave_view t r o x q e fair item rotate m k) ∙ sym turns_given;
@@ -126,18 +127,18 @@ turns_within_alike : (q t r : List ℕ) (fair : Bool) → InOrderButHeld t r →
 unfolding turns_within after_turn turn_by turns_from rules.run_down_from rules.give_front view
 turns_within_alike [] t r fair o e = record { alike = sym (ap (rules.give_front fair (view t r)) e); in_order = o }
 turns_within_alike (x ∷ q) t r fair o e =
-    subst (λ (u : Turn × List ℕ). TookAs r (after_turn u (turns_within (length q) u.1 r fair)) (turns_from fair (x ∷ q) (view t r))) (sym (front_polled t r o fair x q e))
+    subst (λ (u : ControlFlow (Option Took) (Unit {0}) × List ℕ). TookAs r (after_turn u (turns_within (length q) u.1 r fair)) (turns_from fair (x ∷ q) (view t r))) (sym (front_polled t r o fair x q e))
     (go (λ u p f. turns_within_alike q u r fair p f) (poll (new_ring x (capacity t)) r fair (lane_at t x)) refl)
   where
     h : FrontLane t x q
     h = front_lane_lem t r o x q e
 
     go : ((u : List ℕ) → InOrderButHeld u r → queue_of u ≡ q → TookAs r (turns_within (length q) u r fair) (turns_from fair q (view u r)))
-        → (p : LanePoll) → poll (new_ring x (capacity t)) r fair (lane_at t x) ≡ p
+        → (p : Result LanePoll EmptyLane) → poll (new_ring x (capacity t)) r fair (lane_at t x) ≡ p
         → TookAs r (after_turn (turn_by t p) (turns_within (length q) (turn_by t p).1 r fair)) (turns_from fair (x ∷ q) (view t r))
-    go ih (LanePoll.Item item rotate gave m) f =
-        took_given t r o fair x q e item rotate m (gives_by_poll t r o.stores x h.is_issued h.registered fair item rotate gave m f)
-    go ih (LanePoll.Idle found) f =
+    go ih (Ok p) f =
+        took_given t r o fair x q e p.item p.rotate p.lane (gives_by_poll t r o.stores x h.is_issued h.registered fair p.item p.rotate p.released p.lane f)
+    go ih (Err found) f =
         let k = empties_by_poll t r o.stores x h.is_issued h.registered found fair f in
         subst (TookAs r (turns_within (length q) (meet_budget (settle_empty_front t found)) r fair)) (sym (turns_left t r o fair x q e found k))
         (ih (meet_budget (settle_empty_front t found)) (left_ordered t r o fair x q e found k) (left_rest t r o fair x q e found k))
@@ -156,9 +157,9 @@ no_length [] z = refl
 no_length (x ∷ q) z = absurd (omega arith)
 
 -- a take that came to nothing has left an empty queue
-pub rests_queue : (o : Took × List ℕ) → Rests o → o.0 ≡ Took.Nothing → queue_of o.1 ≡ []
-rests_queue (Took.Item item key, u) k e = let z : ◌≡◌ {A = ℕ} 0 1 = cc in absurd (omega arith)
-rests_queue (Took.Nothing, u) k e = no_length (queue_of u) (length_queue u ∙ k.none_queued)
+pub rests_queue : (o : Option Took × List ℕ) → Rests o → o.0 ≡ None → queue_of o.1 ≡ []
+rests_queue (Some took, u) k e = absurd cc
+rests_queue (None, u) k e = no_length (queue_of u) (length_queue u ∙ k.none_queued)
 
-pub turns_none_queued : (t r : List ℕ) (fair : Bool) → InOrderButHeld t r → (turns t r fair).0 ≡ Took.Nothing → queue_of (turns t r fair).1 ≡ []
+pub turns_none_queued : (t r : List ℕ) (fair : Bool) → InOrderButHeld t r → (turns t r fair).0 ≡ None → queue_of (turns t r fair).1 ≡ []
 turns_none_queued t r fair o = rests_queue (turns t r fair) (turns_rest t r fair (turning_of t r o))

@@ -1,5 +1,6 @@
 -- Chunk after chunk, up to an item that is not admitted, is the rules' `take_while`, and leaves a store in order.
 -- Assumes nothing.
+use Rattle.std.specs.Prelude.{Option, Some, None}
 use mathlib.Core.Path.{◌≡◌, refl, sym, ap, ap₂, ◌∙◌, subst}
 use mathlib.Core.Bool.{Bool, true, false, cond}
 use mathlib.Core.List.{List, [], ◌∷◌, ◌++◌}
@@ -18,7 +19,6 @@ use Rattle.lane.specs.declared.lane.Lane.{Lane}
 use Rattle.lane.specs.Lane.{chunk_limit}
 use Rattle.queues.specs.Header.{budget, capacity}
 use Rattle.queues.specs.Queue.{queue_of, front_slot, pop_front}
-use Rattle.receive_batch.specs.declared.batch.Front.{Front}
 use Rattle.store.specs.View.{view}
 use Rattle.store.specs.Order.{InOrderButHeld}
 use Rattle.receive_batch.specs.Batch.{refresh_active, Reached, full_budget, chunk_size, chunk_items, chunk_given}
@@ -42,14 +42,14 @@ Goes r bound n more = (u : List ℕ) (m : ℕ) → m ≤ n → InOrderButHeld u 
 
 module _ (r : List ℕ) (s : State) (bound n left : ℕ) (some : 1 ≤ left) (enough : left ≤ suc n) (more : List ℕ → ℕ → DrainedWhile) (ih : Goes r bound n more) where
   -- nothing is queued and nothing is ready
-  none_left : (u : List ℕ) → ReachedAs r (Front.None, u) (polled s) → Reached (Front.None, u) → WhileAs r (false, ([], u)) (take_while bound left s)
+  none_left : (u : List ℕ) → ReachedAs r (None, u) (polled s) → Reached (None, u) → WhileAs r (false, ([], u)) (take_while bound left s)
   unfolding view
   none_left u a k =
       let none : (polled s).queue ≡ [] = sym (ap (λ (z : State). z.queue) a.alike) ∙ none_queued u k in
       record { alike = ap (λ (z : State). (false, ([], z))) a.alike ∙ sym (while_nothing bound left s some none); in_order = a.in_order }
 
   -- a lane has items
-  module _ (l : Lane) (u : List ℕ) (a : ReachedAs r (Front.Ready l, u) (polled s)) (f : Reached (Front.Ready l, u)) where
+  module _ (l : Lane) (u : List ℕ) (a : ReachedAs r (Some l, u) (polled s)) (f : Reached (Some l, u)) where
     abbrev c : ℕ
     c = chunk_size u left l
 
@@ -134,7 +134,7 @@ module _ (r : List ℕ) (s : State) (bound n left : ℕ) (some : 1 ≤ left) (en
             subst (λ (z : State). take_while bound left s ≡ (true, (first_of z x k, given z x q k))) (sym a.alike)
             (while_stops_in_chunk s x q c queue_seen rules_fit owes bound left k least.0 h count_alike)
 
-    some_left : WhileAs r (while_then (Front.Ready l, u) r bound left more) (take_while bound left s)
+    some_left : WhileAs r (while_then (Some l, u) r bound left more) (take_while bound left s)
     unfolding while_then
     some_left = go (ltb k c) refl
       where
@@ -145,10 +145,10 @@ module _ (r : List ℕ) (s : State) (bound n left : ℕ) (some : 1 ≤ left) (en
         go true e = stops (ltb-true k c e)
         go false e = goes_on (omega (arith, ltb-false k c e, admitted_most u r bound c l))
 
-  while_then_alike : (w : Front × List ℕ) → ReachedAs r w (polled s) → Reached w → WhileAs r (while_then w r bound left more) (take_while bound left s)
+  while_then_alike : (w : Option Lane × List ℕ) → ReachedAs r w (polled s) → Reached w → WhileAs r (while_then w r bound left more) (take_while bound left s)
   unfolding while_then
-  while_then_alike (Front.None, u) a k = none_left u a k
-  while_then_alike (Front.Ready l, u) a k = some_left l u a k
+  while_then_alike (None, u) a k = none_left u a k
+  while_then_alike (Some l, u) a k = some_left l u a k
 
 within_alike : (n : ℕ) (t r : List ℕ) (bound left : ℕ) → left ≤ n → InOrderButHeld t r → WhileAs r (drained_while_within n t r bound left) (take_while bound left (view t r))
 unfolding drained_while_within

@@ -1,5 +1,6 @@
 -- The fast window and the front lane's window: an item of either is the one that the rules take.
 -- Assumes nothing.
+use Rattle.std.specs.Prelude.{Option, Some, None}
 use mathlib.Core.Path.{◌≡◌, refl, sym, ap, ◌∙◌, subst}
 use mathlib.Core.Bool.{Bool, true, false, cond}
 use mathlib.Core.List.{List, [], ◌∷◌}
@@ -13,7 +14,6 @@ use Rattle.model.specs.Turn as rules
 use Rattle.demands.proofs.FrontItem.{take_one_front}
 use Rattle.yring.specs.declared.ring.Ring.{Ring}
 use Rattle.lane.specs.declared.lane.Lane.{Lane}
-use Rattle.lane.specs.declared.lane.Popped.{Popped}
 use Rattle.yring.specs.Ring.{new_ring, item_at}
 use Rattle.lane.specs.Lane.{held_items, window_pop, pop_fast, grant_fast}
 use Rattle.lane.specs.Order.{InOrder, popped_lane}
@@ -39,17 +39,16 @@ use Rattle.store.proofs.BetweenTurns.{FrontLane, front_lane_lem}
 use Rattle.receive.proofs.ReceiveLaws.{pop_open, granted_within}
 use Rattle.refinement.proofs.TurnView.{TookAs}
 use Rattle.refinement.proofs.WindowView.{Pops, window_took, window_first, step_fast_same, step_fast_moved}
+use Rattle.lane.specs.declared.consumer.Taken.{Taken}
 
 -- an item of the window is one less in it
-pub pop_window_lem : (ring : Ring) (store : List ℕ) (l : Lane) (item : ℕ) (m : Lane) → pop_fast ring store l ≡ Popped.Item item m → m.window + 1 ≡ l.window
+pub pop_window_lem : (ring : Ring) (store : List ℕ) (l : Lane) (item : ℕ) (m : Lane) → pop_fast ring store l ≡ Some (record { item = item; lane = m }) → m.window + 1 ≡ l.window
 unfolding pop_fast
 pop_window_lem ring store l item m e = go (eqb l.window 0) refl e
   where
-    go : (t : Bool) → eqb l.window 0 ≡ t → cond t (Popped.Nothing l) (Popped.Item (item_at ring store l.head) (window_pop l)) ≡ Popped.Item item m → m.window + 1 ≡ l.window
-    go true s f = let z : ◌≡◌ {A = ℕ} 0 1 = cc in absurd (omega arith)
-    go false s f =
-        let same : window_pop l ≡ m = cc in
-        omega (arith, eqb-false l.window 0 s, ap (λ (k : Lane). k.window) same)
+    go : (t : Bool) → eqb l.window 0 ≡ t → ◌≡◌ {A = Option Taken} (cond t None (Some (record { item = item_at ring store l.head; lane = window_pop l }))) (Some (record { item = item; lane = m })) → m.window + 1 ≡ l.window
+    go true s f = absurd cc
+    go false s f = omega (arith, eqb-false l.window 0 s, ap (λ (p : Option Taken). (popped_lane l p).window) f)
 
 -- ---- the lane with an item less
 
@@ -63,7 +62,7 @@ module _ (t r : List ℕ) (o : Stores t r) (x : ℕ) (h : x < issued t) (g : (la
   -- of a lane j that shows what lane l shows, with a window within the budget
   module _ (j : Lane) (order : InOrder (capacity t) j) (same_held : held_items ring r j ≡ held_items ring r l) (same_flags : flagged j ≡ flagged l)
       (same_unreleased : unreleased_seen j ≡ unreleased_seen l) (same_burst : burst_seen j ≡ burst_seen l) (within : j.window ≤ budget t)
-      (item : ℕ) (m : Lane) (e : pop_fast ring r j ≡ Popped.Item item m) where
+      (item : ℕ) (m : Lane) (e : pop_fast ring r j ≡ Some (record { item = item; lane = m })) where
     -- and the turn is not over
     pops_shown : Pops t r x item (burst_seen l + 1) m × (burst_seen l < 63)
     pops_shown =
@@ -73,8 +72,8 @@ module _ (t r : List ℕ) (o : Stores t r) (x : ℕ) (h : x < issued t) (g : (la
             unreleased_more = more.unreleased_more ∙ ap (λ (n : ℕ). n + 1) same_unreleased;
             below_batch = rw (← same_unreleased) more.below_batch;
             burst_is = more.burst_more ∙ ap (λ (n : ℕ). n + 1) same_burst;
-            same_flags = sym (ap (λ (p : Popped). flagged (popped_lane p)) e) ∙ flagged_pop_fast ring r j ∙ same_flags;
-            order = subst (λ (p : Popped). InOrder (capacity t) (popped_lane p)) e (pop_fast_keeps (capacity t) o.power.most j order ring r);
+            same_flags = sym (ap (λ (p : Option Taken). flagged (popped_lane j p)) e) ∙ flagged_pop_fast ring r j ∙ same_flags;
+            order = subst (λ (p : Option Taken). InOrder (capacity t) (popped_lane j p)) e (pop_fast_keeps (capacity t) o.power.most j order ring r);
             within = omega (arith, pop_window_lem ring r j item m e, within);
           },
           rw (← same_burst) more.below_turn,
@@ -83,9 +82,9 @@ module _ (t r : List ℕ) (o : Stores t r) (x : ℕ) (h : x < issued t) (g : (la
 -- ---- the takes
 
 -- an item is the one that the rules take; where there is none, nothing is said yet
-abbrev pub TakesAs : List ℕ → Took × List ℕ → rules.Took → Type 0
-TakesAs r (Took.Item item key, u) w = TookAs r (Took.Item item key, u) w
-TakesAs r (Took.Nothing, u) w = 0 < 1
+abbrev pub TakesAs : List ℕ → Option Took × List ℕ → rules.Took → Type 0
+TakesAs r (Some took, u) w = TookAs r (Some took, u) w
+TakesAs r (None, u) w = 0 < 1
 
 -- an item of the front lane's window is the rules' next
 module _ (t r : List ℕ) (o : InOrderButHeld t r) (x : ℕ) (q : List ℕ) (e : queue_of t ≡ x ∷ q) where
@@ -121,10 +120,10 @@ module _ (t r : List ℕ) (o : InOrderButHeld t r) where
   abbrev x : ℕ
   x = fast_slot t
 
-  fast_taken : x < issued t → (lane_at t x).registered ≡ 1 → (item : ℕ) (m : Lane) → pop_fast (new_ring x (capacity t)) r (lane_at t x) ≡ Popped.Item item m
+  fast_taken : x < issued t → (lane_at t x).registered ≡ 1 → (item : ℕ) (m : Lane) → pop_fast (new_ring x (capacity t)) r (lane_at t x) ≡ Some (record { item = item; lane = m })
       → TookAs r (take_from_window t item m) (rules.take_one (view t r))
   fast_taken h g item m e =
-      let some : 0 < (lane_at t x).window = omega (arith, pop_open (new_ring x (capacity t)) r (lane_at t x) item m e) in
+      let some : 0 < (lane_at t x).window = omega (arith, pop_open (new_ring x (capacity t)) r (lane_at t x) (record { item = item; lane = m }) e) in
       let f = o.stores.windows x h g some in
       let k = pops_shown t r o.stores x h g (lane_at t x) (o.stores.lanes x h g) refl refl refl refl f.within item m e in
       window_taken t r o x (drop 1 (queue_of t)) (first_of x (queue_of t) f.in_front) item m k.0 k.1 t (step_fast_same t r o.stores x refl) refl
@@ -132,15 +131,15 @@ module _ (t r : List ℕ) (o : InOrderButHeld t r) where
   pub take_fast_takes : TakesAs r (take_fast t r) (rules.take_one (view t r))
   unfolding take_fast fast_took take_from_window
   take_fast_takes =
-      cond_holds (λ p. TakesAs r p (rules.take_one (view t r))) (ltb x (issued t)) _ (Took.Nothing, t)
+      cond_holds (λ p. TakesAs r p (rules.take_one (view t r))) (ltb x (issued t)) _ (None, t)
       (λ a.
-      cond_holds (λ p. TakesAs r p (rules.take_one (view t r))) (eqb (lane_at t x).registered 1) _ (Took.Nothing, t)
+      cond_holds (λ p. TakesAs r p (rules.take_one (view t r))) (eqb (lane_at t x).registered 1) _ (None, t)
       (λ b. go (ltb-true x (issued t) a) (eqb-true (lane_at t x).registered 1 b) (pop_fast (new_ring x (capacity t)) r (lane_at t x)) refl) (λ b. omega arith))
       (λ a. omega arith)
     where
-      go : x < issued t → (lane_at t x).registered ≡ 1 → (p : Popped) → pop_fast (new_ring x (capacity t)) r (lane_at t x) ≡ p → TakesAs r (fast_took t p) (rules.take_one (view t r))
-      go h g (Popped.Item item m) e = fast_taken h g item m e
-      go h g (Popped.Nothing m) e = omega arith
+      go : x < issued t → (lane_at t x).registered ≡ 1 → (p : Option Taken) → pop_fast (new_ring x (capacity t)) r (lane_at t x) ≡ p → TakesAs r (fast_took t p) (rules.take_one (view t r))
+      go h g (Some taken) e = fast_taken h g taken.item taken.lane e
+      go h g None e = omega arith
 
 -- "then the front lane's window"
 module _ (t r : List ℕ) (o : InOrderButHeld t r) where
@@ -157,7 +156,7 @@ module _ (t r : List ℕ) (o : InOrderButHeld t r) where
     h : FrontLane t y (queue_of (pop_front t))
     h = front_lane_lem t r o y (queue_of (pop_front t)) queue_is
 
-    opened_taken : (item : ℕ) (m : Lane) → pop_fast (new_ring y (capacity t)) r granted ≡ Popped.Item item m
+    opened_taken : (item : ℕ) (m : Lane) → pop_fast (new_ring y (capacity t)) r granted ≡ Some (record { item = item; lane = m })
         → TookAs r (take_from_window (set_fast_slot t m.key.slot) item m) (rules.take_one (view t r))
     opened_taken item m e =
         let small = o.stores.power.most in
@@ -175,9 +174,9 @@ module _ (t r : List ℕ) (o : InOrderButHeld t r) where
   pub take_window_takes : TakesAs r (take_front_window t r) (rules.take_one (view t r))
   unfolding take_front_window take_if_popped take_from_window
   take_window_takes =
-      cond_holds (λ p. TakesAs r p (rules.take_one (view t r))) (eqb (queue_count t) 0) (Took.Nothing, t) _
+      cond_holds (λ p. TakesAs r p (rules.take_one (view t r))) (eqb (queue_count t) 0) (None, t) _
       (λ a. omega arith) (λ a. go (eqb-false (queue_count t) 0 a) (pop_fast (new_ring y (capacity t)) r granted) refl)
     where
-      go : (queue_count t ≡ 0 → ⊥) → (p : Popped) → pop_fast (new_ring y (capacity t)) r granted ≡ p → TakesAs r (take_if_popped t p) (rules.take_one (view t r))
-      go some (Popped.Item item m) e = opened_taken some item m e
-      go some (Popped.Nothing m) e = omega arith
+      go : (queue_count t ≡ 0 → ⊥) → (p : Option Taken) → pop_fast (new_ring y (capacity t)) r granted ≡ p → TakesAs r (take_if_popped t p) (rules.take_one (view t r))
+      go some (Some taken) e = opened_taken some taken.item taken.lane e
+      go some None e = omega arith

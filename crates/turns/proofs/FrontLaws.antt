@@ -1,5 +1,6 @@
 -- One turn at the front, and turn after turn: what they leave.
 -- Assumes nothing.
+use Rattle.std.specs.Prelude.{Option, Some, None, Result, Ok, Err}
 use mathlib.Core.Path.{◌≡◌, refl, sym, ap, ap₂, ◌∙◌, subst}
 use mathlib.Core.Logic.{◌≢◌}
 use mathlib.Core.Bool.{Bool, true, false, cond}
@@ -30,7 +31,6 @@ use Rattle.queues.proofs.RegistryLaws.{registry_frames, length_free, free_freed}
 use Rattle.store.specs.View.{flag}
 use Rattle.store.specs.Registry.{retired, retire_lane}
 use Rattle.turns.specs.declared.turn.Took.{Took}
-use Rattle.turns.specs.declared.turn.Turn.{Turn}
 use Rattle.turns.specs.Turn.{Turning, Ringed, retire_if, settle_empty_front, meet_budget, less_one, rotate_if, gave_front, turn_by, poll_front, after_turn, turns_within, turns}
 use Rattle.store.proofs.CountLaws.{one}
 use Rattle.store.proofs.HeaderWords.{place_of, with_word}
@@ -38,6 +38,8 @@ use Rattle.store.proofs.StepLaws.{Step, slots_kept, lanes_now, step_from, step_p
 use Rattle.store.proofs.RetireFrames.{freed_unless_last_is, length_retire_lane}
 use Rattle.store.proofs.LaneFields.{Fixed, Flagged, flagged, Emptied, PollKept, poll_kept}
 use Rattle.turns.proofs.TurnLaws.{slot_below, some_lane, not_free, free_room, queue_is, front_issued, front_registered, front_alone, front_ordered, turning_step, turning_met}
+use Rattle.std.specs.declared.ops.ControlFlow.{ControlFlow}
+use Rattle.std.specs.declared.ops.ControlFlow.TheVariants.{Continue, Break}
 
 -- ---- retiring a lane that is in no queue
 
@@ -242,38 +244,35 @@ module _ (t : List ℕ) (rotate : Bool) (l : Lane) where
 
 -- ---- one turn
 
-abbrev pub polled_front : List ℕ → List ℕ → Bool → LanePoll
+abbrev pub polled_front : List ℕ → List ℕ → Bool → Result LanePoll EmptyLane
 polled_front t r fair = poll (new_ring (front_slot t) (capacity t)) r fair (lane_at t (front_slot t))
 
-pub polled_as : (t r : List ℕ) (fair : Bool) (slot : ℕ) (ring : Ring) (l : Lane) (p : LanePoll) → slot ≡ front_slot t → ring ≡ new_ring slot (capacity t) → l ≡ lane_at t slot
+pub polled_as : (t r : List ℕ) (fair : Bool) (slot : ℕ) (ring : Ring) (l : Lane) (p : Result LanePoll EmptyLane) → slot ≡ front_slot t → ring ≡ new_ring slot (capacity t) → l ≡ lane_at t slot
     → p ≡ poll ring r fair l → p ≡ polled_front t r fair
 polled_as t r fair slot ring l p a b c e = e ∙ ap₂ (λ (x : Ring) (m : Lane). poll x r fair m) (b ∙ ap (λ (x : ℕ). new_ring x (capacity t)) a) (c ∙ ap (lane_at t) a)
 
-pub record Turned (t : List ℕ) (o : Turn × List ℕ) : Type 0 where
+pub record Turned (t : List ℕ) (o : ControlFlow (Option Took) (Unit {0}) × List ℕ) : Type 0 where
   pub keeps : Keeps t o.1
-  pub fewer : o.0 ≡ Turn.Left → queue_count o.1 + 1 ≡ queue_count t
-
-ends_not_left : {A : Type 0} {took : Took} → Turn.Ends took ≡ Turn.Left → A
-ends_not_left e = let z : ◌≡◌ {A = ℕ} 0 1 = cc in absurd (omega arith)
+  pub fewer : o.0 ≡ Continue tt → queue_count o.1 + 1 ≡ queue_count t
 
 module _ (t r : List ℕ) (fair : Bool) (k : Turning t) where
   module _ (some : queue_count t ≡ 0 → ⊥) where
     poll_ordered : InOrder (capacity t) (polled_lane (polled_front t r fair))
     poll_ordered = poll_keeps (new_ring (front_slot t) (capacity t)) k.power.most r (lane_at t (front_slot t)) (front_ordered t k some) fair
 
-    turned_by : (p : LanePoll) → PollKept (lane_at t (front_slot t)) p → InOrder (capacity t) (polled_lane p) → Turned t (turn_by t p)
+    turned_by : (p : Result LanePoll EmptyLane) → PollKept (lane_at t (front_slot t)) p → InOrder (capacity t) (polled_lane p) → Turned t (turn_by t p)
     unfolding turn_by
-    turned_by (LanePoll.Item item rotate released l) e o =
+    turned_by (Ok p) e o =
         record {
           keeps = record {
-            turning = turning_gave t k some rotate l e o;
-            long = length_gave t rotate l;
-            same_slots = head_gave t rotate l 4 refl refl refl;
-            same_capacity = head_gave t rotate l 8 refl refl refl;
+            turning = turning_gave t k some p.rotate p.lane e o;
+            long = length_gave t p.rotate p.lane;
+            same_slots = head_gave t p.rotate p.lane 4 refl refl refl;
+            same_capacity = head_gave t p.rotate p.lane 8 refl refl refl;
           };
-          fewer = λ z. ends_not_left z;
+          fewer = λ z. cc;
         }
-    turned_by (LanePoll.Idle found) e o =
+    turned_by (Err found) e o =
         record {
           keeps = record {
             turning = turning_met (settle_empty_front t found) (turning_left t k some found e o);
@@ -285,11 +284,11 @@ module _ (t r : List ℕ) (fair : Bool) (k : Turning t) where
         }
 
     -- what the two cases ask of the code
-    pub left_room : (found : EmptyLane) → polled_front t r fair ≡ LanePoll.Idle found
+    pub left_room : (found : EmptyLane) → polled_front t r fair ≡ Err found
         → Shaped t × (found.lane.key.slot < slots t) × (0 < queue_count t) × (free_count t < slots t) × (0 < lane_count t)
     left_room found e =
         let i = subst (PollKept (lane_at t (front_slot t))) e (poll_kept (new_ring (front_slot t) (capacity t)) r fair (lane_at t (front_slot t))) in
-        let o = subst (λ (p : LanePoll). InOrder (capacity t) (polled_lane p)) e poll_ordered in
+        let o = subst (λ (p : Result LanePoll EmptyLane). InOrder (capacity t) (polled_lane p)) e poll_ordered in
         let h = front_issued t k some in (
           k.shaped,
           rw (left_slot t k some found i o) (slot_below t k (front_slot t) h),
@@ -298,57 +297,56 @@ module _ (t r : List ℕ) (fair : Bool) (k : Turning t) where
           some_lane t k (front_slot t) h (front_registered t k some),
         )
 
-    pub gave_room : (item : ℕ) (rotate released : Bool) (l : Lane) → polled_front t r fair ≡ LanePoll.Item item rotate released l
-        → Shaped t × (l.key.slot < slots t) × (0 < queue_count t)
-    gave_room item rotate released l e =
+    pub gave_room : (p : LanePoll) → polled_front t r fair ≡ Ok p → Shaped t × (p.lane.key.slot < slots t) × (0 < queue_count t)
+    gave_room p e =
         let i = subst (PollKept (lane_at t (front_slot t))) e (poll_kept (new_ring (front_slot t) (capacity t)) r fair (lane_at t (front_slot t))) in
-        let o = subst (λ (p : LanePoll). InOrder (capacity t) (polled_lane p)) e poll_ordered in
-        (k.shaped, rw (gave_slot t k some rotate l i o) (slot_below t k (front_slot t) (front_issued t k some)), omega (arith, some))
+        let o = subst (λ (p : Result LanePoll EmptyLane). InOrder (capacity t) (polled_lane p)) e poll_ordered in
+        (k.shaped, rw (gave_slot t k some p.rotate p.lane i o) (slot_below t k (front_slot t) (front_issued t k some)), omega (arith, some))
 
-    pub shaped_left : (found : EmptyLane) → polled_front t r fair ≡ LanePoll.Idle found → Shaped (settle_empty_front t found)
+    pub shaped_left : (found : EmptyLane) → polled_front t r fair ≡ Err found → Shaped (settle_empty_front t found)
     shaped_left found e =
         let i = subst (PollKept (lane_at t (front_slot t))) e (poll_kept (new_ring (front_slot t) (capacity t)) r fair (lane_at t (front_slot t))) in
-        (turning_left t k some found i (subst (λ (p : LanePoll). InOrder (capacity t) (polled_lane p)) e poll_ordered)).shaped
+        (turning_left t k some found i (subst (λ (p : Result LanePoll EmptyLane). InOrder (capacity t) (polled_lane p)) e poll_ordered)).shaped
 
-    pub front_is : (p : LanePoll) → polled_front t r fair ≡ p → turn_by t p ≡ poll_front t r fair
+    pub front_is : (p : Result LanePoll EmptyLane) → polled_front t r fair ≡ p → turn_by t p ≡ poll_front t r fair
     unfolding poll_front
     front_is p e = sym (rw (ne_eqb (queue_count t) 0 some) (ap (turn_by t) e))
 
   pub poll_front_turned : Turned t (poll_front t r fair)
   unfolding poll_front
   poll_front_turned =
-      cond_holds (Turned t) (eqb (queue_count t) 0) (Turn.Ends Took.Nothing, t) (turn_by t (polled_front t r fair))
-      (λ e. record { keeps = keeps_self t k; fewer = λ z. ends_not_left z })
+      cond_holds (Turned t) (eqb (queue_count t) 0) (Break None, t) (turn_by t (polled_front t r fair))
+      (λ e. record { keeps = keeps_self t k; fewer = λ z. cc })
       (λ e.
       let some = eqb-false (queue_count t) 0 e in
       turned_by some (polled_front t r fair) (poll_kept (new_ring (front_slot t) (capacity t)) r fair (lane_at t (front_slot t))) (poll_ordered some))
 
 -- ---- turn after turn
 
-pub none_queued : (t r : List ℕ) (fair : Bool) → queue_count t ≡ 0 → poll_front t r fair ≡ (Turn.Ends Took.Nothing, t)
+pub none_queued : (t r : List ℕ) (fair : Bool) → queue_count t ≡ 0 → poll_front t r fair ≡ (Break None, t)
 unfolding poll_front
 none_queued t r fair e = rw (eq-eqb (queue_count t) 0 e)
 
 module _ (t r : List ℕ) (fair : Bool) (k : Turning t) (u : List ℕ) where
   -- a turn that ends the take
-  pub turns_end : (took : Took) → (Turn.Ends took, u) ≡ poll_front t r fair → (took, u) ≡ turns t r fair
+  pub turns_end : (took : Option Took) → (Break took, u) ≡ poll_front t r fair → (took, u) ≡ turns t r fair
   unfolding turns turns_within after_turn
   turns_end took e = go (queue_count t) refl
     where
-      pairs : ◌≡◌ {A = Turn × List ℕ} (Turn.Ends took, u) (Turn.Ends Took.Nothing, t) → ◌≡◌ {A = Took × List ℕ} (took, u) (Took.Nothing, t)
-      pairs p = ap (λ (o : Turn × List ℕ). after_turn o (Took.Nothing, t)) p
+      pairs : ◌≡◌ {A = ControlFlow (Option Took) (Unit {0}) × List ℕ} (Break took, u) (Break None, t) → ◌≡◌ {A = Option Took × List ℕ} (took, u) (None, t)
+      pairs p = ap (λ (o : ControlFlow (Option Took) (Unit {0}) × List ℕ). after_turn o (None, t)) p
 
       go : (n : ℕ) → queue_count t ≡ n → (took, u) ≡ turns_within n t r fair
       go zero z = pairs (e ∙ none_queued t r fair z)
-      go (suc n) z = ap (λ (o : Turn × List ℕ). after_turn o (turns_within n (poll_front t r fair).1 r fair)) e
+      go (suc n) z = ap (λ (o : ControlFlow (Option Took) (Unit {0}) × List ℕ). after_turn o (turns_within n (poll_front t r fair).1 r fair)) e
 
   -- a turn whose lane left
-  module _ (e : (Turn.Left, u) ≡ poll_front t r fair) where
+  module _ (e : (Continue tt, u) ≡ poll_front t r fair) where
     pub turn_keeps : Keeps t u
-    turn_keeps = subst (λ (o : Turn × List ℕ). Keeps t o.1) (sym e) (poll_front_turned t r fair k).keeps
+    turn_keeps = subst (λ (o : ControlFlow (Option Took) (Unit {0}) × List ℕ). Keeps t o.1) (sym e) (poll_front_turned t r fair k).keeps
 
     pub turn_fewer : queue_count u + 1 ≡ queue_count t
-    turn_fewer = subst (λ (o : Turn × List ℕ). o.0 ≡ Turn.Left → queue_count o.1 + 1 ≡ queue_count t) (sym e) (poll_front_turned t r fair k).fewer refl
+    turn_fewer = subst (λ (o : ControlFlow (Option Took) (Unit {0}) × List ℕ). o.0 ≡ Continue tt → queue_count o.1 + 1 ≡ queue_count t) (sym e) (poll_front_turned t r fair k).fewer refl
 
     pub turns_on : turns u r fair ≡ turns t r fair
     unfolding turns turns_within after_turn
@@ -358,13 +356,13 @@ module _ (t r : List ℕ) (fair : Bool) (k : Turning t) (u : List ℕ) where
         go zero m z = absurd (omega arith)
         go (suc n) m z =
             let q : m ≡ n = omega arith in
-            rw q (ap (λ (o : Turn × List ℕ). after_turn o (turns_within n o.1 r fair)) e)
+            rw q (ap (λ (o : ControlFlow (Option Took) (Unit {0}) × List ℕ). after_turn o (turns_within n o.1 r fair)) e)
 
 -- the front lane gives an item, which ends the take
-pub gave_ends : (t r : List ℕ) (fair : Bool) (k : Turning t) → (queue_count t ≡ 0 → ⊥) → (item : ℕ) (rotate released : Bool) (l : Lane)
-    → polled_front t r fair ≡ LanePoll.Item item rotate released l → (Took.Item item l.key, gave_front t rotate l) ≡ turns t r fair
+pub gave_ends : (t r : List ℕ) (fair : Bool) (k : Turning t) → (queue_count t ≡ 0 → ⊥) → (p : LanePoll) → polled_front t r fair ≡ Ok p
+    → (Some (record { item = p.item; key = p.lane.key }), gave_front t p.rotate p.lane) ≡ turns t r fair
 unfolding turn_by
-gave_ends t r fair k some item rotate released l e = turns_end t r fair k _ _ (front_is t r fair k some _ e)
+gave_ends t r fair k some p e = turns_end t r fair k _ _ (front_is t r fair k some _ e)
 
 -- turns keep what a turn keeps
 turns_within_keep : (n : ℕ) (t r : List ℕ) (fair : Bool) → Turning t → Keeps t (turns_within n t r fair).1
@@ -374,9 +372,9 @@ turns_within_keep (suc n) t r fair k =
     let s = (poll_front_turned t r fair k).keeps in
     go (poll_front t r fair) s (turns_within_keep n (poll_front t r fair).1 r fair s.turning)
   where
-    go : (o : Turn × List ℕ) → Keeps t o.1 → Keeps o.1 (turns_within n o.1 r fair).1 → Keeps t (after_turn o (turns_within n o.1 r fair)).1
-    go (Turn.Ends took, u) a b = a
-    go (Turn.Left, u) a b = keeps_then a b
+    go : (o : ControlFlow (Option Took) (Unit {0}) × List ℕ) → Keeps t o.1 → Keeps o.1 (turns_within n o.1 r fair).1 → Keeps t (after_turn o (turns_within n o.1 r fair)).1
+    go (Break took, u) a b = a
+    go (Continue done, u) a b = keeps_then a b
 
 pub turns_keep : (t r : List ℕ) (fair : Bool) → Turning t → Keeps t (turns t r fair).1
 unfolding turns

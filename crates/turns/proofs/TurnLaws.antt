@@ -18,7 +18,7 @@ use Rattle.lane.specs.Order.{InOrder}
 use Rattle.lane.specs.Table.{lane_at}
 use Rattle.lane.proofs.OrderLaws.{cond_holds}
 use Rattle.lane.proofs.TableLaws.{frames}
-use Rattle.queues.specs.Header.{Shaped, issued, slots, queue_count, free_count, budget, capacity, lane_count, set_budget, set_fast_slot}
+use Rattle.queues.specs.Header.{Shaped, issued, slots, queue_count, free_count, budget, capacity, lane_count, set_budget}
 use Rattle.queues.specs.Queue.{QueueNames, queue_of, front_slot, pop_front}
 use Rattle.queues.specs.Registry.{free_of}
 use Rattle.ready.specs.Ready.{Linked}
@@ -30,7 +30,7 @@ use Rattle.store.specs.View.{flag}
 use Rattle.turns.specs.Turn.{registered_in, Turning, Ringed, meet_budget}
 use Rattle.store.proofs.CountLaws.{one, passing_same, passing_but, passing_some}
 use Rattle.store.proofs.HeaderWords.{place_of}
-use Rattle.store.proofs.StepLaws.{Step, lanes_now, linked_by, issued_kept, slots_kept, capacity_kept}
+use Rattle.store.proofs.StepLaws.{Step, lanes_now, linked_by, issued_kept, capacity_kept}
 
 -- ---- what a registered lane gives
 
@@ -156,9 +156,6 @@ module _ {t u : List ℕ} {x : ℕ} {l : Lane} {w : List ℕ} {hd : ℕ → ℕ}
       unregistered =
           lane_case (λ (y : ℕ) (z : Lane). 1 ≤ count y (free_of u) → z.registered ≡ 1 → ⊥) fr (λ y d a. k.free_unregistered y (rw (fo y d) at a))
 
-  pub ringed_step : (r : List ℕ) → Ringed t r → Ringed u r
-  ringed_step r g = rw (slots_kept s, capacity_kept s) g
-
 -- ---- a table with the same lanes registered
 
 module _ (t u : List ℕ) (k : Turning t) (i : issued u ≡ issued t) (r : (y : ℕ) → (lane_at u y).registered ≡ (lane_at t y).registered) where
@@ -184,20 +181,13 @@ module _ (t u : List ℕ) (k : Turning t) (i : issued u ≡ issued t) (r : (y : 
         counted = counted_same n;
       }
 
--- the budget and `fast_slot` are no matter of it
+-- the budget is no matter of it
 module _ (t : List ℕ) (k : Turning t) (v : ℕ) where
   pub turning_budget : Turning (set_budget t v)
   turning_budget =
       turning_by t (set_budget t v) k (simp frames) (λ y. simp frames) (shaped_set_head t k.shaped 5 v refl refl refl refl refl refl)
       (names_same t (set_budget t v) k.names (simp frames) (λ y. simp frames) (λ y. simp queue_frames))
       (linked_by t (set_budget t v) (simp frames) (λ y. simp frames) (λ y. simp frames) k.linked) (simp frames) (simp registry_frames) (simp frames)
-      (λ y e o. simp frames o) (simp (frames, queue_frames) k.queued_registered)
-
-  pub turning_fast : Turning (set_fast_slot t v)
-  turning_fast =
-      turning_by t (set_fast_slot t v) k (simp frames) (λ y. simp frames) (shaped_set_head t k.shaped 12 v refl refl refl refl refl refl)
-      (names_same t (set_fast_slot t v) k.names (simp frames) (λ y. simp frames) (λ y. simp queue_frames))
-      (linked_by t (set_fast_slot t v) (simp frames) (λ y. simp frames) (λ y. simp frames) k.linked) (simp frames) (simp registry_frames) (simp frames)
       (λ y e o. simp frames o) (simp (frames, queue_frames) k.queued_registered)
 
 pub turning_met : (t : List ℕ) → Turning t → Turning (meet_budget t)

@@ -1,6 +1,6 @@
 -- A receive that took nothing: Empty or Disconnected, as words.
 -- Assumes nothing.
-use Rattle.std.specs.Prelude.{◌≡◌, Bool, false, cond, List, ℕ, ◌<◌, eqb}
+use Rattle.std.specs.Prelude.{◌≡◌, Bool, false, cond, List, ℕ, ◌<◌, eqb, Option, Some, None}
 use Rattle.model.specs.declared.Answer.{Answer}
 use Rattle.model.specs.declared.Answer.TheVariants.{Empty, Disconnected}
 use Rattle.lane.specs.Lane.{reload_is_empty}
@@ -16,9 +16,9 @@ pub record Idle (t : List ℕ) : Type 0 where
   pub none_queued : queue_count t ≡ 0
 
 -- a take that handed nothing out leaves such a table
-abbrev pub Rests : Took × List ℕ → Type 0
-Rests (Took.Item item k, t) = 0 < 1
-Rests (Took.Nothing, t) = Idle t
+abbrev pub Rests : Option Took × List ℕ → Type 0
+Rests (Some took, t) = 0 < 1
+Rests (None, t) = Idle t
 
 unfoldable pub retire_empty_paused : List ℕ → ℕ → List ℕ
 retire_empty_paused t x =

@@ -1,6 +1,6 @@
 -- A turn at the front of the queue, and turn after turn, as words.
 -- Assumes nothing.
-use Rattle.std.specs.Prelude.{◌≡◌, Bool, cond, List, ℕ, zero, suc, ◌-◌, ◌*◌, ◌≤◌, ◌<◌, eqb, length}
+use Rattle.std.specs.Prelude.{◌≡◌, Bool, cond, List, ℕ, zero, suc, ◌-◌, ◌*◌, ◌≤◌, ◌<◌, eqb, length, Option, Some, None, Result, Ok, Err}
 use Rattle.model.specs.Lists.{count, keep, from}
 use Rattle.lane.specs.declared.lane.Lane.{Lane}
 use Rattle.lane.specs.declared.lane.EmptyLane.{EmptyLane}
@@ -15,9 +15,10 @@ use Rattle.queues.specs.Queue.{QueueNames, queue_of, front_slot, pop_front, rota
 use Rattle.queues.specs.Registry.{free_of}
 use Rattle.ready.specs.Ready.{Linked}
 use Rattle.turns.specs.declared.turn.Took.{Took}
-use Rattle.turns.specs.declared.turn.Turn.{Turn}
 use Rattle.store.specs.View.{flag}
 use Rattle.store.specs.Registry.{retire_lane}
+use Rattle.std.specs.declared.ops.ControlFlow.{ControlFlow}
+use Rattle.std.specs.declared.ops.ControlFlow.TheVariants.{Continue, Break}
 
 -- the number of registered lanes
 unfoldable pub registered_in : List ℕ → ℕ
@@ -69,25 +70,25 @@ rotate_if rotate t = cond rotate (rotate_left t) t
 unfoldable pub gave_front : List ℕ → Bool → Lane → List ℕ
 gave_front t rotate l = set_budget (rotate_if rotate (put_lane t l)) (less_one (budget t))
 
-unfoldable pub turn_by : List ℕ → LanePoll → Turn × List ℕ
-turn_by t (LanePoll.Item item rotate released l) = (Turn.Ends (Took.Item item l.key), gave_front t rotate l)
-turn_by t (LanePoll.Idle found) = (Turn.Left, meet_budget (settle_empty_front t found))
+unfoldable pub turn_by : List ℕ → Result LanePoll EmptyLane → ControlFlow (Option Took) (Unit {0}) × List ℕ
+turn_by t (Ok p) = (Break (Some (record { item = p.item; key = p.lane.key })), gave_front t p.rotate p.lane)
+turn_by t (Err found) = (Continue tt, meet_budget (settle_empty_front t found))
 
 -- One turn: the front lane gives an item, or is empty and leaves. Fair: "one item of the front lane, which goes to the back".
-unfoldable pub poll_front : List ℕ → List ℕ → Bool → Turn × List ℕ
+unfoldable pub poll_front : List ℕ → List ℕ → Bool → ControlFlow (Option Took) (Unit {0}) × List ℕ
 poll_front t r fair =
-    cond (eqb (queue_count t) 0) (Turn.Ends Took.Nothing, t)
+    cond (eqb (queue_count t) 0) (Break None, t)
     (turn_by t (poll (new_ring (front_slot t) (capacity t)) r fair (front_lane t)))
 
 -- what follows a turn that handed nothing out
-unfoldable pub after_turn : Turn × List ℕ → Took × List ℕ → Took × List ℕ
-after_turn (Turn.Ends took, t) more = (took, t)
-after_turn (Turn.Left, t) more = more
+unfoldable pub after_turn : ControlFlow (Option Took) (Unit {0}) × List ℕ → Option Took × List ℕ → Option Took × List ℕ
+after_turn (Break took, t) more = (took, t)
+after_turn (Continue u, t) more = more
 
 -- "which goes on until it has an item or nothing is queued": n lanes at most can leave a queue of n
-unfoldable pub turns_within : ℕ → List ℕ → List ℕ → Bool → Took × List ℕ
-turns_within zero t r fair = (Took.Nothing, t)
+unfoldable pub turns_within : ℕ → List ℕ → List ℕ → Bool → Option Took × List ℕ
+turns_within zero t r fair = (None, t)
 turns_within (suc n) t r fair = let u = poll_front t r fair in after_turn u (turns_within n u.1 r fair)
 
-unfoldable pub turns : List ℕ → List ℕ → Bool → Took × List ℕ
+unfoldable pub turns : List ℕ → List ℕ → Bool → Option Took × List ℕ
 turns t r fair = turns_within (queue_count t) t r fair

@@ -24,15 +24,13 @@ fn retire_empty_paused(t: &mut [u64], slot: u64)
     turn::retire_if(t, looked.lane, looked.empty);
 }
 
+// A loop of one line, as in crate `all_lanes`: a function that is handed its step is no shorter.
 fn retire_empty_paused_lanes(t: &mut [u64])
     requires { Idle t.old }
     ensures { t.new ≡ retire_empty_paused_lanes t.old }
 {
-    let n = t[Header::ISSUED];
-    let mut slot = 0;
-    while slot < n {
+    for slot in 0..t[Header::ISSUED] {
         retire_empty_paused(t, slot);
-        slot += 1;
     }
 }
 

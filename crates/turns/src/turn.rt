@@ -3,25 +3,19 @@ ghost use Rattle.std.specs.Prelude.{◌≡◌, true, ◌*◌, ◌≤◌, ◌<◌
 ghost use Rattle.queues.specs.Header.{Shaped, slots, queue_count, free_count, lane_count, capacity};
 ghost use Rattle.turns.specs.Turn.{Turning, Ringed, retire_if, settle_empty_front, meet_budget, less_one, rotate_if, gave_front, poll_front, turns};
 
-use lane::lane::{EmptyLane, Lane, LanePoll};
+use lane::lane::{EmptyLane, Lane};
 use model::LaneKey;
 use queues::header::Header;
 use queues::queue;
+use std::ops::ControlFlow;
 use store::registry;
 use yring::ring::Ring;
 
 // What a take hands out.
 #[derive(Clone, Copy)]
-pub enum Took {
-    Item { item: u64, key: LaneKey },
-    Nothing,
-}
-
-// A turn ends the take, or its lane was empty and has left the queue.
-#[derive(Clone, Copy)]
-pub enum Turn {
-    Ends { took: Took },
-    Left,
+pub struct Took {
+    pub item: u64,
+    pub key: LaneKey,
 }
 
 // A lane whose sender is dropped retires.
@@ -88,77 +82,62 @@ fn gave_front(t: &mut [u64], rotate: bool, l: Lane)
     t[Header::BUDGET] = budget;
 }
 
-// One turn: the front lane gives an item, or is empty and leaves.
-fn poll_front(t: &mut [u64], r: &[u64], fair: bool) -> Turn
+// One turn: the front lane gives an item, which ends the take, or is empty and leaves. With no lane queued the take ends too.
+fn poll_front(t: &mut [u64], r: &[u64], fair: bool) -> ControlFlow<Option<Took>>
     requires { Turning t.old × Ringed t.old r.now }
     ensures { (result, t.new) ≡ poll_front t.old r.now fair }
 {
     if t[Header::QUEUED] == 0 {
-        return Turn::Ends {
-            took: Took::Nothing,
-        };
+        return ControlFlow::Break(None);
     }
     let slot = queue::front_slot(t);
     let ring = Ring::new(slot, t[Header::CAPACITY]);
     match Lane::load(t, slot).poll(ring, r, fair) {
-        LanePoll::Idle { found } => {
+        Ok(polled) => {
+            gave_front(t, polled.rotate, polled.lane);
+            ControlFlow::Break(Some(Took {
+                item: polled.item,
+                key: polled.lane.key,
+            }))
+        }
+        Err(found) => {
             settle_empty_front(t, found);
             meet_budget(t);
-            Turn::Left
-        }
-        LanePoll::Item {
-            item,
-            rotate,
-            released: _,
-            lane,
-        } => {
-            gave_front(t, rotate, lane);
-            let key = lane.key;
-            Turn::Ends {
-                took: Took::Item {
-                    item: item,
-                    key: key,
-                },
-            }
+            ControlFlow::Continue(())
         }
     }
 }
 
 // Turn after turn, until a lane gives an item or none is queued.
-pub fn turns(t: &mut [u64], r: &[u64], fair: bool) -> Took
+pub fn turns(t: &mut [u64], r: &[u64], fair: bool) -> Option<Took>
     requires { Turning t.old × Ringed t.old r.now }
     ensures { (result, t.new) ≡ turns t.old r.now fair }
 {
     loop {
-        match poll_front(t, r, fair) {
-            Turn::Ends { took } => {
-                return took;
-            }
-            Turn::Left => {}
+        if let ControlFlow::Break(took) = poll_front(t, r, fair) {
+            return took;
         }
     }
 }
 
 // `turns` of a fair receive. Most front lanes have an item at hand: their turn is short, and has no call.
-pub fn fair_turns(t: &mut [u64], r: &[u64]) -> Took
+pub fn fair_turns(t: &mut [u64], r: &[u64]) -> Option<Took>
     requires { Turning t.old × Ringed t.old r.now }
     ensures { (result, t.new) ≡ turns t.old r.now true }
 {
     if t[Header::QUEUED] == 0 {
-        return Took::Nothing;
+        return None;
     }
     let slot = queue::front_slot(t);
     let capacity = t[Header::CAPACITY];
     let l = Lane::load(t, slot);
     if l.is_at_hand(capacity) {
         let taken = l.poll_at_hand(Ring::new(slot, capacity), r);
-        let lane = taken.lane;
-        gave_front(t, true, lane);
-        let key = lane.key;
-        return Took::Item {
+        gave_front(t, true, taken.lane);
+        return Some(Took {
             item: taken.item,
-            key: key,
-        };
+            key: taken.lane.key,
+        });
     }
     let took = turns(t, &*r, true);
     took

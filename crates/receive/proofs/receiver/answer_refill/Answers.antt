@@ -9,9 +9,6 @@ use Rattle.receive.proofs.ReceiveLaws.{refill_rest}
 use Rattle.turns.proofs.DueLaws.{turning_of, ringed_of}
 use Rattle.receive.proofs.receiver.answer_refill.Goals as goal
 
-pub channel-channel-requires : goal.channel-channel-requires
-channel-channel-requires c = omega (arith, c.requires.stores.shaped.room)
-
 pub try_recv_refill-took-requires : goal.try_recv_refill-took-requires
 try_recv_refill-took-requires c = (turning_of _ _ (but_held c.requires), ringed_of _ _ (but_held c.requires))
 

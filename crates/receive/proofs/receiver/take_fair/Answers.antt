@@ -1,5 +1,6 @@
 -- `receive::receiver::take_fair` meets its contract.
 -- Assumes nothing.
+use Rattle.std.specs.Prelude.{Option}
 use Rattle.receive.proofs.ReceiveLaws.{take_lone_long, fair_budget}
 use mathlib.Core.Bool.{true}
 use lib.ListN.{length}
@@ -20,22 +21,22 @@ take_lone-requires c =
 pub fair_turns-requires : goal.fair_turns-requires
 fair_turns-requires c =
     let k = fair_keeps _ c.requires.0 in
-    let u = unmoved_is _ _ _ (rw c.in-Nothing.is at c.take_lone.ensures) (take_lone_unmoved _ c.args.r.now) in
+    let u = unmoved_is _ _ _ (rw c.in_default.is at c.take_lone.ensures) (take_lone_unmoved _ c.args.r.now) in
     rw (u, c.collect_if_ready.ensures) (k.turning, keeps_ringed k c.args.r.now c.requires.1)
 
-pub shape_of-t-in-Item : goal.shape_of-t-in-Item
-shape_of-t-in-Item c = ap (λ (o : Took × List ℕ). length o.1) (rw c.collect_if_ready.ensures at c.take_lone.ensures) ∙ take_lone_long _ c.args.r.now ∙ (fair_keeps _ c.requires.0).long
+pub shape_of-t-in-Some : goal.shape_of-t-in-Some
+shape_of-t-in-Some c = ap (λ (o : Option Took × List ℕ). length o.1) (rw c.collect_if_ready.ensures at c.take_lone.ensures) ∙ take_lone_long _ c.args.r.now ∙ (fair_keeps _ c.requires.0).long
 
-pub returns-in-Item : goal.returns-in-Item
+pub returns-in-Some : goal.returns-in-Some
 unfolding take_fair
-returns-in-Item c = else_item _ _ _ _ _ (rw (c.in-Item.is, c.collect_if_ready.ensures) at c.take_lone.ensures)
+returns-in-Some c = else_item _ _ _ _ (rw (c.in-Some.is, c.collect_if_ready.ensures) at c.take_lone.ensures)
 
-pub shape_of-t-in-Nothing : goal.shape_of-t-in-Nothing
-shape_of-t-in-Nothing c =
+pub shape_of-t : goal.shape_of-t
+shape_of-t c =
     let k = fair_keeps _ c.requires.0 in
-    let u = unmoved_is _ _ _ (rw (c.in-Nothing.is, c.collect_if_ready.ensures) at c.take_lone.ensures) (take_lone_unmoved _ c.args.r.now) in
-    ap (λ (o : Took × List ℕ). length o.1) (rw u at c.fair_turns.ensures) ∙ (turns_keep _ c.args.r.now true k.turning).long ∙ k.long
+    let u = unmoved_is _ _ _ (rw (c.in_default.is, c.collect_if_ready.ensures) at c.take_lone.ensures) (take_lone_unmoved _ c.args.r.now) in
+    ap (λ (o : Option Took × List ℕ). length o.1) (rw u at c.fair_turns.ensures) ∙ (turns_keep _ c.args.r.now true k.turning).long ∙ k.long
 
-pub returns-in-Nothing : goal.returns-in-Nothing
+pub returns : goal.returns
 unfolding take_fair
-returns-in-Nothing c = c.fair_turns.ensures ∙ else_nothing _ _ _ (rw (c.in-Nothing.is, c.collect_if_ready.ensures) at c.take_lone.ensures)
+returns c = c.fair_turns.ensures ∙ else_nothing _ _ _ (rw (c.in_default.is, c.collect_if_ready.ensures) at c.take_lone.ensures)

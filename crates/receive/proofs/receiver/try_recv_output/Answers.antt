@@ -17,6 +17,3 @@ returns-then-l-eq0 c = c.answer_refill-a-then-l-eq0.ensures ∙ ap (answer_one _
 pub answer_window-requires : goal.answer_window-requires
 answer_window-requires c =
     record { in_order = c.requires; is_issued = c.if-slot-t.false; is_lane = c.load-l.ensures; is_registered = c.if-l-ne1.false; is_open = c.if-l-eq0.false }
-
-pub returns : goal.returns
-returns c = c.answer_window.ensures

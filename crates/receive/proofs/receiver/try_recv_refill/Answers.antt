@@ -15,13 +15,13 @@ take_front_window-requires c =
 pub poll_loop-requires : goal.poll_loop-requires
 poll_loop-requires c =
     let k = due_keeps _ c.requires.0 in
-    let u = unmoved_is _ _ _ (rw c.in-Nothing.is at c.take_front_window.ensures) (take_window_unmoved _ c.args.r.now) in
+    let u = unmoved_is _ _ _ (rw c.in_default.is at c.take_front_window.ensures) (take_window_unmoved _ c.args.r.now) in
     rw (u, c.collect_if_due.ensures) (k.turning, keeps_ringed k c.args.r.now c.requires.1)
 
-pub returns-in-Item : goal.returns-in-Item
+pub returns-in-Some : goal.returns-in-Some
 unfolding try_recv_refill
-returns-in-Item c = else_item _ _ _ _ _ (rw (c.in-Item.is, c.collect_if_due.ensures) at c.take_front_window.ensures)
+returns-in-Some c = else_item _ _ _ _ (rw (c.in-Some.is, c.collect_if_due.ensures) at c.take_front_window.ensures)
 
-pub returns-in-Nothing : goal.returns-in-Nothing
+pub returns : goal.returns
 unfolding try_recv_refill
-returns-in-Nothing c = c.poll_loop.ensures ∙ else_nothing _ _ _ (rw (c.in-Nothing.is, c.collect_if_due.ensures) at c.take_front_window.ensures)
+returns c = c.poll_loop.ensures ∙ else_nothing _ _ _ (rw (c.in_default.is, c.collect_if_due.ensures) at c.take_front_window.ensures)

@@ -1,14 +1,17 @@
 -- `receive_batch::batch::batch_verdict` meets its contract.
 -- Assumes nothing.
-use Rattle.receive_batch.specs.Batch.{batch_verdict}
+use Rattle.std.proofs.Common.{◌∙◌, refl, sym}
+use Rattle.std.proofs.lemmas.Result.{err_from_is_err_and}
 use Rattle.store.specs.Refusal.{and_then}
-use mathlib.Core.Path.{sym, ◌∙◌}
+use Rattle.receive_batch.specs.Batch.{batch_verdict}
 use Rattle.receive_batch.proofs.batch.batch_verdict.Goals as goal
 
-pub returns-in-Refuse : goal.returns-in-Refuse
+pub returns-in_err-receiver_verdict : goal.returns-in_err-receiver_verdict
 unfolding batch_verdict and_then
-returns-in-Refuse c = rw (sym c.receiver_verdict.ensures ∙ c.in-Refuse.is)
+returns-in_err-receiver_verdict c =
+    let p = err_from_is_err_and c.from_residual.result c.from_residual.ensures.1 in
+    rw (p.1, p.2, sym c.receiver_verdict.ensures ∙ c.in_err-receiver_verdict.was) refl
 
-pub returns-in-Pass : goal.returns-in-Pass
+pub returns : goal.returns
 unfolding batch_verdict and_then
-returns-in-Pass c = rw (sym c.receiver_verdict.ensures ∙ c.in-Pass.is) c.room_verdict.ensures
+returns c = rw (sym c.receiver_verdict.ensures ∙ c.in_ok-receiver_verdict.was) c.room_verdict.ensures

@@ -4,22 +4,15 @@ use Rattle.receive_batch.specs.Batch.{gave_chunk}
 use Rattle.receive_batch.proofs.ChunkLaws.{end_keeps_flags}
 use Rattle.store.proofs.LaneFields.{Flagged}
 use Rattle.lane.proofs.TableLaws.{frames}
-use lib.ListN.{length-set}
 use native.Mathlib.Omega.{arith}
 use mathlib.Core.Path.{ap}
 use Rattle.receive_batch.proofs.batch.gave_chunk.Goals as goal
-
-pub overflow_sub-budget : goal.overflow_sub-budget
-overflow_sub-budget c = rw c.full_budget.ensures c.requires.3
 
 pub store-requires : goal.store-requires
 store-requires c = rw (c.end_full_burst-end.ensures, ap (λ (z : Flagged). z.0.slot) (end_keeps_flags c.args.l)) (omega (arith, c.requires.1, c.requires.0.room))
 
 pub rotate_if-requires : goal.rotate_if-requires
 rotate_if-requires c = rw c.store.ensures (simp frames (c.requires.0, c.requires.2))
-
-pub shape_of-t : goal.shape_of-t
-shape_of-t c = simp length-set (omega arith)
 
 pub returns : goal.returns
 unfolding gave_chunk

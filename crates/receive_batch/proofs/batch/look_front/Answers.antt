@@ -19,15 +19,15 @@ pub refill-requires : goal.refill-requires
 refill-requires c = rw (c.load.ensures, c.front_slot-slot.ensures) (front_refunds _ c.requires c.if-t-eq0.false)
 
 pub settle_empty_front-requires : goal.settle_empty_front-requires
-settle_empty_front-requires c = look_room _ c.requires c.if-t-eq0.false _ (look_as _ _ _ _ c.front_slot-slot.ensures c.load.ensures c.refill.ensures ∙ c.in-Idle.is)
+settle_empty_front-requires c = look_room _ c.requires c.if-t-eq0.false _ (look_as _ _ _ _ c.front_slot-slot.ensures c.load.ensures c.refill.ensures ∙ c.in-Err.is)
 
 pub meet_budget-requires : goal.meet_budget-requires
-meet_budget-requires c = rw c.settle_empty_front.ensures (look_shaped _ c.requires c.if-t-eq0.false _ (look_as _ _ _ _ c.front_slot-slot.ensures c.load.ensures c.refill.ensures ∙ c.in-Idle.is))
+meet_budget-requires c = rw c.settle_empty_front.ensures (look_shaped _ c.requires c.if-t-eq0.false _ (look_as _ _ _ _ c.front_slot-slot.ensures c.load.ensures c.refill.ensures ∙ c.in-Err.is))
 
-pub returns-in-Idle : goal.returns-in-Idle
+pub returns-in-Err : goal.returns-in-Err
 unfolding look_by
-returns-in-Idle c = rw (c.meet_budget.ensures, c.settle_empty_front.ensures) (look_is _ c.requires c.if-t-eq0.false _ (look_as _ _ _ _ c.front_slot-slot.ensures c.load.ensures c.refill.ensures ∙ c.in-Idle.is))
+returns-in-Err c = rw (c.meet_budget.ensures, c.settle_empty_front.ensures) (look_is _ c.requires c.if-t-eq0.false _ (look_as _ _ _ _ c.front_slot-slot.ensures c.load.ensures c.refill.ensures ∙ c.in-Err.is))
 
-pub returns-in-Ready : goal.returns-in-Ready
+pub returns-in-Ok : goal.returns-in-Ok
 unfolding look_by
-returns-in-Ready c = look_is _ c.requires c.if-t-eq0.false _ (look_as _ _ _ _ c.front_slot-slot.ensures c.load.ensures c.refill.ensures ∙ c.in-Ready.is)
+returns-in-Ok c = look_is _ c.requires c.if-t-eq0.false _ (look_as _ _ _ _ c.front_slot-slot.ensures c.load.ensures c.refill.ensures ∙ c.in-Ok.is)

@@ -12,9 +12,6 @@ pub returns-then-l-ne0-2 : goal.returns-then-l-ne0-2
 unfolding keep_target
 returns-then-l-ne0-2 c = simp (eq-eqb _ _ c.if-l-ne0.false, ne_eqb _ _ c.if-l-ne0-2.true) c.store-then-l-ne0-2.ensures
 
-pub queue_target-requires : goal.queue_target-requires
-queue_target-requires c = (c.requires.0, c.requires.1, c.requires.2 c.if-l-ne0-2.false)
-
 pub returns : goal.returns
 unfolding keep_target
 returns c = simp (eq-eqb _ _ c.if-l-ne0.false, eq-eqb _ _ c.if-l-ne0-2.false) c.queue_target.ensures

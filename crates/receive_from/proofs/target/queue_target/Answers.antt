@@ -4,11 +4,7 @@ use Rattle.receive_from.specs.Target.{queue_target}
 use Rattle.store.proofs.SignalFrames.{shaped_marked_if_idle, head_marked_if_idle}
 use Rattle.queues.proofs.QueueLaws.{shaped_put_lane}
 use Rattle.lane.proofs.TableLaws.{frames}
-use native.Mathlib.Omega.{arith}
 use Rattle.receive_from.proofs.target.queue_target.Goals as goal
-
-pub store-requires : goal.store-requires
-store-requires c = simp c.with_turn.ensures (omega arith)
 
 pub mark_if_idle-requires : goal.mark_if_idle-requires
 mark_if_idle-requires c = rw c.store.ensures (simp frames (c.requires.0, c.requires.1))

@@ -15,9 +15,6 @@ pub store-requires : goal.store-requires
 store-requires c =
     rw (c.pop_targeted-taken.ensures, c.new.ensures, hand_slot _ _ _ c.requires) (omega (arith, hand_below _ _ _ c.requires, c.requires.in_order.stores.shaped.room))
 
-pub held_less-requires : goal.held_less-requires
-held_less-requires c = omega (arith, c.requires.in_order.stores.shaped.room)
-
 pub returns : goal.returns
 returns c =
     rw (c.channel-channel.ensures, c.held_less.ensures, c.store.ensures, c.pop_targeted-taken.ensures, c.new.ensures, hand_channel _ _ _ c.requires) (hand_taken _ _ _ c.requires)

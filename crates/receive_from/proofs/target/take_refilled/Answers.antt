@@ -6,9 +6,6 @@ use native.Mathlib.Omega.{arith}
 use mathlib.Core.Path.{sym, ◌∙◌}
 use Rattle.receive_from.proofs.target.take_refilled.Goals as goal
 
-pub channel-channel-requires : goal.channel-channel-requires
-channel-channel-requires c = omega (arith, c.requires.0.stores.shaped.room)
-
 pub new-ring-requires : goal.new-ring-requires
 new-ring-requires c = (omega (arith, target_below _ c.args.r.now c.requires.0 _ c.requires.1 c.requires.2, c.requires.0.stores.shaped.slots_most), c.requires.0.stores.power.most)
 
@@ -19,21 +16,18 @@ pub refill-requires : goal.refill-requires
 refill-requires c = rw c.load.ensures (target_refunds _ c.args.r.now c.requires.0 _ c.requires.1 c.requires.2)
 
 pub settle_target-requires : goal.settle_target-requires
-settle_target-requires c = settled_room _ c.args.r.now c.requires.0 _ c.requires.1 c.requires.2 _ (sym (refilled_as _ _ _ _ c.load.ensures c.refill.ensures) ∙ c.in-Idle.is)
+settle_target-requires c = settled_room _ c.args.r.now c.requires.0 _ c.requires.1 c.requires.2 _ (sym (refilled_as _ _ _ _ c.load.ensures c.refill.ensures) ∙ c.in-Err.is)
 
 pub pop_targeted-taken-requires : goal.pop_targeted-taken-requires
-pop_targeted-taken-requires c = rw c.new-ring.ensures (target_ring _ c.args.r.now c.requires.0 _ c.requires.1 c.requires.2, target_filled _ c.args.r.now c.requires.0 _ c.requires.1 c.requires.2 _ (sym (refilled_as _ _ _ _ c.load.ensures c.refill.ensures) ∙ c.in-Ready.is))
+pop_targeted-taken-requires c = rw c.new-ring.ensures (target_ring _ c.args.r.now c.requires.0 _ c.requires.1 c.requires.2, target_filled _ c.args.r.now c.requires.0 _ c.requires.1 c.requires.2 _ (sym (refilled_as _ _ _ _ c.load.ensures c.refill.ensures) ∙ c.in-Ok.is))
 
 pub keep_target-requires : goal.keep_target-requires
-keep_target-requires c = rw (c.pop_targeted-taken.ensures, c.new-ring.ensures) (kept_room _ c.args.r.now c.requires.0 _ c.requires.1 c.requires.2 _ (sym (refilled_as _ _ _ _ c.load.ensures c.refill.ensures) ∙ c.in-Ready.is))
+keep_target-requires c = rw (c.pop_targeted-taken.ensures, c.new-ring.ensures) (kept_room _ c.args.r.now c.requires.0 _ c.requires.1 c.requires.2 _ (sym (refilled_as _ _ _ _ c.load.ensures c.refill.ensures) ∙ c.in-Ok.is))
 
-pub held_less-requires : goal.held_less-requires
-held_less-requires c = omega (arith, c.requires.0.stores.shaped.room)
-
-pub returns-in-Idle : goal.returns-in-Idle
+pub returns-in-Err : goal.returns-in-Err
 unfolding target_took
-returns-in-Idle c = c.settle_target.ensures ∙ take_from_is _ c.args.r.now _ _ (sym (refilled_as _ _ _ _ c.load.ensures c.refill.ensures) ∙ c.in-Idle.is)
+returns-in-Err c = c.settle_target.ensures ∙ take_from_is _ c.args.r.now _ _ (sym (refilled_as _ _ _ _ c.load.ensures c.refill.ensures) ∙ c.in-Err.is)
 
-pub returns-in-Ready : goal.returns-in-Ready
+pub returns-in-Ok : goal.returns-in-Ok
 unfolding target_took
-returns-in-Ready c = rw (c.channel-channel.ensures, c.held_less.ensures, c.keep_target.ensures, c.pop_targeted-taken.ensures, c.new-ring.ensures) (take_from_is _ c.args.r.now _ _ (sym (refilled_as _ _ _ _ c.load.ensures c.refill.ensures) ∙ c.in-Ready.is))
+returns-in-Ok c = rw (c.channel-channel.ensures, c.held_less.ensures, c.keep_target.ensures, c.pop_targeted-taken.ensures, c.new-ring.ensures) (take_from_is _ c.args.r.now _ _ (sym (refilled_as _ _ _ _ c.load.ensures c.refill.ensures) ∙ c.in-Ok.is))

@@ -11,13 +11,13 @@ use Rattle.receive_from.proofs.target.try_recv_from.Goals as goal
 
 pub take_from-requires : goal.take_from-requires
 take_from-requires c =
-    let k = (id_passes _ _ (sym c.id_verdict.ensures ∙ c.in-Pass.is)).1 in
+    let k = (id_passes _ _ (sym c.id_verdict.ensures ∙ c.in-Ok.is)).1 in
     (c.requires, k.is_issued, k.registered)
 
-pub returns-in-Refuse : goal.returns-in-Refuse
+pub returns-in-Err : goal.returns-in-Err
 unfolding try_recv_from unless_refused
-returns-in-Refuse c = rw (sym c.id_verdict.ensures ∙ c.in-Refuse.is)
+returns-in-Err c = rw (sym c.id_verdict.ensures ∙ c.in-Err.is)
 
-pub returns-in-Pass : goal.returns-in-Pass
+pub returns-in-Ok : goal.returns-in-Ok
 unfolding try_recv_from unless_refused
-returns-in-Pass c = rw (sym c.id_verdict.ensures ∙ c.in-Pass.is) (ap (λ (o : Answer × List ℕ). with_rings c.args.r.now o) c.take_from.ensures)
+returns-in-Ok c = rw (sym c.id_verdict.ensures ∙ c.in-Ok.is) (ap (λ (o : Answer × List ℕ). with_rings c.args.r.now o) c.take_from.ensures)

@@ -14,8 +14,5 @@ retire_empty_paused-requires c =
 pub loop-slot-preserved : goal.loop-slot-preserved
 loop-slot-preserved c = retiring_next _ _ _ c.loop-slot.invariant c.loop-slot-test.true _ c.retire_empty_paused.ensures
 
-pub shape_of-t : goal.shape_of-t
-shape_of-t c = c.loop-slot.invariant.still.long
-
 pub returns : goal.returns
 returns c = retiring_end _ _ _ c.loop-slot.invariant c.loop-slot-test.false

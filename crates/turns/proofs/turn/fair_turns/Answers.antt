@@ -24,7 +24,7 @@ poll_at_hand-taken-requires c =
     rw c.new.ensures (rw c.front_slot-slot.ensures (ring_in _ c.requires.0 _ (front_issued _ c.requires.0 c.if-t-eq0.false) c.args.r.now c.requires.1), hand.0, hand.1)
 
 pub gave_front-requires : goal.gave_front-requires
-gave_front-requires c = gave_room _ _ _ c.requires.0 c.if-t-eq0.false _ _ _ _ (sym (polled_as _ _ _ _ _ _ _ c.front_slot-slot.ensures c.new.ensures c.load-l.ensures refl) ∙ c.poll_at_hand-taken.ensures)
+gave_front-requires c = gave_room _ _ _ c.requires.0 c.if-t-eq0.false _ (sym (polled_as _ _ _ _ _ _ _ c.front_slot-slot.ensures c.new.ensures c.load-l.ensures refl) ∙ c.poll_at_hand-taken.ensures)
 
 pub returns-then-is_at_hand : goal.returns-then-is_at_hand
-returns-then-is_at_hand c = rw c.gave_front.ensures (gave_ends _ _ _ c.requires.0 c.if-t-eq0.false _ _ _ _ (sym (polled_as _ _ _ _ _ _ _ c.front_slot-slot.ensures c.new.ensures c.load-l.ensures refl) ∙ c.poll_at_hand-taken.ensures))
+returns-then-is_at_hand c = rw c.gave_front.ensures (gave_ends _ _ _ c.requires.0 c.if-t-eq0.false _ (sym (polled_as _ _ _ _ _ _ _ c.front_slot-slot.ensures c.new.ensures c.load-l.ensures refl) ∙ c.poll_at_hand-taken.ensures))

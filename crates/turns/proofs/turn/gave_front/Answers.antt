@@ -1,16 +1,11 @@
 -- `turns::turn::gave_front` meets its contract.
 -- Assumes nothing.
-use native.Mathlib.Omega.{arith}
-use lib.ListN.{length-set}
 use Rattle.turns.specs.Turn.{gave_front}
 use Rattle.lane.proofs.TableLaws.{frames}
 use Rattle.turns.proofs.turn.gave_front.Goals as goal
 
 pub rotate_if-requires : goal.rotate_if-requires
 rotate_if-requires c = rw c.store.ensures (simp frames (c.requires.0, c.requires.2))
-
-pub shape_of-t : goal.shape_of-t
-shape_of-t c = simp length-set (omega arith)
 
 pub returns : goal.returns
 unfolding gave_front

@@ -24,18 +24,18 @@ poll-requires c =
     (ring_in _ c.requires.0 _ (front_issued _ c.requires.0 c.if-t-eq0.false) c.args.r.now c.requires.1, front_ordered _ c.requires.0 c.if-t-eq0.false)
 
 pub settle_empty_front-requires : goal.settle_empty_front-requires
-settle_empty_front-requires c = left_room _ _ _ c.requires.0 c.if-t-eq0.false _ (sym (polled_as _ _ _ _ _ _ _ c.front_slot-slot.ensures c.new-ring.ensures c.load.ensures c.poll.ensures) ∙ c.in-Idle.is)
+settle_empty_front-requires c = left_room _ _ _ c.requires.0 c.if-t-eq0.false _ (sym (polled_as _ _ _ _ _ _ _ c.front_slot-slot.ensures c.new-ring.ensures c.load.ensures c.poll.ensures) ∙ c.in-Err.is)
 
 pub meet_budget-requires : goal.meet_budget-requires
-meet_budget-requires c = rw c.settle_empty_front.ensures (shaped_left _ _ _ c.requires.0 c.if-t-eq0.false _ (sym (polled_as _ _ _ _ _ _ _ c.front_slot-slot.ensures c.new-ring.ensures c.load.ensures c.poll.ensures) ∙ c.in-Idle.is))
+meet_budget-requires c = rw c.settle_empty_front.ensures (shaped_left _ _ _ c.requires.0 c.if-t-eq0.false _ (sym (polled_as _ _ _ _ _ _ _ c.front_slot-slot.ensures c.new-ring.ensures c.load.ensures c.poll.ensures) ∙ c.in-Err.is))
 
 pub gave_front-requires : goal.gave_front-requires
-gave_front-requires c = gave_room _ _ _ c.requires.0 c.if-t-eq0.false _ _ _ _ (sym (polled_as _ _ _ _ _ _ _ c.front_slot-slot.ensures c.new-ring.ensures c.load.ensures c.poll.ensures) ∙ c.in-Item.is)
+gave_front-requires c = gave_room _ _ _ c.requires.0 c.if-t-eq0.false _ (sym (polled_as _ _ _ _ _ _ _ c.front_slot-slot.ensures c.new-ring.ensures c.load.ensures c.poll.ensures) ∙ c.in-Ok.is)
 
-pub returns-in-Idle : goal.returns-in-Idle
+pub returns-in-Err : goal.returns-in-Err
 unfolding turn_by
-returns-in-Idle c = rw (c.meet_budget.ensures, c.settle_empty_front.ensures) (front_is _ _ _ c.requires.0 c.if-t-eq0.false _ (sym (polled_as _ _ _ _ _ _ _ c.front_slot-slot.ensures c.new-ring.ensures c.load.ensures c.poll.ensures) ∙ c.in-Idle.is))
+returns-in-Err c = rw (c.meet_budget.ensures, c.settle_empty_front.ensures) (front_is _ _ _ c.requires.0 c.if-t-eq0.false _ (sym (polled_as _ _ _ _ _ _ _ c.front_slot-slot.ensures c.new-ring.ensures c.load.ensures c.poll.ensures) ∙ c.in-Err.is))
 
-pub returns-in-Item : goal.returns-in-Item
+pub returns-in-Ok : goal.returns-in-Ok
 unfolding turn_by
-returns-in-Item c = rw c.gave_front.ensures (front_is _ _ _ c.requires.0 c.if-t-eq0.false _ (sym (polled_as _ _ _ _ _ _ _ c.front_slot-slot.ensures c.new-ring.ensures c.load.ensures c.poll.ensures) ∙ c.in-Item.is))
+returns-in-Ok c = rw c.gave_front.ensures (front_is _ _ _ c.requires.0 c.if-t-eq0.false _ (sym (polled_as _ _ _ _ _ _ _ c.front_slot-slot.ensures c.new-ring.ensures c.load.ensures c.poll.ensures) ∙ c.in-Ok.is))
