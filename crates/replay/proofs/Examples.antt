@@ -18,10 +18,11 @@ use Rattle.wire_record.specs.Stream.{stream_in, stream}
 use Rattle.wire_record.specs.Stream as Stream
 use Rattle.wire_record.specs.Examples.{receive}
 use Rattle.wire_line.specs.Text.{codes, digits_in, digits, decimal, spaced, answer_text}
-use Rattle.replay_serve.specs.Calls.{Stores, line_of, lines_of, stores_after, started}
+use Rattle.replay_serve.specs.declared.calls.Stores.{Stores}
+use Rattle.replay_serve.specs.Calls.{line_of, lines_of, stores_after, started}
 use Rattle.replay_serve.proofs.ProgramLaws.{before_opening}
-use Rattle.replay.specs.declared.round.Next.TheVariants.{Stop}
-use Rattle.replay.specs.declared.round.Next.TheVariants as Next
+use Rattle.replay.specs.declared.place.Next.TheVariants.{Stop}
+use Rattle.replay.specs.declared.place.Next.TheVariants as Next
 use Rattle.replay.specs.Rounds.{Rounds, none, more, again, end}
 use Rattle.replay.specs.Parts.{joined, answers}
 use Rattle.replay.specs.Place.{between}

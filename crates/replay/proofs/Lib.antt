@@ -1,6 +1,4 @@
-pub mod ShiftLaws
 pub mod RoundLaws
 pub mod PlaceLaws
 pub mod RunLaws
 pub mod Examples
-mod ReadLaws

@@ -8,17 +8,19 @@ use native.Mathlib.Omega.{arith}
 use lib.ListN.{length, length-append, length-drop}
 use lib.Seq.{drop-append-le}
 use Rattle.wire_record.specs.declared.record.Record.{Record}
-use Rattle.wire_record.specs.declared.record.Parsed.TheVariants as Parsed
+use Rattle.std.specs.Prelude.{Err}
+use Rattle.wire_record.specs.declared.record.Unread.TheVariants.{Incomplete, Malformed}
 use Rattle.wire_record.specs.Record.{parse}
 use Rattle.wire_record.specs.Stream.{Reads, Stream, and_then_all, stream, stream_in, no_more, ended, malformed}
 use Rattle.wire_record.specs.Stream as Stream
 use Rattle.wire_record.proofs.MoreLaws.{whole_more}
 use Rattle.wire_record.proofs.ParseLaws.{parse_inside}
 use Rattle.wire_record.proofs.StreamLaws.{reads_first, stream_malformed, stream_cut}
-use Rattle.replay_serve.specs.Calls.{Stores, answered, line_of, lines_of, stores_after, started}
+use Rattle.replay_serve.specs.declared.calls.Stores.{Stores}
+use Rattle.replay_serve.specs.Calls.{answered, line_of, lines_of, stores_after, started}
 use Rattle.replay_serve.specs.Serve.{malformed_line}
-use Rattle.replay.specs.declared.round.Next.{Next}
-use Rattle.replay.specs.declared.round.Next.TheVariants.{Read, Answer, End, Stop}
+use Rattle.replay.specs.declared.place.Next.{Next}
+use Rattle.replay.specs.declared.place.Next.TheVariants.{Read, Answer, End, Stop}
 use Rattle.replay.specs.Rounds.{cut_line, last_line, GoesOn, Round, Last, Rounds, none, more, again, end}
 use Rattle.replay.specs.Parts.{joined, ending_line, answers, Ended, SoFar, PartsAnswered}
 
@@ -59,10 +61,10 @@ joined_more (q ∷ ps) p = ap (λ (l : List ℕ). q ++ l) (joined_more ps p) ∙
 
 -- why the program stops, and its last line
 abbrev Stopped : List (List ℕ) → List ℕ → List ℕ → Type 0
-Stopped parts rest last = ((parse rest ≡ Parsed.Malformed) × (last ≡ malformed_line)) ⊎ ((parse rest ≡ Parsed.Incomplete) × (last ≡ cut_line (length rest)) × Ended parts)
+Stopped parts rest last = ((parse rest ≡ Err Malformed) × (last ≡ malformed_line)) ⊎ ((parse rest ≡ Err Incomplete) × (last ≡ cut_line (length rest)) × Ended parts)
 
 abbrev Stands : Next → List (List ℕ) → List ℕ → List ℕ → Type 0
-Stands Read parts rest last = (parse rest ≡ Parsed.Incomplete) × (last ≡ [])
+Stands Read parts rest last = (parse rest ≡ Err Incomplete) × (last ≡ [])
 Stands Answer parts rest last = last ≡ []
 Stands End parts rest last = ⊥
 Stands Stop parts rest last = Stopped parts rest last
@@ -149,7 +151,7 @@ unfolding answers lines_of
 answers_none b s e = ap (λ (x : Stream). answers_of x s) e
 
 -- of an input that ends inside a record, or before one
-cut_ends : (b : List ℕ) → parse b ≡ Parsed.Incomplete → (s : Stores) → answers b s ≡ cut_line (length b)
+cut_ends : (b : List ℕ) → parse b ≡ Err Incomplete → (s : Stores) → answers b s ≡ cut_line (length b)
 unfolding stream stream_in
 cut_ends [] e s = answers_none [] s refl
 cut_ends (x ∷ b) e s = answers_none (x ∷ b) s (stream_cut (x ∷ b) (omega arith) e)
@@ -201,7 +203,7 @@ unfolding stream stream_in
 nothing_behind rest (inl (e, f)) = ap (λ (x : Stream). x.records) (stream_malformed rest [] e)
 nothing_behind rest (inr (e, f, g)) = ap (λ (b : List ℕ). (stream b).records) (append-nil rest) ∙ go rest e
   where
-    go : (b : List ℕ) → parse b ≡ Parsed.Incomplete → (stream b).records ≡ []
+    go : (b : List ℕ) → parse b ≡ Err Incomplete → (stream b).records ≡ []
     go [] e = refl
     go (x ∷ b) e = ap (λ (y : Stream). y.records) (stream_cut (x ∷ b) (omega arith) e)
 

@@ -1,14 +1,15 @@
 -- What is claimed of an input that comes in parts, whatever they are: the texts, joined, are the lines of all its bytes.
 -- Assumes nothing.
-use Rattle.std.specs.Prelude.{List, [], ◌∷◌, ◌++◌, ◌≡◌, ℕ, ◌+◌, ◌*◌, ◌≤◌, length}
+use Rattle.std.specs.Prelude.{List, [], ◌∷◌, ◌++◌, ◌≡◌, ℕ, ◌+◌, ◌*◌, ◌≤◌, length, Err}
 use Rattle.wire_record.specs.declared.record.Record.{Record}
-use Rattle.wire_record.specs.declared.record.Parsed.TheVariants as Parsed
+use Rattle.wire_record.specs.declared.record.Unread.TheVariants.{Incomplete}
 use Rattle.wire_record.specs.Record.{parse}
 use Rattle.wire_record.specs.Stream.{Reads, Ending, ended, malformed, stream}
-use Rattle.replay_serve.specs.Calls.{Stores, lines_of, stores_after, started}
+use Rattle.replay_serve.specs.declared.calls.Stores.{Stores}
+use Rattle.replay_serve.specs.Calls.{lines_of, stores_after, started}
 use Rattle.replay_serve.specs.Serve.{malformed_line}
-use Rattle.replay.specs.declared.round.Next.{Next}
-use Rattle.replay.specs.declared.round.Next.TheVariants.{Read, Stop}
+use Rattle.replay.specs.declared.place.Next.{Next}
+use Rattle.replay.specs.declared.place.Next.TheVariants.{Read, Stop}
 use Rattle.replay.specs.Rounds.{Rounds}
 
 -- parts, one behind the other
@@ -35,7 +36,7 @@ pub record SoFar (parts texts : List (List ℕ)) (s : Stores) (rest : List ℕ) 
   pub reads : Reads (joined parts) records rest
   pub stores : s ≡ stores_after records started
   pub lines : joined texts ≡ lines_of records started
-  pub all : n ≡ Read → parse rest ≡ Parsed.Incomplete
+  pub all : n ≡ Read → parse rest ≡ Err Incomplete
 
 pub record PartsAnswered : Type 0 where
   -- Once the program has stopped, whatever c follows that it has not read: nothing, where the last read brought nothing.

@@ -1,14 +1,15 @@
 -- Document 01, "Replay program", on an input that comes in parts: rounds of reading, answering and writing, one after the other.
 -- Assumes nothing.
-use Rattle.std.specs.Prelude.{List, [], ◌∷◌, ◌++◌, ◌≡◌, ℕ, zero, suc, ◌+◌, ◌<◌, length}
+use Rattle.std.specs.Prelude.{List, [], ◌∷◌, ◌++◌, ◌≡◌, ℕ, zero, suc, ◌+◌, ◌<◌, length, Err}
 use Rattle.wire_record.specs.declared.record.Record.{Record}
-use Rattle.wire_record.specs.declared.record.Parsed.TheVariants as Parsed
+use Rattle.wire_record.specs.declared.record.Unread.TheVariants.{Incomplete, Malformed}
 use Rattle.wire_record.specs.Record.{parse}
 use Rattle.wire_record.specs.Stream.{Reads}
-use Rattle.replay_serve.specs.Calls.{Stores, lines_of, stores_after, started}
+use Rattle.replay_serve.specs.declared.calls.Stores.{Stores}
+use Rattle.replay_serve.specs.Calls.{lines_of, stores_after, started}
 use Rattle.replay_serve.specs.Serve.{malformed_line}
-use Rattle.replay.specs.declared.round.Next.{Next}
-use Rattle.replay.specs.declared.round.Next.TheVariants.{Read, Answer, End, Stop}
+use Rattle.replay.specs.declared.place.Next.{Next}
+use Rattle.replay.specs.declared.place.Next.TheVariants.{Read, Answer, End, Stop}
 
 -- "input ending inside a record" is malformed: the line that is due where so many bytes are left
 abbrev pub cut_line : ℕ → List ℕ
@@ -18,10 +19,10 @@ cut_line (suc n) = malformed_line
 -- What comes after these records, by what stands behind them: too little to tell, so that more is read; anything, where the text was full, and a record at least was
 -- answered; "malformed record; it stops". That the input has ended is told by a read, and by no round.
 abbrev pub GoesOn : Next → List Record → List ℕ → Type 0
-GoesOn Read records rest = parse rest ≡ Parsed.Incomplete
+GoesOn Read records rest = parse rest ≡ Err Incomplete
 GoesOn Answer records rest = 0 < length records
 GoesOn End records rest = ⊥
-GoesOn Stop records rest = parse rest ≡ Parsed.Malformed
+GoesOn Stop records rest = parse rest ≡ Err Malformed
 
 -- the line behind those of the records
 abbrev pub last_line : Next → List ℕ

@@ -1,108 +1,82 @@
 // Document 01's replay program: reads records from standard input, and writes one line for each.
 #![tactic(auto)]
 
+mod failure;
 mod input;
+mod place;
 mod round;
 
-ghost use Rattle.std.specs.Prelude.{◌≡◌, ◌≤◌, ◌<◌, length, take};
+ghost use Rattle.std.specs.Prelude.{◌≡◌, ◌≤◌, ◌<◌, take, MatchResult, OnOk};
 ghost use Rattle.std.specs.Io.KnownBytes.{Appends};
 ghost use Rattle.replay_serve.specs.Calls.{started};
-ghost use Rattle.replay.specs.Place.{Sized, Flushed};
+ghost use Rattle.replay.specs.Place.{Flushed};
 ghost use Rattle.replay.specs.Ran.{Ran};
 
-use round::{Next, Place};
+use failure::Failure;
+use place::{Next, Place};
+use replay_serve::calls::Stores;
 use std::io::{Read, Write};
 
-// How a run of the program ended.
-#[derive(Clone, Copy)]
-pub enum Outcome {
-    Answered,
-    ReadFailed,
-    WriteFailed,
-    TurnsOver,
-}
-
-// Writes what is due of the text. Nothing is due then; where the write failed the place stays as it was.
-fn flush<W: Write>(place: Place, output: &mut W, text: &[u8]) -> Place
-    requires { place.end ≤ length text.now }
-    ensures place { Flushed place result }
-    ensures bytes { 0 < place.end → result.end ≡ 0 → Appends (W.contents output.old) (W.contents output.new) (take place.end text.now) }
+// Writes what is due of the text. Nothing is due then.
+fn flush<W: Write>(place: Place, output: &mut W, text: &[u8; 65536]) -> Result<Place, Failure>
+    requires { place.end ≤ 65536 }
+    ensures place { MatchResult result (λ q. Flushed place q) (λ e. (e ≡ Failure.WriteFailed) × (0 < place.end)) }
+    ensures bytes { OnOk result (Appends (W.contents output.old) (W.contents output.new) (take place.end text.now)) }
 {
-    let next = place.next;
-    let at = place.at;
-    let have = place.have;
-    let end = place.end;
-    let written = output.write_all(&text[..end]).is_ok();
-    if written {
-        return Place::new(next, at, have, 0);
+    if place.end > 0 {
+        output
+            .write_all(&text[..place.end])
+            .map_err(|_| Failure::WriteFailed)?;
     }
-    Place::new(next, at, have, end)
+    Ok(Place {
+        next: place.next,
+        at: place.at,
+        have: place.have,
+        end: 0,
+    })
 }
 
-// A line on standard error. That it cannot be written is passed over.
-fn complain<W: Write>(errors: &mut W, line: &[u8]) {
-    let _ = errors.write_all(line);
-}
-
-// Reads, answers and writes until the input ends or is malformed. A proved loop has to end, and nothing says that the input does: the turns are counted down from a number that no run uses up.
+// Reads, answers and writes until the input ends or is malformed. A proved loop has to end, and nothing says that the input does: the turns are counted, to a number that no run comes to.
 fn run<R: Read, W: Write>(
     input: &mut R,
     output: &mut W,
-    table: &mut [u64; 4096],
-    rings: &mut [u64; 2048],
-    out: &mut [u64; 64],
+    stores: &mut Stores,
     buffer: &mut [u8; 65536],
     text: &mut [u8; 65536],
-) -> Outcome
-    requires { (record { table = table.old; rings = rings.old; out = out.old } ≡ started) × Sized buffer.old × Sized text.old }
-    ensures { Ran result (record { table = table.new; rings = rings.new; out = out.new }) }
+) -> Result<(), Failure>
+    requires { stores.old ≡ started }
+    ensures { Ran result stores.new }
 {
-    let mut turns = u64::MAX;
-    let mut place = Place::new(Next::Read, 0, 0, 0);
-    while turns > 0 {
-        turns -= 1;
-        place = input::fetch(place, input, buffer);
-        let fetched = place.next;
-        if let Next::Read = fetched {
-            return Outcome::ReadFailed;
-        }
-        place = round::round(place, buffer, table, rings, out, text);
-        place = flush(place, output, text);
-        if place.end > 0 {
-            return Outcome::WriteFailed;
-        }
-        let next = place.next;
-        if let Next::Stop = next {
-            return Outcome::Answered;
+    let mut place = Place {
+        next: Next::Read,
+        at: 0,
+        have: 0,
+        end: 0,
+    };
+    for _turn in 0..u64::MAX {
+        let fetched = input::fetch(place, input, buffer)?;
+        let answered = round::round(fetched, buffer, stores, text);
+        place = flush(answered, output, text)?;
+        if place.next == Next::Stop {
+            return Ok(());
         }
     }
-    Outcome::TurnsOver
+    Err(Failure::TurnsOver)
 }
 
 fn main(rt: HostRuntime) {
-    let mut table = [0u64; 4096];
-    let mut rings = [0u64; 2048];
-    let mut out = [0u64; 64];
+    let mut stores = Stores {
+        table: [0; 4096],
+        rings: [0; 2048],
+        out: [0; 64],
+    };
     let mut buffer = [0u8; 65536];
     let mut text = [0u8; 65536];
     let mut input = rt.stdin();
     let mut output = rt.stdout();
     let mut errors = rt.stderr();
-    match run(
-        &mut input,
-        &mut output,
-        &mut table,
-        &mut rings,
-        &mut out,
-        &mut buffer,
-        &mut text,
-    ) {
-        Outcome::Answered => {}
-        Outcome::ReadFailed => complain(&mut errors, b"replay: standard input cannot be read\n"),
-        Outcome::WriteFailed => complain(
-            &mut errors,
-            b"replay: standard output cannot be written\n",
-        ),
-        Outcome::TurnsOver => complain(&mut errors, b"replay: the input is too long\n"),
+    if let Err(failure) = run(&mut input, &mut output, &mut stores, &mut buffer, &mut text) {
+        // That this line cannot be written is passed over.
+        let _ = writeln!(errors, "replay: {failure}");
     }
 }

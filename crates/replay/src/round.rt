@@ -1,58 +1,15 @@
 // A round of the program: what came is answered, and how the program goes on.
-ghost use Rattle.std.specs.Prelude.{◌≡◌, ◌-◌, ◌≤◌, length, take, drop};
+ghost use Rattle.std.specs.Prelude.{◌≡◌, ◌≤◌};
 ghost use Rattle.wire_line.specs.Text.{Puts};
 ghost use Rattle.replay.specs.Rounds.{cut_line};
-ghost use Rattle.replay.specs.Place.{Sized, InBuffer, Left, Finished, Rounded};
+ghost use Rattle.replay.specs.Place.{Finished, Rounded};
 
+use crate::place::{Next, Place};
 use model::{Answer, Refusal};
+use replay_serve::calls::Stores;
 use replay_serve::serve;
-use replay_serve::serve::{Found, Reached};
 use wire_line::line;
-
-// What comes next: a read; a round over the bytes in the buffer; the last round, as the input has ended; nothing.
-#[derive(Clone, Copy)]
-pub enum Next {
-    Read,
-    Answer,
-    End,
-    Stop,
-}
-
-// The bytes of the buffer from `at` to `have` are not answered yet, and `end` bytes of the text are due to be written.
-#[derive(Clone, Copy)]
-pub struct Place {
-    pub next: Next,
-    pub at: usize,
-    pub have: usize,
-    pub end: usize,
-}
-
-impl Place {
-    pub fn new(next: Next, at: usize, have: usize, end: usize) -> Place
-        ensures { result ≡ record { next = next; at = at; have = have; end = end } }
-    {
-        Place {
-            next: next,
-            at: at,
-            have: have,
-            end: end,
-        }
-    }
-}
-
-// Moves the bytes from one place to another to the front; answers how many there are.
-fn shift(buffer: &mut [u8], from: usize, to: usize) -> usize
-    requires { (from ≤ to) × (to ≤ length buffer.old) }
-    ensures { (result ≡ to - from) × (take (to - from) buffer.new ≡ take (to - from) (drop from buffer.old)) }
-{
-    let n = to - from;
-    let mut i = 0;
-    while i < n {
-        buffer[i] = buffer[from + i];
-        i += 1;
-    }
-    n
-}
+use wire_record::record::Unread;
 
 // Input that ends inside a record is malformed.
 fn ending(text: &mut [u8; 65536], left: usize) -> usize
@@ -67,68 +24,68 @@ fn ending(text: &mut [u8; 65536], left: usize) -> usize
     line::put_line(text, 0, refused, &[])
 }
 
-// What comes after the records that were answered. Where the program reads, the bytes that are left go to the front.
-fn leave(t: Reached, buffer: &mut [u8; 65536], have: usize) -> Place
-    requires { (t.at ≤ have) × (have ≤ 65536) }
-    ensures { Left t have buffer.old buffer.new result }
+// The line that is due where the input has ended.
+fn finish(place: Place, text: &mut [u8; 65536]) -> Place
+    ensures { Finished place text.old text.new result }
 {
-    let found = t.found;
-    let at = t.at;
-    let end = t.end;
-    match found {
-        Found::Malformed => Place::new(Next::Stop, at, have, end),
-        Found::Answered => Place::new(Next::Answer, at, have, end),
-        Found::Incomplete => {
-            let left = shift(buffer, at, have);
-            Place::new(Next::Read, 0, left, end)
-        }
+    Place {
+        next: Next::Stop,
+        at: place.at,
+        have: place.have,
+        end: ending(text, place.have - place.at),
     }
 }
 
-// The line that is due where the input has ended.
-fn finish(place: Place, text: &mut [u8; 65536]) -> Place
-    requires { InBuffer place }
-    ensures { Finished place text.old text.new result }
-{
-    let at = place.at;
-    let have = place.have;
-    let end = ending(text, have - at);
-    Place::new(Next::Stop, at, have, end)
-}
-
-// Answers records of the buffer.
+// Answers records of the buffer. Where the program then reads, the bytes that are left go to the front.
 fn answer_more(
     place: Place,
     buffer: &mut [u8; 65536],
-    table: &mut [u64; 4096],
-    rings: &mut [u64; 2048],
-    out: &mut [u64; 64],
+    stores: &mut Stores,
     text: &mut [u8; 65536],
 ) -> Place
-    requires { InBuffer place × Sized buffer.old × Sized text.old }
-    ensures { Rounded Next.Answer place (record { table = table.old; rings = rings.old; out = out.old }) buffer.old (record { table = table.new; rings = rings.new; out = out.new }) buffer.new text.new result }
+    ensures { Rounded Next.Answer place stores.old buffer.old stores.new buffer.new text.new result }
 {
-    let at = place.at;
     let have = place.have;
-    let t = serve::serve(buffer, at, have, table, rings, out, text);
-    leave(t, buffer, have)
+    let reached = serve::serve(&buffer[..have], place.at, stores, text);
+    let at = reached.at;
+    let end = reached.end;
+    match reached.found {
+        Ok(()) => Place {
+            next: Next::Answer,
+            at,
+            have,
+            end,
+        },
+        Err(Unread::Incomplete) => {
+            buffer.copy_within(at..have, 0);
+            Place {
+                next: Next::Read,
+                at: 0,
+                have: have - at,
+                end,
+            }
+        }
+        Err(Unread::Malformed) => Place {
+            next: Next::Stop,
+            at,
+            have,
+            end,
+        },
+    }
 }
 
 // One round. Nothing of the text may be due, as it is put anew.
 pub fn round(
     place: Place,
     buffer: &mut [u8; 65536],
-    table: &mut [u64; 4096],
-    rings: &mut [u64; 2048],
-    out: &mut [u64; 64],
+    stores: &mut Stores,
     text: &mut [u8; 65536],
 ) -> Place
-    requires { InBuffer place × Sized buffer.old × Sized text.old × (place.end ≡ 0) }
-    ensures { Rounded place.next place (record { table = table.old; rings = rings.old; out = out.old }) buffer.old (record { table = table.new; rings = rings.new; out = out.new }) buffer.new text.new result }
+    requires { place.end ≡ 0 }
+    ensures { Rounded place.next place stores.old buffer.old stores.new buffer.new text.new result }
 {
-    let next = place.next;
-    if let Next::End = next {
+    if place.next == Next::End {
         return finish(place, text);
     }
-    answer_more(place, buffer, table, rings, out, text)
+    answer_more(place, buffer, stores, text)
 }

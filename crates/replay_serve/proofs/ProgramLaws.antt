@@ -15,8 +15,7 @@ use Rattle.model.specs.Lists.{Each}
 use Rattle.model.specs.Opening.{opened_state}
 use Rattle.model.specs.Runs.{after_list}
 use Rattle.wire_record.specs.declared.record.Record.{Record}
-use Rattle.wire_record.specs.declared.record.Parsed.TheVariants.{Whole}
-use Rattle.wire_record.specs.Record.{parse}
+use Rattle.wire_record.specs.Record.{whole, parse}
 use Rattle.wire_record.specs.Stream.{Reads, one}
 use Rattle.store.specs.View.{view}
 use Rattle.opening.proofs.OpeningLaws.{open_view}
@@ -24,7 +23,8 @@ use Rattle.order.specs.InOrder.{lengths_test, header_test, in_order}
 use Rattle.fanring.specs.Checked.{checked}
 use Rattle.fanring.specs.Runs.{checked_words, checked_output, the_calls}
 use Rattle.fanring.proofs.Demands.{refusals_change_nothing}
-use Rattle.replay_serve.specs.Calls.{Stores, lent_call, called, answered, stores_after, started}
+use Rattle.replay_serve.specs.declared.calls.Stores.{Stores}
+use Rattle.replay_serve.specs.Calls.{lent_call, called, answered, stores_after, started}
 use Rattle.replay_serve.proofs.ReadLaws.{record_lends, record_fits}
 use Rattle.replay_serve.specs.Program.{OpensNothing, BeforeOpening, Openings, CallsAsListed}
 
@@ -71,7 +71,7 @@ openings = record { afresh = opened_afresh; refused = open_refused }
 
 -- ---- calls
 
-call_as_listed : (b : List ℕ) (c : Call) (n : ℕ) → parse b ≡ Whole (Record.Call c) n → (s : Stores) → answered (Record.Call c) s ≡ called s c
+call_as_listed : (b : List ℕ) (c : Call) (n : ℕ) → parse b ≡ whole (Record.Call c) n → (s : Stores) → answered (Record.Call c) s ≡ called s c
 unfolding answered
 call_as_listed b c n e s = ap (called s) (record_lends b e)
 

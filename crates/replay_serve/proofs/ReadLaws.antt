@@ -11,8 +11,10 @@ use lib.ListN.{length, get_or, get_elem?}
 use Rattle.model.specs.Lists.{Each}
 use Rattle.model.specs.Simulation.{numbers_of_id, numbers_of_call, Fits}
 use Rattle.wire_record.specs.declared.record.Record.{Record}
-use Rattle.wire_record.specs.declared.record.Parsed.TheVariants.{Incomplete, Malformed, Whole}
-use Rattle.wire_record.specs.Record.{Kind, kinds, number, field, size, kind_of, parse_as, parse}
+use Rattle.std.specs.Prelude.{Err}
+use Rattle.wire_record.specs.declared.record.Unread.TheVariants.{Incomplete, Malformed}
+use Rattle.wire_record.specs.Record.{Kind, kinds, number, field, size, kind_of, whole, parse_as, parse}
+use Rattle.wire_record.proofs.ParseLaws.{same_record}
 use Rattle.replay_serve.specs.Calls.{lent_call}
 use Rattle.replay_serve.specs.Program.{RecordFits}
 
@@ -23,21 +25,21 @@ listed P (k ∷ l) (p, u) zero e = subst P (cc e) p
 listed P (k ∷ l) (p, u) (suc i) e = listed P l u i e
 
 module _ (P : Record → Type 0) (b : List ℕ) (all : Each (λ k. P (k.says b)) kinds) {r : Record} {n : ℕ} where
-  said_as : (o : Option Kind) → kind_of b ≡ o → parse_as o b ≡ Whole r n → P r
+  said_as : (o : Option Kind) → kind_of b ≡ o → parse_as o b ≡ whole r n → P r
   unfolding parse_as
   said_as none f e = let z : ◌≡◌ {A = ℕ} 0 1 = cc in absurd (omega arith)
   said_as (some k) f e = go (eqb (number b 0 2) (2 + 8 * k.fields)) (ltb (length b) (size k.fields)) e
     where
-      go : (x y : Bool) → cond x (cond y Incomplete (Whole (k.says b) (size k.fields))) Malformed ≡ Whole r n → P r
-      go true false g = let q : k.says b ≡ r = cc in subst P q (listed (λ k. P (k.says b)) kinds all (number b 2 2) f)
+      go : (x y : Bool) → cond x (cond y (Err Incomplete) (whole (k.says b) (size k.fields))) (Err Malformed) ≡ whole r n → P r
+      go true false g = let q : k.says b ≡ r = same_record g in subst P q (listed (λ k. P (k.says b)) kinds all (number b 2 2) f)
       go true true g = let z : ◌≡◌ {A = ℕ} 0 1 = cc in absurd (omega arith)
       go false y g = let z : ◌≡◌ {A = ℕ} 0 1 = cc in absurd (omega arith)
 
-  read_as : parse b ≡ Whole r n → P r
+  read_as : parse b ≡ whole r n → P r
   unfolding parse
   read_as e = go (ltb (length b) 4) e
     where
-      go : (x : Bool) → cond x Incomplete (parse_as (kind_of b) b) ≡ Whole r n → P r
+      go : (x : Bool) → cond x (Err Incomplete) (parse_as (kind_of b) b) ≡ whole r n → P r
       go true f = let z : ◌≡◌ {A = ℕ} 0 1 = cc in absurd (omega arith)
       go false f = said_as (kind_of b) refl f
 
@@ -51,7 +53,7 @@ kinds_lend : (b : List ℕ) → Each (λ k. Lends (k.says b)) kinds
 unfolding Each
 kinds_lend b = (tt, (refl, (refl, (refl, (refl, (refl, (refl, (refl, (refl, (refl, (refl, (refl, (refl, (refl, (refl, (refl, (refl, tt)))))))))))))))))
 
-pub record_lends : (b : List ℕ) {r : Record} {n : ℕ} → parse b ≡ Whole r n → Lends r
+pub record_lends : (b : List ℕ) {r : Record} {n : ℕ} → parse b ≡ whole r n → Lends r
 record_lends b e = read_as Lends b (kinds_lend b) e
 
 -- ---- numbers that fit
@@ -88,5 +90,5 @@ module _ (b : List ℕ) (u : Each (λ x. x < 256) b) where
         ((f, tt), ((f, (g, (h, tt))), ((f, (g, (h, tt))), ((f, (g, tt)), (tt, (tt, ((f, (g, (h, (k, tt)))), ((f, (omega arith, tt)), ((f, (g, (h, (k, tt)))), ((f, (g, (h, (k, tt)))), ((f, (g, (h, (k, tt)))), (tt, (tt, (tt, (tt, ((f, (g, (omega arith, tt))), tt)))))))))))))))),
       )
 
-  pub record_fits : {r : Record} {n : ℕ} → parse b ≡ Whole r n → RecordFits r
+  pub record_fits : {r : Record} {n : ℕ} → parse b ≡ whole r n → RecordFits r
   record_fits e = read_as RecordFits b kinds_fit e

@@ -10,12 +10,7 @@ use Rattle.wire_record.specs.declared.record.Record.{Record}
 use Rattle.wire_record.specs.Record.{room}
 use Rattle.wire_line.specs.Text.{answer_text}
 use Rattle.fanring.specs.Runs.{the_calls}
-
--- the table store, the ring store and the output
-pub record Stores : Type 0 where
-  pub table : List ℕ
-  pub rings : List ℕ
-  pub out : List ℕ
+use Rattle.replay_serve.specs.declared.calls.Stores.{Stores}
 
 -- a batch is lent the whole output, whatever it was asked for with; other calls are lent none
 abbrev pub lent : ReceiveCall → ReceiveCall

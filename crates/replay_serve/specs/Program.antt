@@ -11,12 +11,12 @@ use Rattle.model.specs.Opening.{opened_state}
 use Rattle.model.specs.Runs.{after_list}
 use Rattle.model.specs.Simulation.{Fits, CallFits}
 use Rattle.wire_record.specs.declared.record.Record.{Record}
-use Rattle.wire_record.specs.declared.record.Parsed.TheVariants.{Whole}
-use Rattle.wire_record.specs.Record.{parse}
+use Rattle.wire_record.specs.Record.{whole, parse}
 use Rattle.wire_record.specs.Stream.{Reads}
 use Rattle.store.specs.View.{view}
 use Rattle.fanring.specs.Runs.{the_calls}
-use Rattle.replay_serve.specs.Calls.{Stores, called, answered, stores_after, started}
+use Rattle.replay_serve.specs.declared.calls.Stores.{Stores}
+use Rattle.replay_serve.specs.Calls.{called, answered, stores_after, started}
 
 -- ---- "Before an opening: refusal 5 to every kind but 0."
 
@@ -46,7 +46,7 @@ RecordFits (Record.Call c) = CallFits c
 -- A call that was read from bytes is answered as it is in a list of calls: a batch was read with the room that it is lent.
 -- So what is claimed of lists of calls (crates/fanring/specs/Demands.antt) is claimed of the program's calls, from an accepted opening on.
 pub record CallsAsListed : Type 0 where
-  pub fit : (b : List ℕ) → Each (λ x. x < 256) b → (r : Record) (n : ℕ) → parse b ≡ Whole r n → RecordFits r
-  pub of_one : (b : List ℕ) (c : Call) (n : ℕ) → parse b ≡ Whole (Record.Call c) n → (s : Stores) → answered (Record.Call c) s ≡ called s c
+  pub fit : (b : List ℕ) → Each (λ x. x < 256) b → (r : Record) (n : ℕ) → parse b ≡ whole r n → RecordFits r
+  pub of_one : (b : List ℕ) (c : Call) (n : ℕ) → parse b ≡ whole (Record.Call c) n → (s : Stores) → answered (Record.Call c) s ≡ called s c
   pub of_many : (b rest : List ℕ) (cs : List Call) → Reads b (map (λ (c : Call). Record.Call c) cs) rest → (s : Stores)
       → let u = stores_after (map (λ (c : Call). Record.Call c) cs) s in (u.table, u.rings) ≡ after_list the_calls (s.table, s.rings) cs

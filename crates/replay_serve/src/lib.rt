@@ -1,4 +1,4 @@
 #![tactic(auto)]
 // Answers document 01's records: each by its call on the stores, and on a line of the text.
-mod calls;
+pub mod calls;
 pub mod serve;

@@ -7,12 +7,13 @@ use mathlib.Core.Option.{Option, none, some}
 use Prim.Native.Nat.{ℕ, zero, suc, ◌+◌, ◌*◌, ◌≤◌, ◌<◌}
 use native.Mathlib.Nat.{le_of_suc-le-suc, not-suc-le-zero}
 use native.Mathlib.Omega.{arith}
-use lib.ListN.{length, get_or, get_elem?}
+use lib.ListN.{length, get_elem?}
 use lib.Dec.{leb}
 use borrow.Author.Tests.{leb-true, lt-ltb, le-ltb, eq-eqb, ne_eqb}
 use Rattle.wire_record.specs.declared.record.Record.{Record}
-use Rattle.wire_record.specs.declared.record.Parsed.TheVariants.{Incomplete, Malformed, Whole}
-use Rattle.wire_record.specs.Record.{Kind, kinds, most_fields, number, said, said_by, fields_of, fields_by, size, parse_as, parse}
+use Rattle.std.specs.Prelude.{Err}
+use Rattle.wire_record.specs.declared.record.Unread.TheVariants.{Incomplete, Malformed}
+use Rattle.wire_record.specs.Record.{Kind, kinds, most_fields, number, said, said_by, fields_of, fields_by, size, whole, parse_as, parse}
 
 and_left : (x y : Bool) → (x && y) ≡ true → x ≡ true
 and_left true y e = refl
@@ -21,13 +22,6 @@ and_left false y e = e
 and_right : (x y : Bool) → (x && y) ≡ true → y ≡ true
 and_right true y e = e
 and_right false y e = let z : ◌≡◌ {A = ℕ} 0 1 = cc in absurd (omega arith)
-
--- the kind under a number that is known
-pub room_for : (j : ℕ) {k l : ℕ} → k ≡ j → size (fields_of k) ≤ l → size (fields_of j) ≤ l
-room_for j {k} {l} e h = subst (λ (x : ℕ). size (fields_of x) ≤ l) e h
-
-pub said_as : (j : ℕ) {k : ℕ} (b : List ℕ) → k ≡ j → said k b ≡ said j b
-said_as j b e = ap (λ (x : ℕ). said x b) e
 
 -- ---- a number is listed exactly if it is below 17
 
@@ -41,55 +35,40 @@ in_list [] k h e = not-suc-le-zero h
 in_list (x ∷ l) zero h e = let z : ◌≡◌ {A = ℕ} 0 1 = cc in omega arith
 in_list (x ∷ l) (suc k) h e = in_list l k (le_of_suc-le-suc h) e
 
--- ---- the number of fields, as the code has it
+-- ---- the number of fields
 
-abbrev pub counts : List ℕ
-counts = 6 ∷ 1 ∷ 3 ∷ 3 ∷ 2 ∷ 0 ∷ 0 ∷ 4 ∷ 1 ∷ 4 ∷ 4 ∷ 4 ∷ 0 ∷ 0 ∷ 0 ∷ 0 ∷ 2 ∷ []
-
-abbrev field_counts : List Kind → List ℕ
-field_counts [] = []
-field_counts (x ∷ l) = x.fields ∷ field_counts l
-
-count_at : (l : List Kind) (k : ℕ) → get_or (field_counts l) k 0 ≡ fields_by (get_elem? l k)
-count_at [] k = refl
-count_at (x ∷ l) zero = refl
-count_at (x ∷ l) (suc k) = count_at l k
-
-pub fields_listed : (k : ℕ) → get_or counts k 0 ≡ fields_of k
-unfolding fields_of
-fields_listed k = count_at kinds k
-
-abbrev within_most : List ℕ → Bool
+abbrev within_most : List Kind → Bool
 within_most [] = true
-within_most (x ∷ l) = leb x most_fields && within_most l
+within_most (x ∷ l) = leb x.fields most_fields && within_most l
 
-most_fields_lem : (l : List ℕ) (k : ℕ) → within_most l ≡ true → get_or l k 0 ≤ most_fields
+most_fields_lem : (l : List Kind) (k : ℕ) → within_most l ≡ true → fields_by (get_elem? l k) ≤ most_fields
 most_fields_lem [] k e = omega arith
-most_fields_lem (x ∷ l) zero e = leb-true x most_fields (and_left (leb x most_fields) (within_most l) e)
-most_fields_lem (x ∷ l) (suc k) e = most_fields_lem l k (and_right (leb x most_fields) (within_most l) e)
+most_fields_lem (x ∷ l) zero e = leb-true x.fields most_fields (and_left (leb x.fields most_fields) (within_most l) e)
+most_fields_lem (x ∷ l) (suc k) e = most_fields_lem l k (and_right (leb x.fields most_fields) (within_most l) e)
 
-pub few_fields : (k : ℕ) → get_or counts k 0 ≤ most_fields
-few_fields k = most_fields_lem counts k refl
+pub few_fields : (k : ℕ) → fields_of k ≤ most_fields
+unfolding fields_of
+few_fields k = most_fields_lem kinds k refl
 
 -- ---- the record at the head, by the tests that the code makes
 
 module _ (b : List ℕ) where
-  cut_short : (o : Option Kind) → (o ≡ none → ⊥) → number b 0 2 ≡ 2 + 8 * fields_by o → length b < size (fields_by o) → Incomplete ≡ parse_as o b
+  cut_short : (o : Option Kind) → (o ≡ none → ⊥) → number b 0 2 ≡ 2 + 8 * fields_by o → length b < size (fields_by o) → Err Incomplete ≡ parse_as o b
   unfolding parse_as
   cut_short none f e h = absurd (f refl)
   cut_short (some k) f e h = simp (eq-eqb _ _ e, lt-ltb _ _ h)
 
-  other_length : (o : Option Kind) → (number b 0 2 ≡ 2 + 8 * fields_by o → ⊥) → Malformed ≡ parse_as o b
+  other_length : (o : Option Kind) → (number b 0 2 ≡ 2 + 8 * fields_by o → ⊥) → Err Malformed ≡ parse_as o b
   unfolding parse_as
   other_length none f = refl
   other_length (some k) f = simp (ne_eqb _ _ f)
 
-  all_there : (o : Option Kind) (r : Record) → said_by o b ≡ some r → number b 0 2 ≡ 2 + 8 * fields_by o → size (fields_by o) ≤ length b → Whole r (size (fields_by o)) ≡ parse_as o b
+  all_there : (o : Option Kind) (r : Record) → said_by o b ≡ some r → number b 0 2 ≡ 2 + 8 * fields_by o → size (fields_by o) ≤ length b → whole r (size (fields_by o)) ≡ parse_as o b
   unfolding parse_as
   all_there none r s e h = let z : ◌≡◌ {A = ℕ} 0 1 = cc in absurd (omega arith)
   all_there (some k) r s e h = simp (eq-eqb _ _ e, le-ltb _ _ h) (cc)
 
-  pub parse_few : length b < 4 → Incomplete ≡ parse b
+  pub parse_few : length b < 4 → Err Incomplete ≡ parse b
   unfolding parse
   parse_few h = simp (lt-ltb _ _ h)
 
@@ -98,7 +77,7 @@ module _ (b : List ℕ) where
     unfolding parse
     from_kind = simp (le-ltb _ _ h, ← ek)
 
-    pub parse_unlisted : 16 < k → Malformed ≡ parse b
+    pub parse_unlisted : 16 < k → Err Malformed ≡ parse b
     unfolding parse_as
     parse_unlisted l = sym (from_kind ∙ ap (λ (o : Option Kind). parse_as o b) (past_list kinds k l))
 
@@ -106,17 +85,17 @@ module _ (b : List ℕ) where
       own_length : len ≡ 2 + 8 * n → number b 0 2 ≡ 2 + 8 * fields_of k
       own_length e = sym el ∙ e ∙ ap (λ (x : ℕ). 2 + 8 * x) en
 
-      pub parse_other_length : (len ≡ 2 + 8 * n → ⊥) → Malformed ≡ parse b
+      pub parse_other_length : (len ≡ 2 + 8 * n → ⊥) → Err Malformed ≡ parse b
       unfolding fields_of
       parse_other_length f = other_length (get_elem? kinds k) (λ e. f (el ∙ e ∙ sym (ap (λ (x : ℕ). 2 + 8 * x) en))) ∙ sym from_kind
 
-      pub parse_cut : k ≤ 16 → len ≡ 2 + 8 * n → length b < size n → Incomplete ≡ parse b
+      pub parse_cut : k ≤ 16 → len ≡ 2 + 8 * n → length b < size n → Err Incomplete ≡ parse b
       unfolding fields_of
       parse_cut l e c = cut_short (get_elem? kinds k) (in_list kinds k (omega arith)) (own_length e) (subst (λ (x : ℕ). length b < size x) en c) ∙ sym from_kind
 
-      pub parse_whole : (r : Record) → said k b ≡ some r → len ≡ 2 + 8 * n → size n ≤ length b → Whole r (size n) ≡ parse b
+      pub parse_whole : (r : Record) → said k b ≡ some r → len ≡ 2 + 8 * n → size n ≤ length b → whole r (size n) ≡ parse b
       unfolding fields_of said
       parse_whole r s e c =
-          ap (λ (x : ℕ). Whole r (size x)) en
+          ap (λ (x : ℕ). whole r (size x)) en
           ∙ all_there (get_elem? kinds k) r s (own_length e) (subst (λ (x : ℕ). size x ≤ length b) en c)
           ∙ sym from_kind

@@ -15,8 +15,10 @@ use Rattle.model.specs.declared.ControlCall.TheVariants.{Pause, Resume, CloseLan
 use Rattle.model.specs.declared.Call.TheVariants.{Receive, Control}
 use Rattle.wire_record.specs.declared.record.Record.{Record}
 use Rattle.wire_record.specs.declared.record.Record.TheVariants.{Call}
-use Rattle.wire_record.specs.declared.record.Parsed.TheVariants.{Incomplete, Malformed, Whole}
-use Rattle.wire_record.specs.Record.{Kind, kinds, number, field, id, size, kind_of, parse_as, parse}
+use Rattle.std.specs.Prelude.{Err}
+use Rattle.wire_record.specs.declared.record.Unread.TheVariants.{Incomplete, Malformed}
+use Rattle.wire_record.proofs.ParseLaws.{same_record, same_size}
+use Rattle.wire_record.specs.Record.{Kind, kinds, number, field, id, size, kind_of, whole, parse_as, parse}
 
 number_more : (b c : List ℕ) (i n : ℕ) → i + n ≤ length b → number (b ++ c) i n ≡ number b i n
 unfolding number
@@ -75,25 +77,25 @@ record Found (b : List ℕ) (r : Record) (n : ℕ) : Type 0 where
   takes : size kind.fields ≡ n
 
 module _ {r : Record} {n : ℕ} (b : List ℕ) where
-  found_as : (o : Option Kind) → kind_of b ≡ o → parse_as o b ≡ Whole r n → Found b r n
+  found_as : (o : Option Kind) → kind_of b ≡ o → parse_as o b ≡ whole r n → Found b r n
   unfolding parse_as
   found_as none l e = let z : ◌≡◌ {A = ℕ} 0 1 = cc in absurd (omega arith)
   found_as (some k) l e = go (eqb (number b 0 2) (2 + 8 * k.fields)) (ltb (length b) (size k.fields)) refl refl e
     where
-      go : (x y : Bool) → eqb (number b 0 2) (2 + 8 * k.fields) ≡ x → ltb (length b) (size k.fields) ≡ y → cond x (cond y Incomplete (Whole (k.says b) (size k.fields))) Malformed ≡ Whole r n → Found b r n
-      go true false q m f = record { kind = k; listed = l; own = eqb-true _ _ q; there = ltb-false _ _ m; says = (cc); takes = (cc) }
+      go : (x y : Bool) → eqb (number b 0 2) (2 + 8 * k.fields) ≡ x → ltb (length b) (size k.fields) ≡ y → cond x (cond y (Err Incomplete) (whole (k.says b) (size k.fields))) (Err Malformed) ≡ whole r n → Found b r n
+      go true false q m f = record { kind = k; listed = l; own = eqb-true _ _ q; there = ltb-false _ _ m; says = same_record f; takes = same_size f }
       go true true q m f = let z : ◌≡◌ {A = ℕ} 0 1 = cc in absurd (omega arith)
       go false y q m f = let z : ◌≡◌ {A = ℕ} 0 1 = cc in absurd (omega arith)
 
-  parse_found : parse b ≡ Whole r n → Found b r n
+  parse_found : parse b ≡ whole r n → Found b r n
   unfolding parse
   parse_found e = go (ltb (length b) 4) e
     where
-      go : (x : Bool) → cond x Incomplete (parse_as (kind_of b) b) ≡ Whole r n → Found b r n
+      go : (x : Bool) → cond x (Err Incomplete) (parse_as (kind_of b) b) ≡ whole r n → Found b r n
       go true f = let z : ◌≡◌ {A = ℕ} 0 1 = cc in absurd (omega arith)
       go false f = found_as (kind_of b) refl f
 
-  found_parse : Found b r n → parse b ≡ Whole r n
+  found_parse : Found b r n → parse b ≡ whole r n
   unfolding parse parse_as
   found_parse f =
       let h : 4 ≤ length b = omega (arith, f.there) in
@@ -118,32 +120,32 @@ module _ (b c : List ℕ) where
         takes = f.takes;
       }
 
-  pub whole_more : {r : Record} {n : ℕ} → parse b ≡ Whole r n → parse (b ++ c) ≡ Whole r n
+  pub whole_more : {r : Record} {n : ℕ} → parse b ≡ whole r n → parse (b ++ c) ≡ whole r n
   whole_more e = found_parse (b ++ c) (found_more (parse_found b e))
 
-  malformed_as : (o : Option Kind) → 4 ≤ length b → parse_as o b ≡ Malformed → parse_as o (b ++ c) ≡ Malformed
+  malformed_as : (o : Option Kind) → 4 ≤ length b → parse_as o b ≡ Err Malformed → parse_as o (b ++ c) ≡ Err Malformed
   unfolding parse_as
   malformed_as none h e = refl
   malformed_as (some k) h e = go (eqb (number b 0 2) (2 + 8 * k.fields)) (ltb (length b) (size k.fields)) refl e
     where
-      go : (x y : Bool) → eqb (number b 0 2) (2 + 8 * k.fields) ≡ x → cond x (cond y Incomplete (Whole (k.says b) (size k.fields))) Malformed ≡ Malformed → parse_as (some k) (b ++ c) ≡ Malformed
+      go : (x y : Bool) → eqb (number b 0 2) (2 + 8 * k.fields) ≡ x → cond x (cond y (Err Incomplete) (whole (k.says b) (size k.fields))) (Err Malformed) ≡ Err Malformed → parse_as (some k) (b ++ c) ≡ Err Malformed
       go true true q f = let z : ◌≡◌ {A = ℕ} 0 1 = cc in absurd (omega arith)
       go true false q f = let z : ◌≡◌ {A = ℕ} 0 1 = cc in absurd (omega arith)
       go false y q f = simp (number_more b c 0 2 (omega arith), q)
 
-  pub malformed_long : parse b ≡ Malformed → 4 ≤ length b
+  pub malformed_long : parse b ≡ Err Malformed → 4 ≤ length b
   unfolding parse
   malformed_long e = go (ltb (length b) 4) refl e
     where
-      go : (x : Bool) → ltb (length b) 4 ≡ x → cond x Incomplete (parse_as (kind_of b) b) ≡ Malformed → 4 ≤ length b
+      go : (x : Bool) → ltb (length b) 4 ≡ x → cond x (Err Incomplete) (parse_as (kind_of b) b) ≡ Err Malformed → 4 ≤ length b
       go true q f = let z : ◌≡◌ {A = ℕ} 0 1 = cc in absurd (omega arith)
       go false q f = ltb-false _ _ q
 
-  pub malformed_more : parse b ≡ Malformed → parse (b ++ c) ≡ Malformed
+  pub malformed_more : parse b ≡ Err Malformed → parse (b ++ c) ≡ Err Malformed
   unfolding parse
   malformed_more e = go (ltb (length b) 4) refl e
     where
-      go : (x : Bool) → ltb (length b) 4 ≡ x → cond x Incomplete (parse_as (kind_of b) b) ≡ Malformed → parse (b ++ c) ≡ Malformed
+      go : (x : Bool) → ltb (length b) 4 ≡ x → cond x (Err Incomplete) (parse_as (kind_of b) b) ≡ Err Malformed → parse (b ++ c) ≡ Err Malformed
       go true q f = let z : ◌≡◌ {A = ℕ} 0 1 = cc in absurd (omega arith)
       go false q f =
           let h : 4 ≤ length b = ltb-false _ _ q in

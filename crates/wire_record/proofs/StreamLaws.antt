@@ -11,9 +11,9 @@ use lib.Dec.{eqb}
 use lib.ListN.{length, drop, length-drop, length-append}
 use lib.Seq.{drop-append-le}
 use Rattle.wire_record.specs.declared.record.Record.{Record}
-use Rattle.wire_record.specs.declared.record.Parsed.{Parsed}
-use Rattle.wire_record.specs.declared.record.Parsed.TheVariants.{Incomplete, Malformed, Whole}
-use Rattle.wire_record.specs.Record.{parse}
+use Rattle.std.specs.Prelude.{Ok, Err}
+use Rattle.wire_record.specs.declared.record.Unread.TheVariants.{Incomplete, Malformed}
+use Rattle.wire_record.specs.Record.{Parsed, whole, parse}
 use Rattle.wire_record.specs.Stream.{Stream, no_more, and_then, stream_from, stream_in, stream, ended, malformed, Reads, none, one, and_then_all}
 use Rattle.wire_record.proofs.ParseLaws.{parse_inside}
 use Rattle.wire_record.proofs.MoreLaws.{whole_more, malformed_long, malformed_more}
@@ -32,17 +32,17 @@ stream_enough (suc f) (suc g) b p q =
     ap (λ (s : Stream). cond (eqb (length b) 0) (no_more ended) s) (go (parse b) refl (λ l h i. stream_enough f g l h i))
   where
     go : (x : Parsed) → parse b ≡ x → ((l : List ℕ) → length l ≤ f → length l ≤ g → stream_in f l ≡ stream_in g l) → stream_from x (λ (l : List ℕ). stream_in f l) b ≡ stream_from x (λ (l : List ℕ). stream_in g l) b
-    go Incomplete e ih = refl
-    go Malformed e ih = refl
-    go (Whole r n) e ih =
+    go (Err Incomplete) e ih = refl
+    go (Err Malformed) e ih = refl
+    go (Ok w) e ih =
         let i = parse_inside b e in
-        ap (and_then r) (ih (drop n b) (omega (arith, i.least, i.most, length-drop n b)) (omega (arith, i.least, i.most, length-drop n b)))
+        ap (and_then w.«record») (ih (drop w.size b) (omega (arith, i.least, i.most, length-drop w.size b)) (omega (arith, i.least, i.most, length-drop w.size b)))
 
-step : (f : ℕ) (b : List ℕ) {r : Record} {n : ℕ} → 0 < length b → parse b ≡ Whole r n → stream_in (suc f) b ≡ and_then r (stream_in f (drop n b))
+step : (f : ℕ) (b : List ℕ) {r : Record} {n : ℕ} → 0 < length b → parse b ≡ whole r n → stream_in (suc f) b ≡ and_then r (stream_in f (drop n b))
 unfolding stream_in
 step f b h e = simp (ne_eqb (length b) 0 (λ z. omega arith), e)
 
-pub stream_whole : (b : List ℕ) {r : Record} {n : ℕ} → parse b ≡ Whole r n → stream b ≡ and_then r (stream (drop n b))
+pub stream_whole : (b : List ℕ) {r : Record} {n : ℕ} → parse b ≡ whole r n → stream b ≡ and_then r (stream (drop n b))
 unfolding stream
 stream_whole b {r} {n} e =
     let i = parse_inside b e in
@@ -60,7 +60,7 @@ reads_first {b} (one {r = r} {n = n} e p) c =
     ∙ ap (and_then r) (reads_first p c)
 
 -- what is malformed stays so, whatever follows; and so is a beginning that nothing follows
-pub stream_malformed : (b c : List ℕ) → parse b ≡ Malformed → stream (b ++ c) ≡ no_more malformed
+pub stream_malformed : (b c : List ℕ) → parse b ≡ Err Malformed → stream (b ++ c) ≡ no_more malformed
 unfolding stream stream_in
 stream_malformed b c e =
     let h : 4 ≤ length b = malformed_long b c e in
@@ -68,13 +68,13 @@ stream_malformed b c e =
     stream_enough (length (b ++ c)) (suc (length (b ++ c))) (b ++ c) (le_refl _) (omega arith)
     ∙ simp (ne_eqb (length (b ++ c)) 0 (λ z. omega arith), malformed_more b c e)
 
-pub stream_cut : (b : List ℕ) → 0 < length b → parse b ≡ Incomplete → stream b ≡ no_more malformed
+pub stream_cut : (b : List ℕ) → 0 < length b → parse b ≡ Err Incomplete → stream b ≡ no_more malformed
 unfolding stream stream_in
 stream_cut b h e =
     stream_enough (length b) (suc (length b)) b (le_refl _) (omega arith)
     ∙ simp (ne_eqb (length b) 0 (λ z. omega arith), e)
 
 -- one record more
-pub reads_one_more : {b rest : List ℕ} {rs : List Record} {r : Record} {n : ℕ} → Reads b rs rest → parse rest ≡ Whole r n → Reads b (rs ++ r ∷ []) (drop n rest)
+pub reads_one_more : {b rest : List ℕ} {rs : List Record} {r : Record} {n : ℕ} → Reads b rs rest → parse rest ≡ whole r n → Reads b (rs ++ r ∷ []) (drop n rest)
 reads_one_more none e = one e none
 reads_one_more (one f p) e = one f (reads_one_more p e)

@@ -1,3 +1,4 @@
+pub mod Kind
 pub mod Record
 pub mod Stream
 pub mod Examples

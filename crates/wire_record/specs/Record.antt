@@ -1,6 +1,6 @@
 -- Document 01, "Replay program": records on bytes, "u16 length of what follows, two-byte kind, u64 fields, all little-endian".
 -- Assumes nothing.
-use Rattle.std.specs.Prelude.{cond, List, [], ◌∷◌, ℕ, zero, suc, ◌+◌, ◌*◌, length, get_or, ltb, eqb}
+use Rattle.std.specs.Prelude.{cond, List, [], ◌∷◌, ℕ, zero, suc, ◌+◌, ◌*◌, length, get_or, ltb, eqb, Result, Ok, Err}
 use Rattle.std.proofs.Math.Option.{Option, none, some}
 use Rattle.std.proofs.Math.ListN.{get_elem?}
 use Rattle.model.specs.declared.LaneKey.{LaneKey}
@@ -12,8 +12,9 @@ use Rattle.model.specs.declared.ControlCall.TheVariants.{Pause, Resume, CloseLan
 use Rattle.model.specs.declared.Call.TheVariants.{Sender, Receive, Control}
 use Rattle.wire_record.specs.declared.record.Record.{Record}
 use Rattle.wire_record.specs.declared.record.Record.TheVariants.{Open, Call}
-use Rattle.wire_record.specs.declared.record.Parsed.{Parsed}
-use Rattle.wire_record.specs.declared.record.Parsed.TheVariants.{Incomplete, Malformed, Whole}
+use Rattle.wire_record.specs.declared.record.Whole.{Whole}
+use Rattle.wire_record.specs.declared.record.Unread.{Unread}
+use Rattle.wire_record.specs.declared.record.Unread.TheVariants.{Incomplete, Malformed}
 
 -- the number that the n bytes from place i on stand for: "little-endian", the lowest first
 unfoldable pub number : List ℕ → ℕ → ℕ → ℕ
@@ -96,16 +97,24 @@ fields_of k = fields_by (get_elem? kinds k)
 abbrev pub size : ℕ → ℕ
 size n = 4 + 8 * n
 
+-- what stands at the head of some bytes
+abbrev pub Parsed : Type 0
+Parsed = Result Whole Unread
+
+-- a record, and how many bytes it takes
+abbrev pub whole : Record → ℕ → Parsed
+whole r n = Ok (record { «record» = r; size = n })
+
 -- "Length 2 + 8 × fields"; once the length is right, the record is there as soon as all of its bytes are
 unfoldable pub parse_as : Option Kind → List ℕ → Parsed
-parse_as none b = Malformed
+parse_as none b = Err Malformed
 parse_as (some k) b =
     cond (eqb (number b 0 2) (2 + 8 * k.fields))
-    (cond (ltb (length b) (size k.fields)) Incomplete (Whole (k.says b) (size k.fields)))
-    Malformed
+    (cond (ltb (length b) (size k.fields)) (Err Incomplete) (whole (k.says b) (size k.fields)))
+    (Err Malformed)
 
 -- The record at the head of the bytes. "Malformed is a kind not listed, a length that is not its kind's, or input ending inside a record":
 -- the first two are told as soon as the four bytes of length and kind are there, whatever follows them, and not before; fewer bytes, and bytes that end inside a record
 -- whose length is its kind's, are incomplete: more bytes may make them a record, and where the input ends there it is malformed (`stream`).
 unfoldable pub parse : List ℕ → Parsed
-parse b = cond (ltb (length b) 4) Incomplete (parse_as (kind_of b) b)
+parse b = cond (ltb (length b) 4) (Err Incomplete) (parse_as (kind_of b) b)

@@ -1,10 +1,9 @@
 -- Document 01, "Replay program": the records of a whole input.
 -- Assumes nothing.
-use Rattle.std.specs.Prelude.{cond, List, [], ◌∷◌, ◌≡◌, ℕ, zero, suc, eqb, length, drop}
+use Rattle.std.specs.Prelude.{cond, List, [], ◌∷◌, ◌≡◌, ℕ, zero, suc, eqb, length, drop, Ok, Err}
 use Rattle.wire_record.specs.declared.record.Record.{Record}
-use Rattle.wire_record.specs.declared.record.Parsed.{Parsed}
-use Rattle.wire_record.specs.declared.record.Parsed.TheVariants.{Incomplete, Malformed, Whole}
-use Rattle.wire_record.specs.Record.{parse}
+use Rattle.wire_record.specs.declared.record.Unread.TheVariants.{Incomplete, Malformed}
+use Rattle.wire_record.specs.Record.{Parsed, whole, parse}
 
 -- after the last record: nothing, or what is malformed
 pub data Ending : Type 0 where
@@ -23,9 +22,9 @@ and_then r s = record { records = r ∷ s.records; ending = s.ending }
 
 -- by what stands at the head; "input ending inside a record" is malformed
 abbrev pub stream_from : Parsed → (List ℕ → Stream) → List ℕ → Stream
-stream_from (Whole r n) next b = and_then r (next (drop n b))
-stream_from Malformed next b = no_more malformed
-stream_from Incomplete next b = no_more malformed
+stream_from (Ok w) next b = and_then w.«record» (next (drop w.size b))
+stream_from (Err Malformed) next b = no_more malformed
+stream_from (Err Incomplete) next b = no_more malformed
 
 -- f is at least the number of bytes, and so of records
 unfoldable pub stream_in : ℕ → List ℕ → Stream
@@ -39,7 +38,7 @@ stream b = stream_in (length b) b
 -- the bytes b begin with these records, and the rest follows them
 pub data Reads : List ℕ → List Record → List ℕ → Type 0 where
   none : {b : List ℕ} → Reads b [] b
-  one : {b rest : List ℕ} {r : Record} {rs : List Record} {n : ℕ} → parse b ≡ Whole r n → Reads (drop n b) rs rest → Reads b (r ∷ rs) rest
+  one : {b rest : List ℕ} {r : Record} {rs : List Record} {n : ℕ} → parse b ≡ whole r n → Reads (drop n b) rs rest → Reads b (r ∷ rs) rest
 
 -- records before those of a stream
 abbrev pub and_then_all : List Record → Stream → Stream

@@ -1,8 +1,11 @@
 // Reads document 01's records: u16 length of what follows, two-byte kind, u64 fields, all little-endian.
 ghost use Rattle.std.specs.Prelude.{◌≡◌, ◌+◌, ◌*◌, ◌<◌, ◌≤◌, length};
 ghost use Rattle.std.proofs.Math.Option.{some};
-ghost use Rattle.wire_record.specs.Record.{number, field, key, id, opening, most_fields, fields_of, said, size, parse};
+ghost use Rattle.wire_record.specs.declared.record.Unread.TheVariants.{Malformed};
+ghost use Rattle.wire_record.specs.Kind.{code_of};
+ghost use Rattle.wire_record.specs.Record.{number, field, key, id, opening, fields_of, said, size, parse};
 
+use crate::kind::{Kind, UnknownKind};
 use model::{Call, ControlCall, LaneId, LaneKey, OpenedChannel, Opening, ReceiveCall, SenderCall};
 
 // What a record asks for.
@@ -12,44 +15,46 @@ pub enum Record {
     Call { call: Call },
 }
 
-// What stands at the head of some bytes.
+// A record that stands at the head of some bytes, and how many bytes it takes.
 #[derive(Clone, Copy)]
-pub enum Parsed {
+pub struct Whole {
+    pub record: Record,
+    pub size: usize,
+}
+
+// Why no record stands there.
+#[derive(Clone, Copy, Debug, PartialEq, Eq)]
+pub enum Unread {
     // So far a beginning of a record, or too few bytes to tell.
     Incomplete,
     // Neither a record nor the beginning of one.
     Malformed,
-    // A record, and how many bytes it takes.
-    Whole { record: Record, size: usize },
 }
 
-// How many u64 fields a record has, by its kind.
-const FIELDS: [u64; 17] = [6, 1, 3, 3, 2, 0, 0, 4, 1, 4, 4, 4, 0, 0, 0, 0, 2];
+impl From<UnknownKind> for Unread {
+    ghost from_gives = { λ _ e. e ≡ Malformed };
+
+    fn from(_e: UnknownKind) -> Unread {
+        Unread::Malformed
+    }
+}
 
 // The room of the output that the replay program lends to a batch.
 const ROOM: u64 = 64;
 
-fn wide(x: u8) -> u64
-    ensures { (result ≡ x) × (result < 256) }
-{
-    x as u64
-}
-
-fn u16_at(b: &[u8], i: usize) -> u64
+fn u16_at(b: &[u8], i: usize) -> u16
     requires { i + 2 ≤ length b.now }
-    ensures { (result ≡ number b.now i 2) × (result < 65536) }
+    ensures { result ≡ number b.now i 2 }
 {
-    wide(b[i]) + 256 * wide(b[i + 1])
+    u16::from_le_bytes(*b[i..].first_chunk().unwrap())
 }
 
+// Apart from `u16_at`: one function for both would need a trait of the two types' `from_le_bytes`, and so be no plainer.
 fn u64_at(b: &[u8], i: usize) -> u64
     requires { i + 8 ≤ length b.now }
     ensures { result ≡ number b.now i 8 }
 {
-    u16_at(b, i)
-        + 65536 * u16_at(b, i + 2)
-        + 4294967296 * u16_at(b, i + 4)
-        + 281474976710656 * u16_at(b, i + 6)
+    u64::from_le_bytes(*b[i..].first_chunk().unwrap())
 }
 
 fn field(b: &[u8], j: usize) -> u64
@@ -96,117 +101,68 @@ fn opening(b: &[u8]) -> Opening
     }
 }
 
-fn sender_call(b: &[u8], kind: u64) -> SenderCall
-    requires { (1 ≤ kind) × (kind ≤ 4) × (size (fields_of kind) ≤ length b.now) }
-    ensures { said kind b.now ≡ some (Record.Call (Call.Sender result)) }
+#[tactic(auto, unfolding(crate::specs::Record::said, crate::specs::Record::fields_of))]
+fn record_of(b: &[u8], kind: Kind) -> Record
+    requires { size (fields_of (code_of kind)) ≤ length b.now }
+    ensures { said (code_of kind) b.now ≡ some result }
 {
-    match kind {
-        1 => SenderCall::RegisterSender { most: field(b, 0) },
-        2 => SenderCall::TrySend {
+    let call = match kind {
+        Kind::Open => {
+            return Record::Open {
+                opening: opening(b),
+            };
+        }
+        Kind::RegisterSender => Call::Sender(SenderCall::RegisterSender { most: field(b, 0) }),
+        Kind::TrySend => Call::Sender(SenderCall::TrySend {
             key: key(b, 0),
             item: field(b, 2),
-        },
-        3 => SenderCall::TrySendUnsignaled {
+        }),
+        Kind::TrySendUnsignaled => Call::Sender(SenderCall::TrySendUnsignaled {
             key: key(b, 0),
             item: field(b, 2),
-        },
-        _ => SenderCall::DropSender { key: key(b, 0) },
-    }
-}
-
-fn receive_call(b: &[u8], kind: u64) -> ReceiveCall
-    requires { (5 ≤ kind) × (kind ≤ 8) × (size (fields_of kind) ≤ length b.now) }
-    ensures { said kind b.now ≡ some (Record.Call (Call.Receive result)) }
-{
-    match kind {
-        5 => ReceiveCall::TryRecv,
-        6 => ReceiveCall::TryRecvFair,
-        7 => ReceiveCall::TryRecvFrom { id: id(b) },
-        _ => ReceiveCall::TryRecvBatchInto {
+        }),
+        Kind::DropSender => Call::Sender(SenderCall::DropSender { key: key(b, 0) }),
+        Kind::TryRecv => Call::Receive(ReceiveCall::TryRecv),
+        Kind::TryRecvFair => Call::Receive(ReceiveCall::TryRecvFair),
+        Kind::TryRecvFrom => Call::Receive(ReceiveCall::TryRecvFrom { id: id(b) }),
+        Kind::TryRecvBatchInto => Call::Receive(ReceiveCall::TryRecvBatchInto {
             limit: field(b, 0),
             room: ROOM,
-        },
-    }
-}
-
-// Kind 16 stands behind the calls that hand nothing out.
-fn batch_while(b: &[u8]) -> ReceiveCall
-    requires { size (fields_of 16) ≤ length b.now }
-    ensures { said 16 b.now ≡ some (Record.Call (Call.Receive result)) }
-{
-    ReceiveCall::TryRecvBatchIntoWhile {
-        limit: field(b, 0),
-        bound: field(b, 1),
-        room: ROOM,
-    }
-}
-
-fn control_call(b: &[u8], kind: u64) -> ControlCall
-    requires { (9 ≤ kind) × (kind ≤ 15) × (size (fields_of kind) ≤ length b.now) }
-    ensures { said kind b.now ≡ some (Record.Call (Call.Control result)) }
-{
-    match kind {
-        9 => ControlCall::Pause { id: id(b) },
-        10 => ControlCall::Resume { id: id(b) },
-        11 => ControlCall::CloseLane { id: id(b) },
-        12 => ControlCall::ReleaseConsumed,
-        13 => ControlCall::PollAllLanes,
-        14 => ControlCall::CloseReceiver,
-        _ => ControlCall::CountHeld,
-    }
-}
-
-fn record_of(b: &[u8], kind: u64) -> Record
-    requires { (kind ≤ 16) × (size (fields_of kind) ≤ length b.now) }
-    ensures { said kind b.now ≡ some result }
-{
-    match kind {
-        0 => Record::Open {
-            opening: opening(b),
-        },
-        1..=4 => Record::Call {
-            call: Call::Sender(sender_call(b, kind)),
-        },
-        5..=8 => Record::Call {
-            call: Call::Receive(receive_call(b, kind)),
-        },
-        9..=15 => Record::Call {
-            call: Call::Control(control_call(b, kind)),
-        },
-        _ => Record::Call {
-            call: Call::Receive(batch_while(b)),
-        },
-    }
-}
-
-fn fields_of(kind: u64) -> u64
-    requires { kind < 17 }
-    ensures { (result ≡ fields_of kind) × (result ≤ most_fields) }
-{
-    FIELDS[kind as usize]
+        }),
+        Kind::Pause => Call::Control(ControlCall::Pause { id: id(b) }),
+        Kind::Resume => Call::Control(ControlCall::Resume { id: id(b) }),
+        Kind::CloseLane => Call::Control(ControlCall::CloseLane { id: id(b) }),
+        Kind::ReleaseConsumed => Call::Control(ControlCall::ReleaseConsumed),
+        Kind::PollAllLanes => Call::Control(ControlCall::PollAllLanes),
+        Kind::CloseReceiver => Call::Control(ControlCall::CloseReceiver),
+        Kind::CountHeld => Call::Control(ControlCall::CountHeld),
+        Kind::TryRecvBatchIntoWhile => Call::Receive(ReceiveCall::TryRecvBatchIntoWhile {
+            limit: field(b, 0),
+            bound: field(b, 1),
+            room: ROOM,
+        }),
+    };
+    Record::Call { call }
 }
 
 // The record at the head of the bytes, whatever they are.
-pub fn parse(b: &[u8]) -> Parsed
+pub fn parse(b: &[u8]) -> Result<Whole, Unread>
     ensures { result ≡ parse b.now }
 {
     if b.len() < 4 {
-        return Parsed::Incomplete;
+        return Err(Unread::Incomplete);
     }
-    let kind = u16_at(b, 2);
-    if kind > 16 {
-        return Parsed::Malformed;
-    }
-    let fields = fields_of(kind);
+    let kind = Kind::try_from(u16_at(b, 2))?;
+    let fields = kind.fields();
     if u16_at(b, 0) != 2 + 8 * fields {
-        return Parsed::Malformed;
+        return Err(Unread::Malformed);
     }
-    let size = 4 + 8 * fields as usize;
+    let size = 4 + 8 * usize::from(fields);
     if b.len() < size {
-        return Parsed::Incomplete;
+        return Err(Unread::Incomplete);
     }
-    Parsed::Whole {
+    Ok(Whole {
         record: record_of(b, kind),
-        size: size,
-    }
+        size,
+    })
 }

@@ -1,12 +1,10 @@
 -- `replay::main` meets its contract.
 -- Assumes nothing.
 use mathlib.Core.Path.{refl}
-use Prim.Native.Nat.{ℕ}
-use lib.ListN.{length-replicate}
 use Rattle.replay_serve.specs.Calls.{started}
 use Rattle.replay.proofs.main.Goals as goal
 
 -- the stores are zeros at the start
 pub run-requires : goal.run-requires
 unfolding started
-run-requires c = (refl, length-replicate {A = ℕ} 65536 0, length-replicate {A = ℕ} 65536 0)
+run-requires c = refl

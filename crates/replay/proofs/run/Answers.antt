@@ -1,39 +1,34 @@
 -- `replay::run` meets its contract.
 -- Assumes nothing.
-use mathlib.Core.Path.{refl, ◌∙◌}
+use mathlib.Core.Path.{◌≡◌, sym, subst}
 use native.Mathlib.Omega.{arith}
-use Rattle.replay.proofs.PlaceLaws.{fetched_buffer, fetched_end}
-use Rattle.replay.proofs.RunLaws.{running_start, running_on, turns_over, ran_stopped, ran_unwritten, ran_unread}
+use borrow.Author.Rules.{rules}
+use Rattle.std.specs.Prelude.{Err}
+use Rattle.replay.specs.declared.failure.Failure.TheVariants.{WriteFailed}
+use Rattle.replay.specs.Ran.{Outcome, Ran}
+use Rattle.replay.proofs.PlaceLaws.{next_same, next_differs}
+use Rattle.replay.proofs.RunLaws.{running_start, running_on, turns_over, ran_stopped, ran_unwritten}
 use Rattle.replay.proofs.run.Goals as goal
 
-pub loop-turns-init : goal.loop-turns-init
-loop-turns-init g c = running_start c.requires c.new-place.ensures
+pub loop-turn-init : goal.loop-turn-init
+loop-turn-init g c = running_start _ c.requires
 
-pub fetch-place-requires : goal.fetch-place-requires
-fetch-place-requires g c = c.loop-turns.invariant.in_buffer
+pub returns-in_err-place : goal.returns-in_err-place
+returns-in_err-place g c =
+    let e : c.from_residual-in_err-place.result ≡ Err WriteFailed = search rules in
+    let f = c.in_ok-fetched.ensures.fetched in
+    let w = c.in_err-place.ensures.place in
+    subst (λ (o : Outcome). Ran o c.round-answered.new.stores) (sym e) (ran_unwritten (omega (arith, f.long)) f c.round-answered.ensures c.loop-turn.invariant (omega arith) w.1)
 
-pub returns-in-Read : goal.returns-in-Read
-returns-in-Read g c = ran_unread c.loop-turns.invariant c.fetch-place.ensures.fetched c.in-Read.is
+pub returns-then-eq : goal.returns-then-eq
+returns-then-eq g c =
+    let f = c.in_ok-fetched.ensures.fetched in
+    ran_stopped (omega (arith, f.long)) f c.round-answered.ensures c.loop-turn.invariant c.in_ok-place.ensures.place (next_same c.if-eq.ensures)
 
-pub round-place-requires : goal.round-place-requires
-round-place-requires g c =
-    let inv = c.loop-turns.invariant in
-    let fetched = c.fetch-place.ensures.fetched in
-    (fetched_buffer inv.in_buffer fetched, fetched.long ∙ inv.sized.0, inv.sized.1, fetched_end fetched ∙ inv.written)
-
-pub flush-place-requires : goal.flush-place-requires
-flush-place-requires g c = omega (arith, c.round-place.ensures.room)
-
-pub returns-then-place-gt0 : goal.returns-then-place-gt0
-returns-then-place-gt0 g c = ran_unwritten c.loop-turns.invariant c.fetch-place.ensures.fetched c.in_default.not-Read c.round-place.ensures c.flush-place.ensures.place (omega (arith, c.if-place-gt0.true))
-
-pub returns-in-Stop : goal.returns-in-Stop
-returns-in-Stop g c = ran_stopped c.loop-turns.invariant c.fetch-place.ensures.fetched c.in_default.not-Read c.round-place.ensures c.flush-place.ensures.place c.in-Stop.is
-
-pub loop-turns-preserved : goal.loop-turns-preserved
-loop-turns-preserved g c =
-    running_on c.loop-turns.invariant c.fetch-place.ensures.fetched c.in_default.not-Read c.round-place.ensures c.flush-place.ensures.place
-    c.loop-turns-test.true refl c.in_default-next.not-Stop (omega arith)
+pub loop-turn-preserved : goal.loop-turn-preserved
+loop-turn-preserved g c =
+    let f = c.in_ok-fetched.ensures.fetched in
+    running_on (omega (arith, f.long)) f c.round-answered.ensures c.loop-turn.invariant c.in_ok-place.ensures.place (next_differs c.if-eq.ensures)
 
 pub returns : goal.returns
-returns g c = turns_over c.loop-turns.invariant (omega arith)
+returns g c = turns_over c.loop-turn.invariant (omega arith)

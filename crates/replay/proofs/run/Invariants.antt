@@ -3,8 +3,5 @@
 use Rattle.replay.proofs.RunLaws.{Running}
 use Rattle.replay.proofs.run.Given as goal
 
-abbrev pub invariant-loop-turns : goal.invariant-loop-turns
-invariant-loop-turns g l = Running l.turns (record { table = l.table; rings = l.rings; out = l.out }) l.buffer l.text l.place
-
-abbrev pub decreases-loop-turns : goal.decreases-loop-turns
-decreases-loop-turns g l = l.turns
+abbrev pub invariant-loop-turn : goal.invariant-loop-turn
+invariant-loop-turn g l = Running l._turn l.stores l.buffer l.place.0 l.place.1.0 l.place.1.1.0 l.place.1.1.1.0

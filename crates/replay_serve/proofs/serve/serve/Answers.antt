@@ -1,28 +1,23 @@
 -- `replay_serve::serve::serve` meets its contract.
 -- Assumes nothing.
-use mathlib.Core.Path.{sym}
+use mathlib.Core.Path.{sym, ◌∙◌}
 use native.Mathlib.Omega.{arith}
-use lib.Seq.{length-take-le}
-use Rattle.replay_serve.proofs.ServeLaws.{serving_start, serving_more, served_to}
+use Rattle.replay_serve.proofs.ServeLaws.{found_one, not_one, serving_start, serving_more, served_to}
 use Rattle.replay_serve.proofs.serve.serve.Goals as goal
+use Rattle.replay_serve.proofs.serve.serve.Goals.{then-is_err-via-then-is_err, then-is_err-via-else-is_err+then-reached-gt-FULL}
 
-pub slice_bounds-input-end : goal.slice_bounds-input-end
-slice_bounds-input-end c = sym (length-take-le _ _ c.requires.1)
+pub loop-at-init : goal.loop-at-init
+loop-at-init c = serving_start _ _ _ _ c.requires
 
-pub loop-t-init : goal.loop-t-init
-loop-t-init c = serving_start _ _ _ _ (omega (arith, length-take-le c.args.have c.args.buffer.now c.requires.1))
+pub turn-reached-requires : goal.turn-reached-requires
+turn-reached-requires c = (c.loop-at.invariant.inside, omega (arith, c.loop-at.invariant.room))
 
-pub turn-t-requires : goal.turn-t-requires
-turn-t-requires c = (c.loop-t.invariant.inside, omega (arith, c.loop-t.invariant.room))
+pub returns-then-is_err-clause-served : goal.returns-then-is_err-clause-served
+returns-then-is_err-clause-served c =
+    elim c.then-is_err.branch [
+      | then-is_err-via-then-is_err w ↦ served_to _ c.loop-at.invariant c.turn-reached.ensures (λ f. absurd (not_one (sym c.is_err.ensures.value ∙ w.if-is_err.true) f))
+      | then-is_err-via-else-is_err+then-reached-gt-FULL w ↦ served_to _ c.loop-at.invariant c.turn-reached.ensures (λ f. omega (arith, w.if-reached-gt-FULL.true))
+    ]
 
-pub returns-in_default : goal.returns-in_default
-returns-in_default c = record { served = served_to _ c.loop-t.invariant c.turn-t.ensures (λ f. absurd (c.in_default.not-Answered f)); at_le_have = (omega (arith, c.turn-t.ensures.inside, length-take-le c.args.have c.args.buffer.now c.requires.1), omega (arith, c.turn-t.ensures.room, c.loop-t.invariant.room)) }
-
-pub returns-then-end-gt-FULL : goal.returns-then-end-gt-FULL
-returns-then-end-gt-FULL c = record { served = served_to _ c.loop-t.invariant c.turn-t.ensures (λ f. omega (arith, c.if-end-gt-FULL.true)); at_le_have = (omega (arith, c.turn-t.ensures.inside, length-take-le c.args.have c.args.buffer.now c.requires.1), omega (arith, c.turn-t.ensures.room, c.loop-t.invariant.room)) }
-
-pub loop-t-smaller : goal.loop-t-smaller
-loop-t-smaller c = omega (arith, c.turn-t.ensures.forward c.in-Answered.is, c.turn-t.ensures.inside)
-
-pub loop-t-preserved : goal.loop-t-preserved
-loop-t-preserved c = serving_more _ c.loop-t.invariant c.turn-t.ensures c.in-Answered.is (omega (arith, c.if-end-gt-FULL.false))
+pub loop-at-preserved : goal.loop-at-preserved
+loop-at-preserved c = serving_more _ c.loop-at.invariant c.turn-reached.ensures (found_one _ c.if-is_err.ensures.value) (omega (arith, c.if-reached-gt-FULL.false))

@@ -5,9 +5,8 @@ use lib.ListN.{length}
 use Rattle.replay_serve.proofs.ServeLaws.{Serving}
 use Rattle.replay_serve.proofs.serve.serve.Given as goal
 
-abbrev pub invariant-loop-t : goal.invariant-loop-t
-invariant-loop-t l =
-    Serving l.input l.from (record { table = l.initial.table; rings = l.initial.rings; out = l.initial.out }) (record { table = l.table; rings = l.rings; out = l.out }) l.initial.text l.text l.at l.end
+abbrev pub invariant-loop-at : goal.invariant-loop-at
+invariant-loop-at l = Serving l.input l.from l.initial.stores l.stores l.initial.text l.text l.at l.end
 
-abbrev pub decreases-loop-t : goal.decreases-loop-t
-decreases-loop-t l = length l.input - l.at
+abbrev pub decreases-loop-at : goal.decreases-loop-at
+decreases-loop-at l = length l.input - l.at

@@ -1,21 +1,19 @@
 -- `wire_record::record::record_of` meets its contract.
 -- Assumes nothing.
-use mathlib.Core.Path.{◌∙◌}
-use native.Mathlib.Omega.{arith}
-use Rattle.wire_record.specs.Record.{fields_of, said}
-use Rattle.wire_record.proofs.KindLaws.{room_for, said_as}
+use mathlib.Core.Path.{sym, ap, ap₂, ◌∙◌}
+use mathlib.Core.Option.{some}
+use Prim.Native.Nat.{ℕ}
+use Rattle.model.specs.declared.ReceiveCall.TheVariants.{TryRecvBatchIntoWhile}
+use Rattle.model.specs.declared.Call.TheVariants.{Receive}
+use Rattle.wire_record.specs.declared.record.Record.TheVariants.{Call}
+use Rattle.wire_record.specs.declared.kind.Kind.{Kind}
+use Rattle.wire_record.specs.Kind.{code_of}
+use Rattle.wire_record.specs.Record.{room, said}
 use Rattle.wire_record.proofs.record.record_of.Goals as goal
 
-pub opening-requires : goal.opening-requires
-unfolding fields_of said
-opening-requires c = omega (arith, room_for 0 c.in-0.is c.requires.1)
-
-pub batch_while-requires : goal.batch_while-requires
-batch_while-requires c = room_for 16 {k = c.args.kind} (omega arith) c.requires.1
-
-pub returns-in-0 : goal.returns-in-0
-unfolding fields_of said
-returns-in-0 c = said_as 0 _ c.in-0.is ∙ cc
-
-pub returns-in_default : goal.returns-in_default
-returns-in_default c = said_as 16 {k = c.args.kind} _ (omega arith) ∙ c.batch_while.ensures
+-- written out, so that a field in the other's place is an equation that is false
+pub returns-in-TryRecvBatchIntoWhile : goal.returns-in-TryRecvBatchIntoWhile
+unfolding said
+returns-in-TryRecvBatchIntoWhile c =
+    ap (λ (k : Kind). said (code_of k) c.args.b.now) c.in-TryRecvBatchIntoWhile.is
+    ∙ ap₂ (λ (limit bound : ℕ). some (Call (Receive (TryRecvBatchIntoWhile limit bound room)))) (sym c.field-in-TryRecvBatchIntoWhile.ensures) (sym c.field-in-TryRecvBatchIntoWhile-2.ensures)
