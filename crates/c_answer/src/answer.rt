@@ -1,55 +1,51 @@
 // An answer as a tag and words.
-ghost use Rattle.std.specs.Prelude.{◌≡◌, set};
+ghost use Rattle.std.specs.Prelude.{◌≡◌};
 ghost use Rattle.c_answer.specs.Answer.{tag, put};
 
 use model::{Answer, LaneId};
 
-// Two numbers, and the tag that the answer has.
-fn put_two(words: &mut [u64; 8], first: u64, second: u64, kind: u64) -> u64
-    ensures value { result ≡ kind }
-    ensures words_after { words.new ≡ set (set words.old 0 first) 1 second }
-{
-    words[0] = first;
-    words[1] = second;
-    kind
-}
-
-fn put_item(words: &mut [u64; 8], item: u64, lane: LaneId) -> u64
-    ensures value { result ≡ 3 }
-    ensures words_after { words.new ≡ set (set (set (set (set words.old 0 item) 1 lane.channel.id) 2 lane.key.slot) 3 lane.key.generation) 4 lane.channel.opening }
-{
-    words[0] = item;
-    words[1] = lane.channel.id;
-    words[2] = lane.key.slot;
-    words[3] = lane.key.generation;
-    words[4] = lane.channel.opening;
-    3
-}
-
-// One number, and the tag that the answer has.
-fn put_one(words: &mut [u64; 8], number: u64, kind: u64) -> u64
-    ensures value { result ≡ kind }
-    ensures words_after { words.new ≡ set words.old 0 number }
-{
-    words[0] = number;
-    kind
-}
-
-// The tag; the numbers go to the words.
+// The tag; the numbers go to the words. A kind of answer is a number here, and the words are eight that are lent, as the C interface wants it. Each arm stores its
+// own: `copy_from_slice` in a function that is given the numbers was tried, and an inner call of held then takes 2.7 ns in place of 2.3.
+#[tactic(auto, unfolding(crate::specs::Answer::tag, crate::specs::Answer::put))]
 pub fn tell(answer: Answer, words: &mut [u64; 8]) -> u64
     ensures value { result ≡ tag answer }
     ensures words_after { words.new ≡ put answer words.old }
 {
     match answer {
         Answer::Done => 0,
-        Answer::Registered { key } => put_two(words, key.slot, key.generation, 1),
-        Answer::Taken { woken, free } => put_two(words, woken as u64, free, 2),
-        Answer::Item { item, lane } => put_item(words, item, lane),
-        Answer::Items { count } => put_one(words, count, 4),
-        Answer::Stopped { count } => put_one(words, count, 9),
+        Answer::Registered { key } => {
+            [words[0], words[1]] = [key.slot, key.generation];
+            1
+        }
+        Answer::Taken { woken, free } => {
+            [words[0], words[1]] = [woken as u64, free];
+            2
+        }
+        Answer::Item {
+            item,
+            lane: LaneId { channel, key },
+        } => {
+            [words[0], words[1], words[2]] = [item, channel.id, key.slot];
+            [words[3], words[4]] = [key.generation, channel.opening];
+            3
+        }
+        Answer::Items { count } => {
+            words[0] = count;
+            4
+        }
+        Answer::Stopped { count } => {
+            words[0] = count;
+            9
+        }
         Answer::Empty => 5,
         Answer::Disconnected => 6,
-        Answer::Held { count } => put_one(words, count, 7),
-        Answer::Refused { why } => put_one(words, why.number(), 8),
+        Answer::Held { count } => {
+            words[0] = count;
+            7
+        }
+        Answer::Refused { why } => {
+            words[0] = why.number();
+            8
+        }
     }
 }

@@ -6,9 +6,8 @@ ghost use Rattle.model.specs.declared.Call.TheVariants.{Control};
 ghost use Rattle.c_answer.specs.Answer.{told};
 ghost use Rattle.c_answer.specs.Numbers.{lane_id};
 
-use c_answer::answer;
+use c_answer::{answer, numbers};
 use fanring::{batch, lane_control, recv};
-use model::{LaneId, LaneKey, OpenedChannel};
 
 // Pauses a lane.
 #[unsafe(no_mangle)]
@@ -23,20 +22,8 @@ pub extern "C" fn fanring_pause(
 ) -> u64
     ensures { (result, words.new, table.new, rings.now) ≡ told words.old (checked_words table.old rings.now (Control (Pause (lane_id channel slot generation opening)))) }
 {
-    let done = lane_control::pause(
-        table,
-        rings,
-        LaneId {
-            channel: OpenedChannel {
-                id: channel,
-                opening: opening,
-            },
-            key: LaneKey {
-                slot: slot,
-                generation: generation,
-            },
-        },
-    );
+    let id = numbers::lane_id(channel, slot, generation, opening);
+    let done = lane_control::pause(table, rings, id);
     answer::tell(done, words)
 }
 
@@ -53,20 +40,8 @@ pub extern "C" fn fanring_resume(
 ) -> u64
     ensures { (result, words.new, table.new, rings.now) ≡ told words.old (checked_words table.old rings.now (Control (Resume (lane_id channel slot generation opening)))) }
 {
-    let done = lane_control::resume(
-        table,
-        rings,
-        LaneId {
-            channel: OpenedChannel {
-                id: channel,
-                opening: opening,
-            },
-            key: LaneKey {
-                slot: slot,
-                generation: generation,
-            },
-        },
-    );
+    let id = numbers::lane_id(channel, slot, generation, opening);
+    let done = lane_control::resume(table, rings, id);
     answer::tell(done, words)
 }
 
@@ -83,20 +58,8 @@ pub extern "C" fn fanring_close_lane(
 ) -> u64
     ensures { (result, words.new, table.new, rings.now) ≡ told words.old (checked_words table.old rings.now (Control (CloseLane (lane_id channel slot generation opening)))) }
 {
-    let done = lane_control::close_lane(
-        table,
-        rings,
-        LaneId {
-            channel: OpenedChannel {
-                id: channel,
-                opening: opening,
-            },
-            key: LaneKey {
-                slot: slot,
-                generation: generation,
-            },
-        },
-    );
+    let id = numbers::lane_id(channel, slot, generation, opening);
+    let done = lane_control::close_lane(table, rings, id);
     answer::tell(done, words)
 }
 

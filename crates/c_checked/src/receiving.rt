@@ -7,9 +7,8 @@ ghost use Rattle.fanring.specs.Runs.{checked_calls, checked_words};
 ghost use Rattle.c_answer.specs.Answer.{told, told_into};
 ghost use Rattle.c_answer.specs.Numbers.{lane_id};
 
-use c_answer::answer;
+use c_answer::{answer, numbers};
 use fanring::{batch, lane_control, recv};
-use model::{LaneId, LaneKey, OpenedChannel};
 
 // Receives one item.
 #[unsafe(no_mangle)]
@@ -46,20 +45,8 @@ pub extern "C" fn fanring_try_recv_from(
 ) -> u64
     ensures { (result, words.new, table.new, rings.now) ≡ told words.old (checked_words table.old rings.now (Receive (TryRecvFrom (lane_id channel slot generation opening)))) }
 {
-    let done = lane_control::try_recv_from(
-        table,
-        rings,
-        LaneId {
-            channel: OpenedChannel {
-                id: channel,
-                opening: opening,
-            },
-            key: LaneKey {
-                slot: slot,
-                generation: generation,
-            },
-        },
-    );
+    let id = numbers::lane_id(channel, slot, generation, opening);
+    let done = lane_control::try_recv_from(table, rings, id);
     answer::tell(done, words)
 }
 

@@ -7,9 +7,9 @@ ghost use Rattle.opening.specs.Opening.{open_store};
 ghost use Rattle.c_answer.specs.Answer.{told};
 ghost use Rattle.c_answer.specs.Numbers.{lane_key};
 
-use c_answer::answer;
+use c_answer::{answer, numbers};
 use fanring::{mpsc, send};
-use model::{LaneKey, Opening};
+use model::Opening;
 
 // Opens a channel on two stores, whatever they hold.
 #[unsafe(no_mangle)]
@@ -28,12 +28,12 @@ pub extern "C" fn fanring_open(
 {
     let done = mpsc::open(
         Opening {
-            capacity: capacity,
-            slots: slots,
-            channel: channel,
-            cursor: cursor,
-            generation: generation,
-            number: number,
+            capacity,
+            slots,
+            channel,
+            cursor,
+            generation,
+            number,
         },
         table,
         rings,
@@ -67,15 +67,7 @@ pub extern "C" fn fanring_try_send(
 ) -> u64
     ensures { (result, words.new, table.new, rings.new) ≡ told words.old (checked_words table.old rings.old (Sender (TrySend (lane_key slot generation) item))) }
 {
-    let done = send::try_send(
-        table,
-        rings,
-        LaneKey {
-            slot: slot,
-            generation: generation,
-        },
-        item,
-    );
+    let done = send::try_send(table, rings, numbers::lane_key(slot, generation), item);
     answer::tell(done, words)
 }
 
@@ -91,15 +83,7 @@ pub extern "C" fn fanring_try_send_unsignaled(
 ) -> u64
     ensures { (result, words.new, table.new, rings.new) ≡ told words.old (checked_words table.old rings.old (Sender (TrySendUnsignaled (lane_key slot generation) item))) }
 {
-    let done = send::try_send_unsignaled(
-        table,
-        rings,
-        LaneKey {
-            slot: slot,
-            generation: generation,
-        },
-        item,
-    );
+    let done = send::try_send_unsignaled(table, rings, numbers::lane_key(slot, generation), item);
     answer::tell(done, words)
 }
 
@@ -114,13 +98,6 @@ pub extern "C" fn fanring_drop_sender(
 ) -> u64
     ensures { (result, words.new, table.new, rings.now) ≡ told words.old (checked_words table.old rings.now (Sender (DropSender (lane_key slot generation)))) }
 {
-    let done = send::drop_sender(
-        table,
-        rings,
-        LaneKey {
-            slot: slot,
-            generation: generation,
-        },
-    );
+    let done = send::drop_sender(table, rings, numbers::lane_key(slot, generation));
     answer::tell(done, words)
 }

@@ -8,9 +8,8 @@ ghost use Rattle.refinement.specs.Runs.{call_words};
 ghost use Rattle.c_answer.specs.Answer.{told};
 ghost use Rattle.c_answer.specs.Numbers.{lane_id};
 
-use c_answer::answer;
+use c_answer::{answer, numbers};
 use control::lane_control;
-use model::{LaneId, LaneKey, OpenedChannel};
 
 // Pauses a lane.
 #[unsafe(no_mangle)]
@@ -26,20 +25,8 @@ pub extern "C" fn fanring_inner_pause(
     requires { StoreInOrder table.old rings.now }
     ensures { (result, words.new, table.new, rings.now) ≡ told words.old (call_words table.old rings.now (Control (Pause (lane_id channel slot generation opening)))) }
 {
-    let done = lane_control::pause(
-        table,
-        rings,
-        LaneId {
-            channel: OpenedChannel {
-                id: channel,
-                opening: opening,
-            },
-            key: LaneKey {
-                slot: slot,
-                generation: generation,
-            },
-        },
-    );
+    let id = numbers::lane_id(channel, slot, generation, opening);
+    let done = lane_control::pause(table, rings, id);
     answer::tell(done, words)
 }
 
@@ -57,20 +44,8 @@ pub extern "C" fn fanring_inner_resume(
     requires { StoreInOrder table.old rings.now }
     ensures { (result, words.new, table.new, rings.now) ≡ told words.old (call_words table.old rings.now (Control (Resume (lane_id channel slot generation opening)))) }
 {
-    let done = lane_control::resume(
-        table,
-        rings,
-        LaneId {
-            channel: OpenedChannel {
-                id: channel,
-                opening: opening,
-            },
-            key: LaneKey {
-                slot: slot,
-                generation: generation,
-            },
-        },
-    );
+    let id = numbers::lane_id(channel, slot, generation, opening);
+    let done = lane_control::resume(table, rings, id);
     answer::tell(done, words)
 }
 
@@ -88,20 +63,8 @@ pub extern "C" fn fanring_inner_close_lane(
     requires { StoreInOrder table.old rings.now }
     ensures { (result, words.new, table.new, rings.now) ≡ told words.old (call_words table.old rings.now (Control (CloseLane (lane_id channel slot generation opening)))) }
 {
-    let done = lane_control::close_lane(
-        table,
-        rings,
-        LaneId {
-            channel: OpenedChannel {
-                id: channel,
-                opening: opening,
-            },
-            key: LaneKey {
-                slot: slot,
-                generation: generation,
-            },
-        },
-    );
+    let id = numbers::lane_id(channel, slot, generation, opening);
+    let done = lane_control::close_lane(table, rings, id);
     answer::tell(done, words)
 }
 

@@ -7,8 +7,7 @@ ghost use Rattle.refinement.specs.Runs.{call_words, inner_calls, receive_into};
 ghost use Rattle.c_answer.specs.Answer.{told, told_into};
 ghost use Rattle.c_answer.specs.Numbers.{lane_id};
 
-use c_answer::answer;
-use model::{LaneId, LaneKey, OpenedChannel};
+use c_answer::{answer, numbers};
 use receive::receiver as plain;
 use receive_batch::batch;
 use receive_from::target;
@@ -55,20 +54,8 @@ pub extern "C" fn fanring_inner_try_recv_from(
     requires { StoreInOrder table.old rings.now }
     ensures { (result, words.new, table.new, rings.now) ≡ told words.old (call_words table.old rings.now (Receive (TryRecvFrom (lane_id channel slot generation opening)))) }
 {
-    let done = target::try_recv_from(
-        table,
-        rings,
-        LaneId {
-            channel: OpenedChannel {
-                id: channel,
-                opening: opening,
-            },
-            key: LaneKey {
-                slot: slot,
-                generation: generation,
-            },
-        },
-    );
+    let id = numbers::lane_id(channel, slot, generation, opening);
+    let done = target::try_recv_from(table, rings, id);
     answer::tell(done, words)
 }
 

@@ -7,8 +7,7 @@ ghost use Rattle.refinement.specs.Runs.{call_words};
 ghost use Rattle.c_answer.specs.Answer.{told};
 ghost use Rattle.c_answer.specs.Numbers.{lane_key};
 
-use c_answer::answer;
-use model::LaneKey;
+use c_answer::{answer, numbers};
 use sender::sender as sends;
 
 // Registers a sender with a lane.
@@ -39,15 +38,7 @@ pub extern "C" fn fanring_inner_try_send(
     requires { StoreInOrder table.old rings.old }
     ensures { (result, words.new, table.new, rings.new) ≡ told words.old (call_words table.old rings.old (Sender (TrySend (lane_key slot generation) item))) }
 {
-    let done = sends::try_send(
-        table,
-        rings,
-        LaneKey {
-            slot: slot,
-            generation: generation,
-        },
-        item,
-    );
+    let done = sends::try_send(table, rings, numbers::lane_key(slot, generation), item);
     answer::tell(done, words)
 }
 
@@ -64,15 +55,7 @@ pub extern "C" fn fanring_inner_try_send_unsignaled(
     requires { StoreInOrder table.old rings.old }
     ensures { (result, words.new, table.new, rings.new) ≡ told words.old (call_words table.old rings.old (Sender (TrySendUnsignaled (lane_key slot generation) item))) }
 {
-    let done = sends::try_send_unsignaled(
-        table,
-        rings,
-        LaneKey {
-            slot: slot,
-            generation: generation,
-        },
-        item,
-    );
+    let done = sends::try_send_unsignaled(table, rings, numbers::lane_key(slot, generation), item);
     answer::tell(done, words)
 }
 
@@ -88,13 +71,6 @@ pub extern "C" fn fanring_inner_drop_sender(
     requires { StoreInOrder table.old rings.now }
     ensures { (result, words.new, table.new, rings.now) ≡ told words.old (call_words table.old rings.now (Sender (DropSender (lane_key slot generation)))) }
 {
-    let done = sends::drop_sender(
-        table,
-        rings,
-        LaneKey {
-            slot: slot,
-            generation: generation,
-        },
-    );
+    let done = sends::drop_sender(table, rings, numbers::lane_key(slot, generation));
     answer::tell(done, words)
 }

@@ -27,8 +27,8 @@ use Rattle.lane.specs.declared.lane.Lane.{Lane}
 use Rattle.lane.specs.declared.producer.Sent.{Sent}
 use Rattle.lane.specs.Table.{lane_at}
 use Rattle.queues.specs.Header.{issued, free_count, slots, alive, channel_id, opening_number, lane_count}
-use Rattle.store.specs.declared.refusal.Verdict.{Verdict}
-use Rattle.store.specs.declared.refusal.Verdict.TheVariants.{Pass, Refuse}
+use Rattle.store.specs.Refusal.{Verdict}
+use Rattle.std.specs.Prelude.{Ok, Err, Option, Some, None}
 use Rattle.store.specs.Refusal.{sender_verdict, closed_verdict, receiver_verdict, lane_verdict, and_then, send_verdict, id_verdict}
 use Rattle.store.specs.Words.{Words, unless_refused}
 use Rattle.sender.specs.Sender.{send_signaled, take_signaled, send_unsignaled, try_send, try_send_unsignaled, drop_sender, capacity_verdict, lanes_verdict, slot_verdict, register_slot, register_sender, sender_words}
@@ -46,8 +46,8 @@ use Rattle.refinement.proofs.RefusedUnmoved.{answer_one_accepted, take_from_acce
 
 -- a verdict that is not refusal 5
 data NotFive : Verdict → Type 0 where
-  passed : NotFive Pass
-  refused : (why : Refusal) → eqb (number why) 5 ≡ false → NotFive (Refuse why)
+  passed : NotFive (Ok tt)
+  refused : (why : Refusal) → eqb (number why) 5 ≡ false → NotFive (Err why)
 
 test : (b : Bool) {v w : Verdict} → NotFive v → NotFive w → NotFive (cond b v w)
 test true p q = p
@@ -55,8 +55,8 @@ test false p q = q
 
 and_then_lem : (v w : Verdict) → NotFive v → NotFive w → NotFive (and_then v w)
 unfolding and_then
-and_then_lem Pass w p q = q
-and_then_lem (Refuse why) w p q = p
+and_then_lem (Ok u) w p q = q
+and_then_lem (Err why) w p q = p
 
 module _ (t : List ℕ) where
   sender_verdict_lem : (k : LaneKey) → NotFive (sender_verdict t k)
@@ -135,15 +135,15 @@ module _ (t r : List ℕ) where
   unless_result : {v : Verdict} → NotFive v → (w : Words) → accepted w.0 ≡ true → NotRefusedFive (unless_refused v t r w)
   unless_result n w a = unless n w (result w a)
 
-  sent : (s : Sent × List ℕ) → NotRefusedFive (send_signaled t s)
+  sent : (s : Option Sent × List ℕ) → NotRefusedFive (send_signaled t s)
   unfolding send_signaled take_signaled accepted number
-  sent (Sent.Taken l free, u) = λ e. no refl (ap accepted e)
-  sent (Sent.Full l, u) = another Refusal.Full refl
+  sent (Some s, u) = λ e. no refl (ap accepted e)
+  sent (None, u) = another Refusal.Full refl
 
-  sent_unsignaled : (s : Sent × List ℕ) → NotRefusedFive (send_unsignaled t s)
+  sent_unsignaled : (s : Option Sent × List ℕ) → NotRefusedFive (send_unsignaled t s)
   unfolding send_unsignaled accepted number
-  sent_unsignaled (Sent.Taken l free, u) = λ e. no refl (ap accepted e)
-  sent_unsignaled (Sent.Full l, u) = another Refusal.Full refl
+  sent_unsignaled (Some s, u) = λ e. no refl (ap accepted e)
+  sent_unsignaled (None, u) = another Refusal.Full refl
 
   sender_never : (c : SenderCall) → NotRefusedFive (sender_words t r c)
   unfolding sender_words register_sender register_slot try_send try_send_unsignaled drop_sender accepted

@@ -5,7 +5,7 @@ ghost use Rattle.model.specs.declared.SenderCall.TheVariants.{RegisterSender};
 ghost use Rattle.model.specs.declared.Call.TheVariants.{Sender};
 ghost use Rattle.opening.specs.Opening.{open_store};
 
-use model::{Answer, Opening, Refusal};
+use model::{Answer, Opening};
 
 // Opens a channel over two lent stores, whatever their words hold.
 pub fn open(opening: Opening, t: &mut [u64], r: &[u64]) -> Answer
@@ -19,10 +19,5 @@ pub fn open(opening: Opening, t: &mut [u64], r: &[u64]) -> Answer
 pub fn register_sender(t: &mut [u64], r: &[u64], most: u64) -> Answer
     ensures { (result, t.new, r.now) ≡ checked_words t.old r.now (Sender (RegisterSender most)) }
 {
-    if !order::in_order(t, r) {
-        return Answer::Refused {
-            why: Refusal::StoreNotInOrder,
-        };
-    }
-    sender::sender::register_sender(t, r, most)
+    checked!(t, r, sender::sender::register_sender(t, r, most))
 }

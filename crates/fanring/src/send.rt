@@ -4,40 +4,25 @@ ghost use Rattle.fanring.specs.Runs.{checked_words};
 ghost use Rattle.model.specs.declared.SenderCall.TheVariants.{DropSender, TrySend, TrySendUnsignaled};
 ghost use Rattle.model.specs.declared.Call.TheVariants.{Sender};
 
-use model::{Answer, LaneKey, Refusal};
+use model::{Answer, LaneKey};
 
 // Stores one item and marks the lane; answers whether its signal went from idle to pending.
 pub fn try_send(t: &mut [u64], r: &mut [u64], key: LaneKey, item: u64) -> Answer
     ensures { (result, t.new, r.new) ≡ checked_words t.old r.old (Sender (TrySend key item)) }
 {
-    if !order::in_order(t, r) {
-        return Answer::Refused {
-            why: Refusal::StoreNotInOrder,
-        };
-    }
-    sender::sender::try_send(t, r, key, item)
+    checked!(t, r, sender::sender::try_send(t, r, key, item))
 }
 
 // Stores one item and marks nothing.
 pub fn try_send_unsignaled(t: &mut [u64], r: &mut [u64], key: LaneKey, item: u64) -> Answer
     ensures { (result, t.new, r.new) ≡ checked_words t.old r.old (Sender (TrySendUnsignaled key item)) }
 {
-    if !order::in_order(t, r) {
-        return Answer::Refused {
-            why: Refusal::StoreNotInOrder,
-        };
-    }
-    sender::sender::try_send_unsignaled(t, r, key, item)
+    checked!(t, r, sender::sender::try_send_unsignaled(t, r, key, item))
 }
 
 // Drops a sender: its lane is marked, so that a receive looks at it.
 pub fn drop_sender(t: &mut [u64], r: &[u64], key: LaneKey) -> Answer
     ensures { (result, t.new, r.now) ≡ checked_words t.old r.now (Sender (DropSender key)) }
 {
-    if !order::in_order(t, r) {
-        return Answer::Refused {
-            why: Refusal::StoreNotInOrder,
-        };
-    }
-    sender::sender::drop_sender(t, r, key)
+    checked!(t, r, sender::sender::drop_sender(t, r, key))
 }

@@ -1,7 +1,0 @@
--- `c_checked::controlling::fanring_held` meets its contract.
--- Assumes nothing.
-use Rattle.c_answer.proofs.ToldLaws.{told_of}
-use Rattle.c_checked.proofs.controlling.fanring_held.Goals as goal
-
-pub returns : goal.returns
-returns c = told_of c.args.words.now c.tell.ensures.value c.tell.ensures.words_after c.held-done.ensures

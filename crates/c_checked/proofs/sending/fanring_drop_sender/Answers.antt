@@ -1,7 +1,0 @@
--- `c_checked::sending::fanring_drop_sender` meets its contract.
--- Assumes nothing.
-use Rattle.c_answer.proofs.ToldLaws.{told_of}
-use Rattle.c_checked.proofs.sending.fanring_drop_sender.Goals as goal
-
-pub returns : goal.returns
-returns c = told_of c.args.words.now c.tell.ensures.value c.tell.ensures.words_after c.drop_sender-done.ensures
