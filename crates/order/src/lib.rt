@@ -15,11 +15,16 @@ use seen::Bitmap;
 pub fn in_order(t: &[u64], r: &[u64]) -> bool
     ensures { (result ≡ true → StoreInOrder t.now r.now) × (StoreInOrder t.now r.now → result ≡ true) }
 {
+    // Each set is cleared, a kilobyte, only where what stands before it holds.
+    if !header::header_holds(t, r) {
+        return false;
+    }
     let mut queued = Bitmap::new();
+    if !names::queue_holds(t, &mut queued) {
+        return false;
+    }
     let mut free = Bitmap::new();
-    header::header_holds(t, r)
-        && names::queue_holds(t, &mut queued)
-        && names::free_holds(t, &mut free)
+    names::free_holds(t, &mut free)
         && slots::slots_hold(t, &queued, &free)
         && marks::pages_hold(t)
         && marks::groups_hold(t)

@@ -2,7 +2,7 @@
 -- Assumes nothing.
 use Rattle.std.specs.Prelude.{Option, Some, None, Result, Ok, Err}
 use mathlib.Core.Path.{◌≡◌, refl, sym, ap, ◌∙◌, subst}
-use mathlib.Core.Bool.{true}
+use mathlib.Core.Bool.{Bool, true, false}
 use mathlib.Core.List.{List}
 use Prim.Native.Nat.{ℕ, zero, suc, ◌+◌, ◌<◌}
 use native.Mathlib.Omega.{arith}
@@ -165,11 +165,11 @@ run_down_searched t k = searched_within (queue_count t) t k refl
 -- ---- with the collections
 
 module _ (o : Option Lane × List ℕ) (f : List ℕ → Option Lane × List ℕ) (u : List ℕ) where
-  pub else_ready : (l : Lane) → (Some l, u) ≡ o → (Some l, u) ≡ else_front o f
+  else_ready : (l : Lane) → (Some l, u) ≡ o → (Some l, u) ≡ else_front o f
   unfolding else_front
   else_ready l e = ap (λ (p : Option Lane × List ℕ). else_front p f) e
 
-  pub else_none : (None, u) ≡ o → f u ≡ else_front o f
+  else_none : (None, u) ≡ o → f u ≡ else_front o f
   unfolding else_front
   else_none e = ap (λ (p : Option Lane × List ℕ). else_front p f) e
 
@@ -193,6 +193,29 @@ refresh_searched t k =
 -- what the code has for the front lane, refilled
 pub look_as : (t : List ℕ) (slot : ℕ) (l : Lane) (p : Result Lane EmptyLane) → slot ≡ front_slot t → l ≡ lane_at t slot → p ≡ refill l → refill (front_lane t) ≡ p
 look_as t slot l p a b e = sym (e ∙ ap refill (b ∙ ap (lane_at t) a))
+
+-- what is left of the search, before and after every ready lane is collected
+pub search_rest : Bool → List ℕ → Option Lane × List ℕ
+search_rest false t = else_front (run_down t) (λ u. run_down (collect_ready true u))
+search_rest true t = run_down t
+
+module _ (t u : List ℕ) where
+  pub rest_ready : (collected : Bool) (l : Lane) → (Some l, u) ≡ run_down t → (Some l, u) ≡ search_rest collected t
+  unfolding search_rest
+  rest_ready false l e = else_ready (run_down t) (λ u. run_down (collect_ready true u)) u l e
+  rest_ready true l e = e
+
+  pub rest_none : (collected : Bool) → collected ≡ true → (None, u) ≡ run_down t → (None, u) ≡ search_rest collected t
+  unfolding search_rest
+  rest_none collected c e = e ∙ ap (λ (b : Bool). search_rest b t) (sym c)
+
+  pub rest_collects : (collected : Bool) → collected ≡ false → (None, u) ≡ run_down t → search_rest true (collect_ready true u) ≡ search_rest collected t
+  unfolding search_rest
+  rest_collects collected c e = else_none (run_down t) (λ u. run_down (collect_ready true u)) u e ∙ ap (λ (b : Bool). search_rest b t) (sym c)
+
+pub rest_starts : (t : List ℕ) → search_rest false (collect_if_due t) ≡ refresh_active t
+unfolding search_rest refresh_active
+rest_starts t = refl
 
 -- what a search keeps, whatever it found
 pub run_keeps : (t u : List ℕ) (front : Option Lane) → Turning t → (front, u) ≡ run_down t → Keeps t u

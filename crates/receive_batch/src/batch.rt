@@ -66,17 +66,24 @@ fn run_down(t: &mut [u64]) -> Option<Lane>
     }
 }
 
-// The lane whose turn it is. Collects ready lanes when that is due, and once when none is queued.
+// The lane whose turn it is. Collects ready lanes when that is due, and once when none is queued. The search is called at one place: called at two, it is
+// inlined at both, and a batch of few items takes longer.
 pub fn refresh_active(t: &mut [u64]) -> Option<Lane>
     requires { Turning t.old }
     ensures { (result, t.new) ≡ refresh_active t.old }
 {
     due::collect_if_due(t);
-    if let Some(lane) = run_down(t) {
-        return Some(lane);
+    let mut collected = false;
+    loop {
+        if let Some(lane) = run_down(t) {
+            return Some(lane);
+        }
+        if collected {
+            return None;
+        }
+        marks::collect_ready(t, true);
+        collected = true;
     }
-    marks::collect_ready(t, true);
-    run_down(t)
 }
 
 // The budget that a chunk is charged to. Where it is 0 the Rust takes a chunk of no items, and sets it to 64 in its next round.

@@ -1,30 +1,35 @@
 -- `receive_batch::batch::refresh_active` meets its contract.
 -- Assumes nothing.
-use mathlib.Core.Bool.{true}
+use mathlib.Core.Bool.{true, false}
 use Rattle.turns.proofs.CollectKeeps.{collect_keeps}
 use Rattle.turns.proofs.DueLaws.{due_keeps}
-use Rattle.receive_batch.specs.Batch.{refresh_active}
-use mathlib.Core.Path.{◌∙◌}
-use Rattle.receive_batch.proofs.LookLaws.{else_ready, else_none, run_keeps}
+use Rattle.receive_batch.proofs.LookLaws.{search_rest, rest_ready, rest_none, rest_collects, rest_starts, run_keeps}
+use native.Mathlib.Omega.{arith}
+use mathlib.Core.Path.{refl, ap, ◌∙◌}
 use Rattle.receive_batch.proofs.batch.refresh_active.Goals as goal
 
+pub loop-lane-init : goal.loop-lane-init
+loop-lane-init c = (rw c.collect_if_due.ensures (due_keeps _ c.requires).turning, refl, refl)
+
 pub run_down-requires : goal.run_down-requires
-run_down-requires c = rw c.collect_if_due.ensures (due_keeps _ c.requires).turning
+run_down-requires c = c.loop-lane.invariant.0
 
 pub returns-in-Some : goal.returns-in-Some
-unfolding refresh_active
-returns-in-Some c = else_ready _ _ _ _ (rw (c.in-Some.is, c.collect_if_due.ensures) at c.run_down.ensures)
+returns-in-Some c = rest_ready _ _ _ _ (rw c.in-Some.is at c.run_down.ensures) ∙ c.loop-lane.invariant.2 ∙ ap (search_rest false) c.collect_if_due.ensures ∙ rest_starts _
+
+pub returns-then-collected : goal.returns-then-collected
+returns-then-collected c = rest_none _ _ _ c.if-collected.true (rw c.in_default.is at c.run_down.ensures) ∙ c.loop-lane.invariant.2 ∙ ap (search_rest false) c.collect_if_due.ensures ∙ rest_starts _
 
 pub collect_ready-requires : goal.collect_ready-requires
 collect_ready-requires c =
-    let k = run_keeps _ _ _ (due_keeps _ c.requires).turning (rw c.collect_if_due.ensures at c.run_down.ensures) in
+    let k = run_keeps _ _ _ c.loop-lane.invariant.0 c.run_down.ensures in
     (k.turning.shaped, k.turning.names, k.turning.linked)
 
-pub run_down-requires-2 : goal.run_down-requires-2
-run_down-requires-2 c =
-    let k = run_keeps _ _ _ (due_keeps _ c.requires).turning (rw c.collect_if_due.ensures at c.run_down.ensures) in
-    rw c.collect_ready.ensures (collect_keeps true _ k.turning).turning
+pub loop-lane-smaller : goal.loop-lane-smaller
+loop-lane-smaller c = rw c.if-collected.false (omega arith)
 
-pub returns : goal.returns
-unfolding refresh_active
-returns c = rw c.collect_ready.ensures at c.run_down-2.ensures ∙ else_none _ _ _ (rw (c.in_default.is, c.collect_if_due.ensures) at c.run_down.ensures)
+pub loop-lane-preserved : goal.loop-lane-preserved
+loop-lane-preserved c =
+    let k = run_keeps _ _ _ c.loop-lane.invariant.0 c.run_down.ensures in
+    let m = collect_keeps true _ k.turning in
+    rw c.collect_ready.ensures (m.turning, m.long ∙ k.long ∙ c.loop-lane.invariant.1, rest_collects _ _ _ c.if-collected.false (rw c.in_default.is at c.run_down.ensures) ∙ c.loop-lane.invariant.2)
