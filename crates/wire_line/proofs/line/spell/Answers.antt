@@ -10,9 +10,6 @@ loop-left-init c = spell_start _ c.args.digits.now _ c.ranges.n.fits c.requires 
 pub overflow_sub-at : goal.overflow_sub-at
 overflow_sub-at c = spell_room _ c.loop-left.invariant.few c.loop-left-test.true
 
-pub bounds-digits-at : goal.bounds-digits-at
-bounds-digits-at c = omega (arith, c.loop-left.invariant.place, c.loop-left.invariant.long)
-
 pub loop-left-preserved : goal.loop-left-preserved
 loop-left-preserved c = spell_more _ _ _ c.loop-left.invariant c.loop-left-test.true c.last_digit-in-loop-left.ensures
 
