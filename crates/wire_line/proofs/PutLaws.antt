@@ -59,11 +59,13 @@ spaced_one : (n : ℕ) → codes " " ++ decimal n ≡ spaced (n ∷ [])
 unfolding spaced
 spaced_one n = ap (λ (l : List ℕ). codes " " ++ l) (sym (append-nil (decimal n)))
 
--- the digits are the end of an array of 20, from place k on
-pub number_put : (d : List ℕ) (k : ℕ) → length d ≡ 20 → {t u w : List ℕ} {a b c : ℕ} (n : ℕ) → Puts t a (codes " ") u b → Puts u b (take (20 - k) (drop k d)) w c → drop k d ≡ decimal n → Puts t a (spaced (n ∷ [])) w c
-number_put d k l n p q e =
-    let all : take (20 - k) (drop k d) ≡ drop k d = take_all (20 - k) (drop k d) (omega (arith, length-drop k d)) in
-    puts_as (spaced_one n) (puts_then p (puts_as (all ∙ e) q))
+-- the end of an array of 20, from place k on
+module _ (d : List ℕ) (k : ℕ) (l : length d ≡ 20) where
+  all_of_end : take (20 - k) (drop k d) ≡ drop k d
+  all_of_end = take_all (20 - k) (drop k d) (omega (arith, length-drop k d))
+
+  pub number_put : {t u w : List ℕ} {a b c : ℕ} (n : ℕ) → Puts t a (codes " ") u b → Puts u b (take (20 - k) (drop k d)) w c → drop k d ≡ decimal n → Puts t a (spaced (n ∷ [])) w c
+  number_put n p q e = puts_as (spaced_one n) (puts_then p (puts_as (all_of_end ∙ e) q))
 
 pub numbers_start : (t : List ℕ) (a : ℕ) → Puts t a (spaced []) t a
 unfolding spaced
