@@ -1,13 +1,15 @@
 -- Laws of numbers in decimal.
 -- Assumes nothing.
-use mathlib.Core.Path.{◌≡◌, refl, sym, ap, ◌∙◌}
+use mathlib.Core.Path.{◌≡◌, refl, sym, ap, ◌∙◌, subst}
 use mathlib.Core.Bool.{Bool, true, false, cond}
-use mathlib.Core.List.{List, [], ◌∷◌, ◌++◌}
+use mathlib.Core.List.{List, [], ◌∷◌, ◌++◌, append_assoc}
 use Prim.Native.Nat.{ℕ, zero, suc, ◌+◌, ◌-◌, ◌*◌, ◌/◌, ◌%◌, ◌^◌, ◌≤◌, ◌<◌}
-use native.Mathlib.Nat.{le_refl}
+use native.Mathlib.Nat.{pow-suc, div-lt_iff_lt-mul, zero-lt-suc, le_refl}
 use native.Mathlib.Omega.{arith}
 use borrow.Author.Tests.{eqb-true, eq-eqb, ne_eqb}
 use lib.Dec.{eqb}
+use lib.ListN.{length, set, drop, length-set, drop_of_length-le}
+use lib.Seq.{drop-cons, drop-set-lt, get_or-set_same}
 use Rattle.std.specs.Fmt as written
 use Rattle.std.proofs.lemmas.Fmt.{decimal_by_steps}
 use Rattle.wire_line.specs.Text.{digits_in, digits, decimal, last_digit, value_from}
@@ -52,6 +54,57 @@ digits_value (suc f) n h = go (eqb n 0) refl (digits_value f (n / 10) (omega ari
 pub decimal_value : (n : ℕ) → value_from 0 (decimal n) ≡ n
 unfolding decimal digits
 decimal_value n = value_more (digits_in (n / 10) (n / 10)) n (digits_value (n / 10) (n / 10) (le_refl _))
+
+-- ---- the loop of `spell`
+
+-- digits to come, and those that stand at the end of the array
+pub record Spelled (n left at : ℕ) (d : List ℕ) : Type 0 where
+  pub place : at ≤ 19
+  pub long : length d ≡ 20
+  pub few : left < 10 ^ at
+  pub is : digits left ++ drop at d ≡ decimal n
+
+store_first : (d : List ℕ) (i v : ℕ) → i < length d → drop i (set d i v) ≡ v ∷ drop (suc i) d
+store_first d i v h =
+    drop-cons (set d i v) i 0 (omega (arith, length-set d i v))
+    ∙ ap (λ (x : ℕ). x ∷ drop (suc i) (set d i v)) (get_or-set_same d i v 0 h)
+    ∙ ap (λ (l : List ℕ). v ∷ l) (drop-set-lt (suc i) d i v (omega arith))
+
+pub spell_start : (n : ℕ) (d : List ℕ) (v : ℕ) → n < 2 ^ 64 → length d ≡ 20 → v ≡ last_digit n → Spelled n (n / 10) 19 (set d 19 v)
+unfolding decimal
+spell_start n d v h l e =
+    record {
+      place = omega arith;
+      long = length-set d 19 v ∙ l;
+      few = omega arith;
+      is = ap (λ (m : List ℕ). digits (n / 10) ++ m) (store_first d 19 v (omega arith) ∙ ap (λ (m : List ℕ). v ∷ m) (drop_of_length-le d {i = 20} (omega arith)) ∙ ap (λ (x : ℕ). x ∷ []) e);
+    }
+
+pub spell_room : {left : ℕ} (at : ℕ) → left < 10 ^ at → 0 < left → 1 ≤ at
+spell_room zero h p = absurd (omega arith)
+spell_room (suc k) h p = omega arith
+
+tenth : (k m : ℕ) → m < 10 ^ suc k → m / 10 < 10 ^ k
+tenth k m h = (div-lt_iff_lt-mul (zero-lt-suc 9)).1 (rw pow-suc at h)
+
+pub spell_more : {n left : ℕ} (at : ℕ) (d : List ℕ) (v : ℕ) → Spelled n left at d → 0 < left → v ≡ last_digit left → Spelled n (left / 10) (at - 1) (set d (at - 1) v)
+unfolding decimal
+spell_more zero d v s p e = absurd (omega (arith, s.few))
+spell_more {n} {left} (suc k) d v s p e =
+    let q : suc k - 1 ≡ k = omega arith in
+    subst (λ (i : ℕ). Spelled n (left / 10) i (set d i v)) (sym q) (record {
+      place = omega (arith, s.place);
+      long = length-set d k v ∙ s.long;
+      few = tenth k left s.few;
+      is = ap (λ (m : List ℕ). digits (left / 10) ++ m) (store_first d k v (omega (arith, s.place, s.long)) ∙ ap (λ (x : ℕ). x ∷ drop (suc k) d) e)
+          ∙ sym (append_assoc (digits (left / 10)) (last_digit left ∷ []) (drop (suc k) d))
+          ∙ ap (λ (m : List ℕ). m ++ drop (suc k) d) (sym (digits_decimal left p))
+          ∙ s.is;
+    })
+
+pub spell_end : {n left at : ℕ} {d : List ℕ} → Spelled n left at d → left ≡ 0 → drop at d ≡ decimal n
+unfolding digits
+spell_end {n} {left} {at} {d} s e = sym (ap (λ (m : List ℕ). m ++ drop at d) (digits_of_none left left e)) ∙ s.is
 
 -- ---- the library's digits
 

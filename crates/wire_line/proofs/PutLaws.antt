@@ -2,17 +2,19 @@
 -- Assumes nothing.
 use mathlib.Core.Path.{◌≡◌, refl, sym, ap, ◌∙◌, subst}
 use mathlib.Core.List.{List, [], ◌∷◌, ◌++◌, append_assoc}
-use Prim.Native.Nat.{ℕ, suc, ◌+◌, ◌-◌, ◌^◌, ◌≤◌, ◌<◌}
+use Prim.Native.Nat.{ℕ, suc, ◌+◌, ◌-◌, ◌≤◌, ◌<◌}
 use native.Mathlib.Omega.{arith}
 use borrow.Rule.Slice.PartMut.{put_mid}
-use lib.ListN.{length, get_or, set, take, drop, length-append}
+use lib.ListN.{length, get_or, set, take, drop, length-append, length-drop}
 use lib.Seq.{sets, take-length, length-sets}
-use Rattle.std.specs.Fmt as written
 use Rattle.std.proofs.lemmas.List.{append-nil, take_more, take_all}
 use Rattle.std.proofs.lemmas.List.Edits.{sets-eq}
 use Rattle.std.proofs.lemmas.Slice.{put_mid-paste}
-use Rattle.wire_line.proofs.DecimalLaws.{decimal_is}
-use Rattle.wire_line.specs.Text.{Puts, spaced, decimal, codes}
+use Rattle.model.specs.declared.Answer.{Answer}
+use Rattle.model.specs.declared.Answer.TheVariants.{Item, Stopped}
+use Rattle.model.specs.declared.LaneId.{LaneId}
+use Rattle.model.specs.Answers.{stopped, line}
+use Rattle.wire_line.specs.Text.{Puts, spaced, decimal, codes, ending, answer_text}
 
 sets_append : (t : List ℕ) (a : ℕ) (s v : List ℕ) → sets (sets t a s) (a + length s) v ≡ sets t a (s ++ v)
 sets_append t a [] v = let e : a + 0 ≡ a = omega arith in ap (λ (i : ℕ). sets t i v) e
@@ -57,8 +59,13 @@ spaced_one : (n : ℕ) → codes " " ++ decimal n ≡ spaced (n ∷ [])
 unfolding spaced
 spaced_one n = ap (λ (l : List ℕ). codes " " ++ l) (sym (append-nil (decimal n)))
 
-pub number_put : {t u w d : List ℕ} {a b c : ℕ} (n : ℕ) → n < 2 ^ 64 → Puts t a (codes " ") u b → Puts u b d w c → d ≡ written.decimal n → Puts t a (spaced (n ∷ [])) w c
-number_put n h p q e = puts_as (spaced_one n) (puts_then p (puts_as (e ∙ decimal_is n h) q))
+-- the end of an array of 20, from place k on
+module _ (d : List ℕ) (k : ℕ) (l : length d ≡ 20) where
+  all_of_end : take (20 - k) (drop k d) ≡ drop k d
+  all_of_end = take_all (20 - k) (drop k d) (omega (arith, length-drop k d))
+
+  pub number_put : {t u w : List ℕ} {a b c : ℕ} (n : ℕ) → Puts t a (codes " ") u b → Puts u b (take (20 - k) (drop k d)) w c → drop k d ≡ decimal n → Puts t a (spaced (n ∷ [])) w c
+  number_put n p q e = puts_as (spaced_one n) (puts_then p (puts_as (all_of_end ∙ e) q))
 
 pub numbers_start : (t : List ℕ) (a : ℕ) → Puts t a (spaced []) t a
 unfolding spaced
@@ -78,3 +85,19 @@ line_put l p q r = puts_then (puts_then p q) r
 pub items_put : {t u v w x word ending : List ℕ} {a b c d e : ℕ} (k : ℕ) {l m : List ℕ} → Puts t a word u b → Puts u b (spaced (k ∷ [])) v c → Puts v c (spaced l) w d → l ≡ m → Puts w d ending x e
     → Puts t a (word ++ spaced (k ∷ m) ++ ending) x e
 items_put k {m = m} p q r e s = line_put (k ∷ m) p (puts_as (spaced_append (k ∷ []) m) (puts_then q (puts_as (ap spaced e) r))) s
+
+-- The lines of an item and of a batch that stopped. What an edit may put in the place of the numbers or of the ending is an equation of its own, which is false then.
+
+pub item_line : {t u : List ℕ} {a b slot generation : ℕ} (n : ℕ) (lane : LaneId) (out : List ℕ) → Puts t a (codes "item" ++ spaced (n ∷ slot ∷ generation ∷ []) ++ codes "\n") u b → slot ≡ lane.key.slot → generation ≡ lane.key.generation → Puts t a (answer_text (Item n lane) out) u b
+unfolding line
+item_line {generation = g} n lane out p e f =
+    let line_with : ℕ → ℕ → List ℕ = λ i j. codes "item" ++ spaced (n ∷ i ∷ j ∷ []) ++ codes "\n" in
+    puts_as (ap (λ (i : ℕ). line_with i g) e ∙ ap (line_with lane.key.slot) f) p
+
+pub stopped_line : {t u e : List ℕ} {a b : ℕ} (n : ℕ) (out : List ℕ) → Puts t a (codes "items" ++ spaced (n ∷ take n out) ++ e) u b → e ≡ ending (stopped ∷ []) → Puts t a (answer_text (Stopped n) out) u b
+unfolding line
+stopped_line n out p q = puts_as (ap (λ (l : List ℕ). codes "items" ++ spaced (n ∷ take n out) ++ l) q) p
+
+-- the line of an answer that is known
+pub line_of : {t u : List ℕ} {a b : ℕ} (out : List ℕ) {x y : Answer} → x ≡ y → Puts t a (answer_text y out) u b → Puts t a (answer_text x out) u b
+line_of out e p = puts_as (ap (λ (z : Answer). answer_text z out) (sym e)) p

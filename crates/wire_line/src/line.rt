@@ -1,12 +1,33 @@
 // Writes document 01's line of an answer: its word, its numbers in decimal with a space before each, `stopped` of a batch that stopped, and a line end.
-ghost use Rattle.std.specs.Prelude.{◌∷◌, [], ◌++◌, ◌≡◌, ◌+◌, ◌*◌, ◌≤◌, length, take};
-ghost use Rattle.wire_line.specs.Text.{codes, spaced, answer_text, longest, Puts};
+ghost use Rattle.std.specs.Prelude.{◌∷◌, [], ◌++◌, ◌≡◌, ◌+◌, ◌*◌, ◌<◌, ◌≤◌, length, take, drop};
+ghost use Rattle.wire_line.specs.Text.{codes, last_digit, decimal, spaced, answer_text, longest, Puts};
 
-use itoa::Buffer;
 use model::Answer;
 
 // What the longest line takes: `longest`.
 pub const LONGEST: usize = 5 + 65 * 21 + 8 + 1;
+
+fn last_digit(n: u64) -> u8
+    ensures { result ≡ last_digit n }
+{
+    b'0' + (n % 10) as u8
+}
+
+// Spells n in decimal at the end of the digits, and answers the place of the first.
+fn spell(n: u64, digits: &mut [u8; 20]) -> usize
+    requires { length digits.old ≡ 20 }
+    ensures { (result < 20) × (length digits.new ≡ 20) × (drop result digits.new ≡ decimal n) }
+{
+    let mut at = 19;
+    let mut left = n / 10;
+    digits[19] = last_digit(n);
+    while left > 0 {
+        at -= 1;
+        digits[at] = last_digit(left);
+        left /= 10;
+    }
+    at
+}
 
 // Puts some bytes at a place, and answers the place after them. The text is lent and the place stands beside it, as a struct of both would hold a `&mut` (crate
 // `queues`, module `header`).
@@ -25,9 +46,10 @@ fn put_number(text: &mut [u8], at: usize, n: u64) -> usize
     ensures puts { Puts text.old at (spaced (n ∷ [])) text.new result }
     ensures upper_bound { result ≤ at + 21 }
 {
-    let mut digits = Buffer::new();
+    let mut digits = [0u8; 20];
+    let first = spell(n, &mut digits);
     let start = put(text, at, b" ");
-    put(text, start, digits.format(n).as_bytes())
+    put(text, start, &digits[first..])
 }
 
 fn put_numbers(text: &mut [u8], at: usize, numbers: &[u64]) -> usize
