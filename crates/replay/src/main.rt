@@ -15,7 +15,7 @@ ghost use Rattle.replay.specs.Ran.{Ran};
 use failure::Failure;
 use place::{Next, Place};
 use replay_serve::calls::Stores;
-use std::io::{Read, Write};
+use std::io::{Cursor, Read, Write};
 
 // Writes what is due of the text. Nothing is due then.
 fn flush<W: Write>(place: Place, output: &mut W, text: &[u8; 65536]) -> Result<Place, Failure>
@@ -64,6 +64,14 @@ fn run<R: Read, W: Write>(
     Err(Failure::TurnsOver)
 }
 
+// A line on standard error, in one write, so that no other program's line comes in between. That it cannot be written is passed over.
+fn complain<W: Write>(errors: &mut W, failure: Failure) {
+    let mut line = Cursor::new([0; 64]);
+    let _ = writeln!(line, "replay: {failure}");
+    let end = line.position().min(64) as usize;
+    let _ = errors.write_all(&line.get_ref()[..end]);
+}
+
 fn main(rt: HostRuntime) {
     let mut stores = Stores {
         table: [0; 4096],
@@ -76,7 +84,6 @@ fn main(rt: HostRuntime) {
     let mut output = rt.stdout();
     let mut errors = rt.stderr();
     if let Err(failure) = run(&mut input, &mut output, &mut stores, &mut buffer, &mut text) {
-        // That this line cannot be written is passed over.
-        let _ = writeln!(errors, "replay: {failure}");
+        complain(&mut errors, failure);
     }
 }
