@@ -1,6 +1,6 @@
 -- The ring as a list, past 2^64 as before it: push appends, pop takes the first, and no word outside the live places matters.
 -- Assumes nothing.
-use Rattle.std.proofs.Common.{◌≡◌, ℕ, zero, suc, ◌+◌, ◌-◌, ◌/◌, ◌%◌, ◌^◌, ◌<◌, ◌≤◌, Bool, true, false, cond, leb, List, [], ◌∷◌, ◌++◌, length, get_or, take, drop, set, sym, refl, ap, ◌∙◌, ap₂, mod-lt, mod-eq_of_lt, arith, le-leb}
+use Rattle.std.proofs.Common.{◌≡◌, ℕ, zero, suc, ◌+◌, ◌-◌, ◌/◌, ◌%◌, ◌^◌, ◌<◌, ◌≤◌, Bool, true, false, cond, leb, List, [], ◌∷◌, ◌++◌, length, get_or, take, drop, set, sym, refl, ap, ◌∙◌, ap₂, mod-lt, mod-eq_of_lt, arith, le-leb, take_at}
 use native.Mathlib.Nat.{mod-add-mod, add-mod_left}
 use lib.Arith.{digits_div}
 use borrow.Rule.Slice.PartMut.{put_mid}
@@ -35,6 +35,14 @@ part_copied out src ws at start len h e =
     let n : at + len - at ≡ len = omega arith in
     let moved : ws ≡ run src start len = (rw m at e) ∙ run_part src start len h in
     rw moved (put_written out (run src start len) at _ (n ∙ sym (length_run src start len)))
+
+-- the same by way of the first words of a block
+pub part_through : (out src block ws vs : List ℕ) (at start len : ℕ) → start + len ≤ length src → ws ≡ take (start + len - start) (drop start src)
+    → vs ≡ take len (put_mid 0 len block ws) → put_mid at (at + len - at) out vs ≡ written out at (run src start len)
+part_through out src block ws vs at start len h e f =
+    let m : start + len - start ≡ len = omega arith in
+    let l : length ws ≡ len = ap length ((rw m at e) ∙ run_part src start len h) ∙ length_run src start len in
+    part_copied out src vs at start len h (f ∙ take_at ws (drop len (drop 0 block)) len l ∙ e)
 
 -- the first m items, and those after them
 pub items_split : (ring : Ring) (store : List ℕ) (head m n : ℕ) → items ring store head (m + n) ≡ items ring store head m ++ items ring store (after head m) n
