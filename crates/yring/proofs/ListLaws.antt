@@ -1,9 +1,9 @@
 -- Lists given by their items, runs of stores, and numbers round a ring.
 -- Assumes nothing.
-use Rattle.std.proofs.Common.{◌≡◌, ℕ, zero, suc, ◌+◌, ◌-◌, ◌%◌, ◌<◌, ◌≤◌, List, [], ◌∷◌, ◌++◌, length, get_or, take, drop, set, sym, refl, ap, ◌∙◌, ap₂, append_assoc, suc-le-suc, le_of_suc-le-suc, not-suc-le-zero, mod-lt, mod-eq_of_lt, zero-lt-suc, suc-add, zero-add, add-one, arith, length-append, length-set, length-take-le, get_or-set_other, take-suc, get_or-set_same, drop-drop, take_at, drop_at, add-zero}
+use Rattle.std.proofs.Common.{◌≡◌, ℕ, zero, suc, ◌+◌, ◌-◌, ◌%◌, ◌<◌, ◌≤◌, List, [], ◌∷◌, ◌++◌, length, get_or, take, drop, set, sym, refl, ap, ◌∙◌, ap₂, append_assoc, append-nil, suc-le-suc, le_of_suc-le-suc, not-suc-le-zero, mod-lt, mod-eq_of_lt, zero-lt-suc, suc-add, zero-add, add-one, arith, length-append, length-set, take-append-drop, length-take-le, drop-cons, get_or-set_other, take-suc, get_or-set_same, drop-drop, take_at, drop_at, add-zero}
 use native.Mathlib.Nat.{mod-add-mod, mod-eq-sub-mod}
 use native.Mathlib.Decide.{dec_lt}
-use lib.Seq.{drop-append-add, length-sets, sets-eq, sets}
+use lib.Seq.{drop-append-add, set_at, append_snoc, length-sets, sets-eq, sets}
 use borrow.Rule.Slice.PartMut.{put_mid}
 use Rattle.yring.specs.Lists.{tab, written, scatter}
 
@@ -121,6 +121,20 @@ tab_push t p n v r h =
 
 pub length_written : (o ws : List ℕ) (a : ℕ) → a + length ws ≤ length o → length (written o a ws) ≡ length o
 length_written o ws a h = sym (ap length (sets-eq ws o a h)) ∙ length-sets o a ws
+
+-- nothing written
+pub written_none : (o : List ℕ) (a : ℕ) → written o a [] ≡ o
+written_none o a = rw (add-zero a, append-nil (take a o)) (take-append-drop a o)
+
+-- one word more
+pub written_step : (o ws : List ℕ) (a v : ℕ) → a + length ws < length o
+    → set (written o a ws) (a + length ws) v ≡ written o a (ws ++ (v ∷ []))
+written_step o ws a v h =
+    let n : length (ws ++ (v ∷ [])) ≡ length ws + 1 = length-append ws (v ∷ []) in
+    let e : a + (length ws + 1) ≡ suc (a + length ws) = omega arith in
+    let l : length (take a o ++ ws) ≡ a + length ws = length-append (take a o) ws ∙ ap (λ (k : ℕ). k + length ws) (length-take-le a o (omega arith)) in
+    rw (n, e, drop-cons o (a + length ws) 0 h, set_at (take a o ++ ws) (get_or o (a + length ws) 0) (drop (suc (a + length ws)) o) v (a + length ws) l, ← append_assoc (take a o) ws (v ∷ []))
+    (sym (append_snoc (take a o ++ ws) v (drop (suc (a + length ws)) o)))
 
 -- words that replace those from a place on
 pub put_written : (o ws : List ℕ) (a n : ℕ) → n ≡ length ws → put_mid a n o ws ≡ written o a ws

@@ -1,15 +1,15 @@
 -- The ring as a list, past 2^64 as before it: push appends, pop takes the first, and no word outside the live places matters.
 -- Assumes nothing.
-use Rattle.std.proofs.Common.{◌≡◌, ℕ, zero, suc, ◌+◌, ◌-◌, ◌/◌, ◌%◌, ◌^◌, ◌<◌, ◌≤◌, Bool, true, false, cond, leb, List, [], ◌∷◌, ◌++◌, length, get_or, take, drop, set, sym, refl, ap, ◌∙◌, ap₂, mod-lt, mod-eq_of_lt, arith, le-leb, take_at}
+use Rattle.std.proofs.Common.{◌≡◌, ℕ, zero, suc, ◌+◌, ◌-◌, ◌/◌, ◌%◌, ◌^◌, ◌<◌, ◌≤◌, Bool, true, false, cond, leb, List, [], ◌∷◌, ◌++◌, length, get_or, drop, set, sym, refl, ap, ◌∙◌, ap₂, mod-lt, mod-eq_of_lt, zero-add, arith, le-leb}
 use native.Mathlib.Nat.{mod-add-mod, add-mod_left}
 use lib.Arith.{digits_div}
-use borrow.Rule.Slice.PartMut.{put_mid}
 use borrow.Author.Tests.{lt-leb}
+use lib.ListN.{get_or-append}
 use Rattle.yring.specs.Lists.{tab, written}
 use Rattle.yring.specs.Cursor.{after, distance, Capacity}
 use Rattle.yring.specs.Ring.{new_ring, index, item_at, items, run, free_after, accepted_prefix}
 use Rattle.yring.specs.declared.ring.Ring.{Ring}
-use Rattle.yring.proofs.ListLaws.{put_written, length_tab, tab_ext, tab_self, tab_add, take_tab, drop_tab, tab_out, tab_push, tab_pop, apart, written_twice}
+use Rattle.yring.proofs.ListLaws.{length_tab, tab_ext, tab_self, tab_add, tab_out, tab_push, tab_more, tab_pop, apart, written_step, written_twice}
 use Rattle.yring.proofs.CursorLaws.{wraps, some}
 
 pub length_items : (ring : Ring) (store : List ℕ) (head n : ℕ) → length (items ring store head n) ≡ n
@@ -20,29 +20,30 @@ pub length_run : (l : List ℕ) (from n : ℕ) → length (run l from n) ≡ n
 unfolding run
 length_run l from n = length_tab n (λ i. get_or l (from + i) 0)
 
--- a run is a part of the list
-pub run_part : (l : List ℕ) (from n : ℕ) → from + n ≤ length l → take n (drop from l) ≡ run l from n
+pub run_more : (l : List ℕ) (from n : ℕ) → run l from (n + 1) ≡ run l from n ++ (get_or l (from + n) 0 ∷ [])
 unfolding run
-run_part l from n h =
-    let part : List ℕ → List ℕ = λ k. take n (drop from k) in
-    sym (ap part (tab_self l)) ∙ ap (λ (k : List ℕ). take n k) (drop_tab from (length l) (λ i. get_or l i 0) (omega arith)) ∙ take_tab n (length l - from) (λ i. get_or l (from + i) 0) (omega arith)
+run_more l from n = tab_more n (λ i. get_or l (from + i) 0)
 
--- a part of a list that takes another list's part: a run is written there
-pub part_copied : (out src ws : List ℕ) (at start len : ℕ) → start + len ≤ length src → ws ≡ take (start + len - start) (drop start src)
-    → put_mid at (at + len - at) out ws ≡ written out at (run src start len)
-part_copied out src ws at start len h e =
-    let m : start + len - start ≡ len = omega arith in
-    let n : at + len - at ≡ len = omega arith in
-    let moved : ws ≡ run src start len = (rw m at e) ∙ run_part src start len h in
-    rw moved (put_written out (run src start len) at _ (n ∙ sym (length_run src start len)))
+-- a run written into an output, and one word more of it
+pub run_written_step : (src : List ℕ) (start i : ℕ) (out : List ℕ) (at : ℕ) → at + i < length out
+    → set (written out at (run src start i)) (at + i) (get_or src (start + i) 0) ≡ written out at (run src start (i + 1))
+run_written_step src start i out at h =
+    let ws : List ℕ = run src start i in
+    let l : length ws ≡ i = length_run src start i in
+    ap (λ (n : ℕ). set (written out at ws) (at + n) (get_or src (start + i) 0)) (sym l)
+    ∙ written_step out ws at (get_or src (start + i) 0) (rw l h)
+    ∙ ap (written out at) (sym (run_more src start i))
 
--- the same by way of the first words of a block
-pub part_through : (out src block ws vs : List ℕ) (at start len : ℕ) → start + len ≤ length src → ws ≡ take (start + len - start) (drop start src)
-    → vs ≡ take len (put_mid 0 len block ws) → put_mid at (at + len - at) out vs ≡ written out at (run src start len)
-part_through out src block ws vs at start len h e f =
-    let m : start + len - start ≡ len = omega arith in
-    let l : length ws ≡ len = ap length ((rw m at e) ∙ run_part src start len h) ∙ length_run src start len in
-    part_copied out src vs at start len h (f ∙ take_at ws (drop len (drop 0 block)) len l ∙ e)
+-- the first words of a list
+run_front : (ws rest : List ℕ) → run (ws ++ rest) 0 (length ws) ≡ ws
+unfolding run
+run_front ws rest = tab_ext (length ws) _ _ (λ i h. ap (λ (x : ℕ). get_or (ws ++ rest) x 0) (zero-add i) ∙ get_or-append ws rest 0 i h) ∙ tab_self ws
+
+-- a run written at the start of a list, read from there
+pub run_read_back : (src : List ℕ) (start n : ℕ) (o : List ℕ) → run (written o 0 (run src start n)) 0 n ≡ run src start n
+run_read_back src start n o =
+    let ws : List ℕ = run src start n in
+    ap (run (written o 0 ws) 0) (sym (length_run src start n)) ∙ run_front ws (drop (0 + length ws) o)
 
 -- the first m items, and those after them
 pub items_split : (ring : Ring) (store : List ℕ) (head m n : ℕ) → items ring store head (m + n) ≡ items ring store head m ++ items ring store (after head m) n

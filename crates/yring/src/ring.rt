@@ -135,13 +135,24 @@ pub fn put_at(store: &mut [u64], at: usize, item: u64)
     store[at] = item;
 }
 
-// Moves `len` words that stand together. They go through an array of this function, which overlaps neither slice: the compiler then leaves the array out and
-// calls the C library once. From slice to slice it tests for overlap and keeps loops of its own, and a batch with a bound takes longer.
+// Moves `len` words that stand together. They go through an array of this function, which overlaps
+// neither slice: the compiler then leaves the array out, and has the C library move them. From slice to slice, or by
+// `copy_from_slice` through the array, a batch takes longer.
 fn move_slots(src: &[u64], start: usize, len: usize, out: &mut [u64], at: usize)
     requires { (start + len ≤ length src.now) × (len ≤ 64) × (at + len ≤ length out.old) }
     ensures { out.new ≡ written out.old at (run src.now start len) }
 {
     let mut block = [0; 64];
-    block[..len].copy_from_slice(&src[start..start + len]);
-    out[at..at + len].copy_from_slice(&block[..len]);
+    copy_words(src, start, len, &mut block, 0);
+    copy_words(&block, 0, len, out, at);
+}
+
+// Copies words one by one.
+fn copy_words(src: &[u64], start: usize, len: usize, out: &mut [u64], at: usize)
+    requires { (start + len ≤ length src.now) × (at + len ≤ length out.old) }
+    ensures { out.new ≡ written out.old at (run src.now start len) }
+{
+    for i in 0..len {
+        out[at + i] = src[start + i];
+    }
 }

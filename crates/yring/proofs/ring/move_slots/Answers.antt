@@ -1,9 +1,13 @@
 -- `yring::ring::move_slots` meets its contract.
 -- Assumes nothing.
-use Rattle.yring.proofs.RingLaws.{part_through}
+use Rattle.std.proofs.Common.{ℕ, List, ap, ◌∙◌}
+use Rattle.yring.specs.Lists.{written}
+use Rattle.yring.specs.Ring.{run}
+use Rattle.yring.proofs.RingLaws.{run_read_back}
 use Rattle.yring.proofs.ring.move_slots.Goals as goal
 
 pub returns : goal.returns
 returns c =
     let a = c.args in
-    part_through a.out.now a.src.now _ _ _ a.at a.start a.len c.requires.0 c.copy_from_slice.ensures.after c.copy_from_slice-2.ensures.after
+    c.copy_words-2.ensures
+    ∙ ap (λ (ws : List ℕ). written a.out.now a.at ws) (ap (λ (block : List ℕ). run block 0 a.len) c.copy_words.ensures ∙ run_read_back a.src.now a.start a.len _)
