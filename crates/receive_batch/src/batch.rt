@@ -66,8 +66,7 @@ fn run_down(t: &mut [u64]) -> Option<Lane>
     }
 }
 
-// The lane whose turn it is. Collects ready lanes when that is due, and once when none is queued. The search is called at one place: called at two, it is
-// inlined at both, and a batch of few items takes longer.
+// The lane whose turn it is. Collects ready lanes when that is due, and once when none is queued. The search is called at one place, and so inlined once.
 pub fn refresh_active(t: &mut [u64]) -> Option<Lane>
     requires { Turning t.old }
     ensures { (result, t.new) ≡ refresh_active t.old }
