@@ -163,6 +163,10 @@ impl Header {
         requires { header_words ≤ length table.old }
         ensures { table.new ≡ put_header table.old self }
     {
-        table[..Header::WORDS].copy_from_slice(&self.words());
+        // Word by word: `copy_from_slice` takes the words through memory, and then needs the C library's `memcpy`.
+        let words = self.words();
+        for i in 0..Header::WORDS {
+            table[i] = words[i];
+        }
     }
 }

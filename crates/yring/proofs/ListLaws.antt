@@ -1,10 +1,9 @@
 -- Lists given by their items, runs of stores, and numbers round a ring.
 -- Assumes nothing.
-use Rattle.std.proofs.Common.{◌≡◌, ℕ, zero, suc, ◌+◌, ◌-◌, ◌%◌, ◌<◌, ◌≤◌, List, [], ◌∷◌, ◌++◌, length, get_or, take, drop, set, sym, refl, ap, ◌∙◌, ap₂, append_assoc, append-nil, suc-le-suc, le_of_suc-le-suc, not-suc-le-zero, mod-lt, mod-eq_of_lt, zero-lt-suc, suc-add, zero-add, add-one, arith, length-append, length-set, take-append-drop, length-take-le, drop-cons, get_or-set_other, take-suc, get_or-set_same, drop-drop, take_at, drop_at, add-zero}
+use Rattle.std.proofs.Common.{◌≡◌, ℕ, zero, suc, ◌+◌, ◌-◌, ◌%◌, ◌<◌, ◌≤◌, List, [], ◌∷◌, ◌++◌, length, get_or, take, drop, set, sym, refl, ap, ◌∙◌, ap₂, append_assoc, append-nil, suc-le-suc, le_of_suc-le-suc, not-suc-le-zero, add-zero, mod-lt, mod-eq_of_lt, zero-lt-suc, suc-add, zero-add, add-one, arith, length-append, length-set, take-append-drop, length-take-le, drop-cons, get_or-set_other, take-suc, get_or-set_same, drop-drop, take_at, drop_at}
 use native.Mathlib.Nat.{mod-add-mod, mod-eq-sub-mod}
 use native.Mathlib.Decide.{dec_lt}
-use lib.Seq.{drop-append-add, set_at, append_snoc, length-sets, sets-eq, sets}
-use borrow.Rule.Slice.PartMut.{put_mid}
+use lib.Seq.{drop-append-add, set_at, append_snoc, length-sets, sets-eq}
 use Rattle.yring.specs.Lists.{tab, written, scatter}
 
 -- ---- a list by its items
@@ -135,26 +134,6 @@ written_step o ws a v h =
     let l : length (take a o ++ ws) ≡ a + length ws = length-append (take a o) ws ∙ ap (λ (k : ℕ). k + length ws) (length-take-le a o (omega arith)) in
     rw (n, e, drop-cons o (a + length ws) 0 h, set_at (take a o ++ ws) (get_or o (a + length ws) 0) (drop (suc (a + length ws)) o) v (a + length ws) l, ← append_assoc (take a o) ws (v ∷ []))
     (sym (append_snoc (take a o ++ ws) v (drop (suc (a + length ws)) o)))
-
--- words that replace those from a place on
-pub put_written : (o ws : List ℕ) (a n : ℕ) → n ≡ length ws → put_mid a n o ws ≡ written o a ws
-put_written o ws a n e =
-    rw e
-    (ap (λ (l : List ℕ). take a o ++ (ws ++ l)) (drop-drop (length ws) a o) ∙ sym (append_assoc (take a o) ws (drop (a + length ws) o)))
-
--- words stored at places one after the other
-scatter_sets : (ws t : List ℕ) (p : ℕ → ℕ) (a : ℕ) → ((i : ℕ) → p i ≡ a + i) → scatter t p ws ≡ sets t a ws
-scatter_sets [] t p a h = refl
-scatter_sets (w ∷ ws) t p a h =
-    ap (λ (k : ℕ). scatter (set t k w) (λ i. p (suc i)) ws) (h zero ∙ add-zero a)
-    ∙ scatter_sets ws (set t a w) (λ i. p (suc i)) (suc a) (λ i. h (suc i) ∙ further i)
-  where
-    further : (i : ℕ) → a + suc i ≡ suc a + i
-    further i = omega arith
-
-pub put_scattered : (o ws vs : List ℕ) (p : ℕ → ℕ) (a n : ℕ) → ((i : ℕ) → p i ≡ a + i) → ws ≡ vs → n ≡ length vs → a + length vs ≤ length o
-    → put_mid a n o ws ≡ scatter o p vs
-put_scattered o ws vs p a n h e f k = rw e (put_written o vs a n f ∙ sym (sets-eq vs o a k) ∙ sym (scatter_sets vs o p a h))
 
 -- a run written after a run
 pub written_twice : (o ws vs : List ℕ) (a : ℕ) → a + length ws ≤ length o

@@ -1,16 +1,27 @@
 -- `queues::header::Header::store` meets its contract.
 -- Assumes nothing.
-use Rattle.std.proofs.Common.{◌≡◌, ℕ, ◌+◌, ◌∙◌, arith, length-take-le}
-use Rattle.queues.specs.Header.{header_list, put_header}
-use Rattle.yring.proofs.ListLaws.{put_scattered}
+use Rattle.std.proofs.Common.{◌≡◌, ◌∙◌, refl, ap, arith, take}
+use lib.Seq.{take_all}
+use Rattle.yring.specs.Lists.{scatter}
+use Rattle.yring.proofs.ListLaws.{scatter_step}
+use Rattle.queues.specs.Header.{put_header}
 use Rattle.queues.proofs.header.Header.store.Goals as goal
 
-from_zero : (i : ℕ) → i ≡ 0 + i
-from_zero i = omega arith
+pub loop-i-init : goal.loop-i-init
+loop-i-init c = refl
 
-pub copy_from_slice-requires : goal.copy_from_slice-requires
-copy_from_slice-requires c = rw c.words.ensures (length-take-le 17 c.args.table.now (omega arith))
+pub loop-i-preserved : goal.loop-i-preserved
+loop-i-preserved c =
+    let t = c.args.table.now in
+    let ws = c.words-words.result in
+    let l = c.loop-i in
+    rw l.invariant (scatter_step ws t (λ j. j) l.i (omega arith))
 
 pub returns : goal.returns
 unfolding put_header
-returns c = put_scattered c.args.table.now c.copy_from_slice.new.self (header_list c.args.self) (λ i. i) 0 17 from_zero (c.copy_from_slice.ensures.after ∙ c.words.ensures) (omega arith) (omega arith)
+returns c =
+    let t = c.args.table.now in
+    let ws = c.words-words.result in
+    let l = c.loop-i in
+    let whole : take l.i ws ≡ ws = take_all l.i ws (omega arith) in
+    l.invariant ∙ ap (scatter t (λ j. j)) (whole ∙ c.words-words.ensures)
